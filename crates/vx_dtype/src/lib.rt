@@ -1,13 +1,12 @@
-// A library with one function.
+//! Types, scalars, names and paths of a columnar store, and the rules at one row.
 #![tactic(auto)]
 
-ghost use Rattle.std.specs.Prelude.{◌≡◌};
-ghost use Rattle.vx_dtype.specs.Echo.{echo_of};
+mod comparisons;
+mod integers;
+mod nulls;
+mod statistics;
 
-// The `ensures` clause is the contract: what `echo` returns is `echo_of` of its argument, a definition
-// in `specs/Echo.antt`, which a caller's clause can cite too.
-pub fn echo(x: usize) -> usize
-    ensures { result ≡ echo_of x }
-{
-    x
-}
+pub use comparisons::{BetweenOptions, CompareOperator, StrictComparison};
+pub use integers::PType;
+pub use nulls::Nullability;
+pub use statistics::Stat;
