@@ -3,10 +3,20 @@
 
 mod comparisons;
 mod integers;
+mod memory;
+mod names;
 mod nulls;
+mod scalars;
 mod statistics;
+mod types;
+mod values;
 
 pub use comparisons::{BetweenOptions, CompareOperator, StrictComparison};
 pub use integers::PType;
+pub use memory::{FieldsError, Mem, NoMemory};
+pub use names::{FieldName, FieldNames, Text};
 pub use nulls::Nullability;
+pub use scalars::Scalar;
 pub use statistics::Stat;
+pub use types::{DType, ElementType, StructFields};
+pub use values::ScalarValue;

@@ -1,0 +1,63 @@
+// Scalars: a value beside its type.
+ghost use Rattle.std.specs.Prelude.{◌≡◌, true};
+ghost use Rattle.vx_dtype.specs.Fits.{fits};
+ghost use Rattle.vx_dtype.specs.TypeViews.{type_view};
+ghost use Rattle.vx_dtype.specs.RawViews.{raw_view};
+
+use crate::types::DType;
+use crate::values::ScalarValue;
+use std::alloc::AllocError;
+use std::marker::Model;
+
+/// A value of a type. The value is one of the type. A scalar is seen as both together.
+#[derive(Drop)]
+pub struct Scalar {
+    dtype: DType,
+    value: ScalarValue,
+}
+
+impl Model for Scalar {
+    ghost use Rattle.std.specs.Prelude.{◌≡◌, true};
+    ghost use Rattle.vx_dtype.specs.Values.{Typed};
+    ghost use Rattle.vx_dtype.specs.ValueCodes.{coded_typed};
+
+    ghost Value = { Typed };
+
+    ghost coded = { coded_typed };
+
+    ghost use Rattle.vx_dtype.specs.Fits.{fits};
+    ghost use Rattle.vx_dtype.specs.TypeViews.{type_view};
+    ghost use Rattle.vx_dtype.specs.RawViews.{raw_view};
+
+    ghost view = { λ s. record { ty = type_view s.dtype; value = raw_view s.value } };
+
+    ghost invariant = { λ s. fits (raw_view s.value) (type_view s.dtype) ≡ true };
+}
+
+impl Scalar {
+    /// The type.
+    pub fn dtype(&self) -> &DType
+        ensures { type_view result.now ≡ self.now.ty }
+    {
+        &self.dtype
+    }
+
+    /// The value, which is one of the type.
+    pub fn value(&self) -> &ScalarValue
+        ensures held { raw_view result.now ≡ self.now.value }
+        ensures within { fits self.now.value self.now.ty ≡ true }
+    {
+        &self.value
+    }
+}
+
+impl Clone for Scalar {
+    ghost is_clone = { λ scalar copy. copy ≡ scalar };
+
+    fn clone(&self) -> Result<Scalar, AllocError> {
+        Ok(Scalar {
+            dtype: self.dtype.clone()?,
+            value: self.value.clone()?,
+        })
+    }
+}

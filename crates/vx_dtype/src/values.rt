@@ -1,0 +1,35 @@
+// The values that a scalar holds beside its type.
+ghost use Rattle.std.specs.Prelude.{◌≡◌};
+ghost use Rattle.vx_dtype.specs.RawViews.{raw_view};
+
+use crate::names::Text;
+use std::alloc::AllocError;
+use std::rc::Rc;
+
+/// A value without its type: names and integer types stand in the type alone. Clones share the parts of a list or a struct.
+#[derive(Drop)]
+pub enum ScalarValue {
+    Null,
+    Bool(bool),
+    Int(i128),
+    Utf8(Text),
+    /// The elements in order.
+    List(Rc<Vec<ScalarValue>>),
+    /// One value per field, in the order of the fields.
+    Struct(Rc<Vec<ScalarValue>>),
+}
+
+impl Clone for ScalarValue {
+    ghost is_clone = { λ value copy. raw_view copy ≡ raw_view value };
+
+    fn clone(&self) -> Result<ScalarValue, AllocError> {
+        Ok(match self {
+            ScalarValue::Null => ScalarValue::Null,
+            ScalarValue::Bool(b) => ScalarValue::Bool(*b),
+            ScalarValue::Int(i) => ScalarValue::Int(*i),
+            ScalarValue::Utf8(text) => ScalarValue::Utf8(text.clone()?),
+            ScalarValue::List(items) => ScalarValue::List(items.clone()?),
+            ScalarValue::Struct(fields) => ScalarValue::Struct(fields.clone()?),
+        })
+    }
+}
