@@ -1,1 +1,2 @@
 pub mod ZippedLemmas
+pub mod RawLemmas

@@ -2,9 +2,17 @@
 ghost use Rattle.std.specs.Prelude.{◌≡◌, length, map, position, IfOk, option_copied};
 ghost use Rattle.std.specs.List.{slice_get};
 ghost use Rattle.std.specs.Str.{bytes_eq};
+ghost use Rattle.std.specs.Prelude.{Decides};
+ghost use Rattle.std.specs.Cmp.{partial_equiv_from_equiv};
+ghost use Rattle.std.proofs.Common.{ap};
+ghost use Rattle.std.proofs.lemmas.Slice.Eq.{bytes_eq-Decides};
+ghost use Rattle.vx_dtype.specs.Equal.{names_eq};
+ghost use Rattle.vx_dtype.specs.EqualLaws.{bytes_eq_equiv, names_eq_equiv, names_decides};
+ghost use Rattle.vx_dtype.specs.Feeds.{bytes_feed, names_feed};
 
 use crate::memory::Mem;
 use std::alloc::{AllocError, Global};
+use std::hash::{Hash, Hasher};
 use std::marker::Model;
 use std::rc::{Rc, RcStr};
 
@@ -157,5 +165,87 @@ impl Clone for FieldNames {
         Ok(FieldNames {
             names: self.names.clone()?,
         })
+    }
+}
+
+impl PartialEq for Text {
+    ghost eq = { bytes_eq };
+
+    ghost laws = { partial_equiv_from_equiv bytes_eq_equiv };
+
+    fn eq(&self, other: &Text) -> bool
+        ensures gives { result ≡ bytes_eq self.now other.now }
+        ensures same { Decides result (self.now ≡ other.now) }
+    {
+        self.as_str() == other.as_str()
+    }
+}
+
+impl Eq for Text {
+    ghost laws = { bytes_eq_equiv };
+}
+
+impl Hash for Text {
+    ghost hash_input = { bytes_feed };
+
+    ghost respects_eq = { λ x y e. ap bytes_feed ((bytes_eq-Decides x y).0 e) };
+
+    fn hash<H: Hasher>(&self, state: &mut H) {
+        self.as_str().hash(state);
+    }
+}
+
+impl PartialEq for FieldName {
+    ghost eq = { bytes_eq };
+
+    ghost laws = { partial_equiv_from_equiv bytes_eq_equiv };
+
+    fn eq(&self, other: &FieldName) -> bool
+        ensures gives { result ≡ bytes_eq self.now other.now }
+        ensures same { Decides result (self.now ≡ other.now) }
+    {
+        self.as_str() == other.as_str()
+    }
+}
+
+impl Eq for FieldName {
+    ghost laws = { bytes_eq_equiv };
+}
+
+impl Hash for FieldName {
+    ghost hash_input = { bytes_feed };
+
+    ghost respects_eq = { λ x y e. ap bytes_feed ((bytes_eq-Decides x y).0 e) };
+
+    fn hash<H: Hasher>(&self, state: &mut H) {
+        self.as_str().hash(state);
+    }
+}
+
+impl PartialEq for FieldNames {
+    ghost eq = { names_eq };
+
+    ghost laws = { partial_equiv_from_equiv names_eq_equiv };
+
+    #[tactic(auto, using(crate::specs::EqualLaws::names_decides))]
+    fn eq(&self, other: &FieldNames) -> bool
+        ensures gives { result ≡ names_eq self.now other.now }
+        ensures same { Decides result (self.now ≡ other.now) }
+    {
+        self.as_slice() == other.as_slice()
+    }
+}
+
+impl Eq for FieldNames {
+    ghost laws = { names_eq_equiv };
+}
+
+impl Hash for FieldNames {
+    ghost hash_input = { names_feed };
+
+    ghost respects_eq = { λ x y e. ap names_feed ((names_decides x y).0 e) };
+
+    fn hash<H: Hasher>(&self, state: &mut H) {
+        self.as_slice().hash(state);
     }
 }

@@ -1,5 +1,10 @@
 // Scalars: a value beside its type.
-ghost use Rattle.std.specs.Prelude.{◌≡◌, true};
+ghost use Rattle.std.specs.Prelude.{◌≡◌, true, Decides};
+ghost use Rattle.std.specs.Cmp.{partial_equiv_from_equiv};
+ghost use Rattle.std.proofs.Common.{ap};
+ghost use Rattle.vx_dtype.specs.Equal.{typed_eq};
+ghost use Rattle.vx_dtype.specs.EqualLaws.{typed_eq_equiv, typed_decides};
+ghost use Rattle.vx_dtype.specs.Feeds.{typed_feed};
 ghost use Rattle.vx_dtype.specs.Fits.{fits};
 ghost use Rattle.vx_dtype.specs.TypeViews.{type_view};
 ghost use Rattle.vx_dtype.specs.RawViews.{raw_view};
@@ -7,6 +12,7 @@ ghost use Rattle.vx_dtype.specs.RawViews.{raw_view};
 use crate::types::DType;
 use crate::values::ScalarValue;
 use std::alloc::AllocError;
+use std::hash::{Hash, Hasher};
 use std::marker::Model;
 
 /// A value of a type. The value is one of the type. A scalar is seen as both together.
@@ -59,5 +65,34 @@ impl Clone for Scalar {
             dtype: self.dtype.clone()?,
             value: self.value.clone()?,
         })
+    }
+}
+
+impl PartialEq for Scalar {
+    ghost eq = { typed_eq };
+
+    ghost laws = { partial_equiv_from_equiv typed_eq_equiv };
+
+    #[tactic(auto, using(crate::specs::EqualLaws::typed_decides))]
+    fn eq(&self, other: &Scalar) -> bool
+        ensures gives { result ≡ typed_eq self.now other.now }
+        ensures same { Decides result (self.now ≡ other.now) }
+    {
+        self.dtype == other.dtype && self.value == other.value
+    }
+}
+
+impl Eq for Scalar {
+    ghost laws = { typed_eq_equiv };
+}
+
+impl Hash for Scalar {
+    ghost hash_input = { typed_feed };
+
+    ghost respects_eq = { λ x y e. ap typed_feed ((typed_decides x y).0 e) };
+
+    fn hash<H: Hasher>(&self, state: &mut H) {
+        self.dtype.hash(state);
+        self.value.hash(state);
     }
 }

@@ -12,6 +12,8 @@ use std::alloc::{AllocError, Global};
 use std::marker::Model;
 use std::rc::Rc;
 
+mod equality;
+
 /// The type of a value.
 #[cycle(types)]
 #[derive(Drop)]

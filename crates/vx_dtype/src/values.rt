@@ -6,6 +6,8 @@ use crate::names::Text;
 use std::alloc::AllocError;
 use std::rc::Rc;
 
+mod equality;
+
 /// A value without its type: names and integer types stand in the type alone. Clones share the parts of a list or a struct.
 #[derive(Drop)]
 pub enum ScalarValue {
