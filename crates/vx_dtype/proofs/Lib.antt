@@ -1,2 +1,3 @@
 pub mod ZippedLemmas
 pub mod RawLemmas
+pub mod PathLemmas
