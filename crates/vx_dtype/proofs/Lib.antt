@@ -1,3 +1,4 @@
 pub mod ZippedLemmas
 pub mod RawLemmas
 pub mod PathLemmas
+pub mod ProjectionLemmas

@@ -1,6 +1,7 @@
 // The integer types.
 ghost use Rattle.std.specs.Prelude.{◌≡◌};
 ghost use Rattle.vx_dtype.specs.Codes.{ptype_number};
+ghost use Rattle.vx_dtype.specs.Fits.{least, greatest};
 
 /// An integer type: its width in bits, and whether it has a sign.
 #[derive(Clone, Copy, PartialEq, Eq, Hash, Debug)]
@@ -16,6 +17,35 @@ pub enum PType {
 }
 
 impl PType {
+    /// The least number of the type.
+    pub fn least(self) -> i128
+        ensures { result ≡ least self }
+    {
+        match self {
+            PType::U8 | PType::U16 | PType::U32 | PType::U64 => 0,
+            PType::I8 => -128,
+            PType::I16 => -32_768,
+            PType::I32 => -2_147_483_648,
+            PType::I64 => -9_223_372_036_854_775_808,
+        }
+    }
+
+    /// The greatest number of the type.
+    pub fn greatest(self) -> i128
+        ensures { result ≡ greatest self }
+    {
+        match self {
+            PType::U8 => 255,
+            PType::U16 => 65_535,
+            PType::U32 => 4_294_967_295,
+            PType::U64 => 18_446_744_073_709_551_615,
+            PType::I8 => 127,
+            PType::I16 => 32_767,
+            PType::I32 => 2_147_483_647,
+            PType::I64 => 9_223_372_036_854_775_807,
+        }
+    }
+
     /// The place of the type in the order of this enum, counted from 0.
     pub(crate) fn number(self) -> u8
         ensures { result ≡ ptype_number self }

@@ -1,6 +1,7 @@
 // Whether a type has the null.
 ghost use Rattle.std.specs.Prelude.{◌≡◌};
 ghost use Rattle.vx_dtype.specs.Codes.{null_number};
+ghost use Rattle.vx_dtype.specs.TypeRules.{is_nullable, union};
 
 /// Whether null is a value of a type.
 #[derive(Clone, Copy, PartialEq, Eq, Hash, Debug)]
@@ -9,7 +10,29 @@ pub enum Nullability {
     Nullable,
 }
 
+impl From<bool> for Nullability {
+    ghost from_gives = { λ nullable n. is_nullable n ≡ nullable };
+
+    fn from(nullable: bool) -> Nullability {
+        if nullable {
+            Nullability::Nullable
+        } else {
+            Nullability::NonNullable
+        }
+    }
+}
+
 impl Nullability {
+    /// Nullable where one of the two is.
+    pub fn union(self, other: Nullability) -> Nullability
+        ensures { result ≡ union self other }
+    {
+        match self {
+            Nullability::NonNullable => other,
+            Nullability::Nullable => Nullability::Nullable,
+        }
+    }
+
     /// 1 where null is a value, else 0.
     pub(crate) fn number(self) -> u8
         ensures { result ≡ null_number self }

@@ -12,7 +12,11 @@ use std::alloc::{AllocError, Global};
 use std::marker::Model;
 use std::rc::Rc;
 
+mod depth;
 mod equality;
+mod fields;
+mod likeness;
+mod nullability;
 
 /// The type of a value.
 #[cycle(types)]
