@@ -1,6 +1,9 @@
 // The comparisons of two plain values.
-ghost use Rattle.std.specs.Prelude.{◌≡◌};
+ghost use Rattle.std.specs.Prelude.{◌≡◌, Some};
 ghost use Rattle.vx_dtype.specs.Order.{bound_operator};
+ghost use Rattle.vx_dtype.specs.Texts.{operator_text};
+
+use std::fmt;
 
 /// A comparison of two plain values.
 #[derive(Clone, Copy, PartialEq, Eq, Hash, Debug)]
@@ -36,5 +39,29 @@ impl StrictComparison {
             StrictComparison::Strict => CompareOperator::Lt,
             StrictComparison::NonStrict => CompareOperator::Lte,
         }
+    }
+}
+
+impl CompareOperator {
+    /// The sign of the comparison.
+    fn sign(self) -> &'static str
+        ensures { result.now ≡ operator_text self }
+    {
+        match self {
+            CompareOperator::Eq => "=",
+            CompareOperator::NotEq => "!=",
+            CompareOperator::Gt => ">",
+            CompareOperator::Gte => ">=",
+            CompareOperator::Lt => "<",
+            CompareOperator::Lte => "<=",
+        }
+    }
+}
+
+impl fmt::Display for CompareOperator {
+    ghost output = { λ op. Some (operator_text op) };
+
+    fn fmt<W: fmt::Write>(&self, f: &mut fmt::Formatter<W>) -> fmt::Result {
+        f.write_str(self.sign())
     }
 }

@@ -2,6 +2,7 @@
 ghost use Rattle.std.specs.Prelude.{◌≡◌};
 ghost use Rattle.vx_dtype.specs.Codes.{ptype_number};
 ghost use Rattle.vx_dtype.specs.Fits.{least, greatest};
+ghost use Rattle.vx_dtype.specs.Texts.{ptype_text};
 
 /// An integer type: its width in bits, and whether it has a sign.
 #[derive(Clone, Copy, PartialEq, Eq, Hash, Debug)]
@@ -59,6 +60,22 @@ impl PType {
             PType::I16 => 5,
             PType::I32 => 6,
             PType::I64 => 7,
+        }
+    }
+
+    /// The name of the type, as texts have it.
+    pub(crate) fn name(self) -> &'static str
+        ensures { result.now ≡ ptype_text self }
+    {
+        match self {
+            PType::U8 => "u8",
+            PType::U16 => "u16",
+            PType::U32 => "u32",
+            PType::U64 => "u64",
+            PType::I8 => "i8",
+            PType::I16 => "i16",
+            PType::I32 => "i32",
+            PType::I64 => "i64",
         }
     }
 }

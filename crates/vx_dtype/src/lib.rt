@@ -11,6 +11,7 @@ mod scalars;
 mod statistics;
 mod types;
 mod values;
+mod writing;
 
 pub use comparisons::{BetweenOptions, CompareOperator, StrictComparison};
 pub use integers::PType;

@@ -1,5 +1,5 @@
 // Texts, names of fields, and lists of names. Clones share their bytes.
-ghost use Rattle.std.specs.Prelude.{◌≡◌, length, map, position, IfOk, option_copied};
+ghost use Rattle.std.specs.Prelude.{◌≡◌, [], ◌++◌, Some, length, map, position, IfOk, option_copied};
 ghost use Rattle.std.specs.List.{slice_get};
 ghost use Rattle.std.specs.Str.{bytes_eq};
 ghost use Rattle.std.specs.Prelude.{Decides};
@@ -9,9 +9,13 @@ ghost use Rattle.std.proofs.lemmas.Slice.Eq.{bytes_eq-Decides};
 ghost use Rattle.vx_dtype.specs.Equal.{names_eq};
 ghost use Rattle.vx_dtype.specs.EqualLaws.{bytes_eq_equiv, names_eq_equiv, names_decides};
 ghost use Rattle.vx_dtype.specs.Feeds.{bytes_feed, names_feed};
+ghost use Rattle.std.specs.Fmt.{WritesOnOk};
+ghost use Rattle.vx_dtype.specs.Texts.{separator_at, quoted_text, quoted_names, names_text};
 
 use crate::memory::Mem;
+use crate::writing::{separator, write_quoted};
 use std::alloc::{AllocError, Global};
+use std::fmt;
 use std::hash::{Hash, Hasher};
 use std::marker::Model;
 use std::rc::{Rc, RcStr};
@@ -248,4 +252,40 @@ impl Hash for FieldNames {
     fn hash<H: Hasher>(&self, state: &mut H) {
         self.as_slice().hash(state);
     }
+}
+
+impl fmt::Display for FieldName {
+    ghost output = { λ name. Some name };
+
+    fn fmt<W: fmt::Write>(&self, f: &mut fmt::Formatter<W>) -> fmt::Result {
+        f.write_str(self.as_str())
+    }
+}
+
+impl fmt::Display for FieldNames {
+    ghost output = { λ names. Some (names_text names) };
+
+    fn fmt<W: fmt::Write>(&self, f: &mut fmt::Formatter<W>) -> fmt::Result {
+        f.write_str("[")?;
+        write_names(self.as_slice(), f)?;
+        f.write_str("]")
+    }
+}
+
+/// Writes the names within quotes, with a separator between any two.
+fn write_names<W: fmt::Write>(names: &[FieldName], f: &mut fmt::Formatter<W>) -> fmt::Result
+    ensures { WritesOnOk W.write_str_gives f.old result (quoted_names [] names.now) f.new }
+{
+    for i in 0..names.len() {
+        write_name(i, &names[i], f)?;
+    }
+    Ok(())
+}
+
+/// Writes a separator where it has to stand, and a name within quotes.
+fn write_name<W: fmt::Write>(i: usize, name: &FieldName, f: &mut fmt::Formatter<W>) -> fmt::Result
+    ensures { WritesOnOk W.write_str_gives f.old result (separator_at i ++ quoted_text name.now) f.new }
+{
+    f.write_str(separator(i))?;
+    write_quoted(name.as_str(), f)
 }

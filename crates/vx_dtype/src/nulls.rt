@@ -1,7 +1,10 @@
 // Whether a type has the null.
-ghost use Rattle.std.specs.Prelude.{◌≡◌};
+ghost use Rattle.std.specs.Prelude.{◌≡◌, Some};
 ghost use Rattle.vx_dtype.specs.Codes.{null_number};
 ghost use Rattle.vx_dtype.specs.TypeRules.{is_nullable, union};
+ghost use Rattle.vx_dtype.specs.Texts.{nullability_text};
+
+use std::fmt;
 
 /// Whether null is a value of a type.
 #[derive(Clone, Copy, PartialEq, Eq, Hash, Debug)]
@@ -41,5 +44,16 @@ impl Nullability {
             Nullability::NonNullable => 0,
             Nullability::Nullable => 1,
         }
+    }
+}
+
+impl fmt::Display for Nullability {
+    ghost output = { λ n. Some (nullability_text n) };
+
+    fn fmt<W: fmt::Write>(&self, f: &mut fmt::Formatter<W>) -> fmt::Result {
+        f.write_str(match self {
+            Nullability::NonNullable => "",
+            Nullability::Nullable => "?",
+        })
     }
 }

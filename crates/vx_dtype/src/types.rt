@@ -13,6 +13,7 @@ use std::marker::Model;
 use std::rc::Rc;
 
 mod depth;
+mod display;
 mod equality;
 mod fields;
 mod likeness;
