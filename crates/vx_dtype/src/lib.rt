@@ -9,6 +9,8 @@ mod nulls;
 mod paths;
 mod scalars;
 mod statistics;
+#[cfg(test)]
+mod tests;
 mod types;
 mod values;
 mod writing;

@@ -21,7 +21,7 @@ use std::marker::Model;
 use std::rc::{Rc, RcStr};
 
 /// A text, shared by its clones. It is seen as its bytes.
-#[derive(Drop)]
+#[derive(Debug, Drop)]
 pub struct Text {
     text: RcStr,
 }
@@ -64,7 +64,7 @@ impl Clone for Text {
 }
 
 /// The name of a field, shared by its clones. It is seen as its bytes.
-#[derive(Drop)]
+#[derive(Debug, Drop)]
 pub struct FieldName {
     text: RcStr,
 }
@@ -107,7 +107,7 @@ impl Clone for FieldName {
 }
 
 /// The names of fields in order, shared by their clones. They are seen as their list.
-#[derive(Drop)]
+#[derive(Debug, Drop)]
 pub struct FieldNames {
     names: Rc<Vec<FieldName>>,
 }

@@ -17,7 +17,7 @@ use std::hash::{Hash, Hasher};
 use std::marker::Model;
 
 /// A part of a path.
-#[derive(Drop)]
+#[derive(Debug, Drop)]
 pub enum Field {
     /// The field of this name.
     Name(FieldName),
@@ -62,7 +62,7 @@ impl Hash for Field {
 }
 
 /// A path of fields from the root on. It is seen as the list of their names.
-#[derive(Drop)]
+#[derive(Debug, Drop)]
 pub struct FieldPath {
     parts: Vec<Field>,
 }
@@ -151,7 +151,7 @@ impl Hash for FieldPath {
 }
 
 /// A set of paths. It is seen as the list of them in order of insertion, in which no path stands twice.
-#[derive(Drop)]
+#[derive(Debug, Drop)]
 pub struct FieldPathSet {
     paths: Vec<FieldPath>,
 }

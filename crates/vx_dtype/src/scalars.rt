@@ -16,7 +16,7 @@ use std::hash::{Hash, Hasher};
 use std::marker::Model;
 
 /// A value of a type. The value is one of the type. A scalar is seen as both together.
-#[derive(Drop)]
+#[derive(Debug, Drop)]
 pub struct Scalar {
     dtype: DType,
     value: ScalarValue,

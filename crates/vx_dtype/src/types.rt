@@ -21,7 +21,7 @@ mod nullability;
 
 /// The type of a value.
 #[cycle(types)]
-#[derive(Drop)]
+#[derive(Debug, Drop)]
 pub enum DType {
     Bool(Nullability),
     Primitive(PType, Nullability),
@@ -32,14 +32,14 @@ pub enum DType {
 
 /// The type of a list's elements. It is seen as that type.
 #[cycle(types)]
-#[derive(Drop)]
+#[derive(Debug, Drop)]
 pub struct ElementType {
     dtype: Rc<DType>,
 }
 
 /// The fields of a struct type, as many types as names. They are seen as names beside their types.
 #[cycle(types)]
-#[derive(Drop)]
+#[derive(Debug, Drop)]
 pub struct StructFields {
     names: FieldNames,
     dtypes: Rc<Vec<DType>>,

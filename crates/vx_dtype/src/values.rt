@@ -9,7 +9,7 @@ use std::rc::Rc;
 mod equality;
 
 /// A value without its type: names and integer types stand in the type alone. Clones share the parts of a list or a struct.
-#[derive(Drop)]
+#[derive(Debug, Drop)]
 pub enum ScalarValue {
     Null,
     Bool(bool),

@@ -1,0 +1,137 @@
+// Tables of printed texts and of ends, and each call that takes memory once with ample memory.
+use crate::{
+    CompareOperator, DType, ElementType, FieldName, FieldNames, FieldPath, FieldPathSet, Mem,
+    Nullability, PType, Stat, StructFields, Text,
+};
+use std::alloc::Global;
+use std::rc::Rc;
+use std::test::Fail;
+
+#[test]
+fn integer_types_have_their_ends(rt: HostRuntime) {
+    let table = [
+        (PType::U8, 0, 255),
+        (PType::U16, 0, 65_535),
+        (PType::U32, 0, 4_294_967_295),
+        (PType::U64, 0, 18_446_744_073_709_551_615),
+        (PType::I8, -128, 127),
+        (PType::I16, -32_768, 32_767),
+        (PType::I32, -2_147_483_648, 2_147_483_647),
+        (
+            PType::I64,
+            -9_223_372_036_854_775_808,
+            9_223_372_036_854_775_807,
+        ),
+    ];
+    for (ptype, least, greatest) in table {
+        assert_eq!(rt; ptype.least(), least);
+        assert_eq!(rt; ptype.greatest(), greatest);
+    }
+}
+
+fn names(alloc: Global, first: &str, second: &str) -> Mem<FieldNames> {
+    let mut names = Vec::new(alloc);
+    names.push(FieldName::new(alloc, first)?)?;
+    names.push(FieldName::new(alloc, second)?)?;
+    FieldNames::new(alloc, names)
+}
+
+fn list(alloc: Global, element: DType, n: Nullability) -> Mem<DType> {
+    Ok(DType::List(ElementType::new(Rc::new(alloc, element)?), n))
+}
+
+#[test]
+fn types_print_as_texts(rt: HostRuntime) -> Result<(), Fail> {
+    let alloc = rt.alloc();
+    let integer = DType::Primitive(PType::I32, Nullability::NonNullable);
+    let texts = list(
+        alloc,
+        DType::Utf8(Nullability::Nullable),
+        Nullability::NonNullable,
+    )?;
+    let flags = list(
+        alloc,
+        DType::Bool(Nullability::NonNullable),
+        Nullability::Nullable,
+    )?;
+    assert_eq!(rt; integer.to_string(alloc)?.as_str(), "i32");
+    assert_eq!(rt; texts.to_string(alloc)?.as_str(), "list(utf8?)");
+    assert_eq!(rt; flags.to_string(alloc)?.as_str(), "list(bool)?");
+    Ok(())
+}
+
+#[test]
+fn structs_print_as_texts(rt: HostRuntime) -> Result<(), Fail> {
+    let alloc = rt.alloc();
+    let none = StructFields::new(
+        alloc,
+        FieldNames::new(alloc, Vec::new(alloc))?,
+        Vec::new(alloc),
+    )?;
+    let empty = DType::Struct(none, Nullability::Nullable);
+    assert_eq!(rt; empty.to_string(alloc)?.as_str(), "{}?");
+    let mut dtypes = Vec::new(alloc);
+    dtypes.push(DType::Primitive(PType::I32, Nullability::NonNullable))?;
+    dtypes.push(DType::Primitive(PType::U64, Nullability::Nullable))?;
+    let names = names(alloc, "a", "b")?;
+    assert_eq!(rt; names.len(), dtypes.len());
+    let fields = StructFields::new(alloc, names, dtypes)?;
+    let pair = DType::Struct(fields, Nullability::NonNullable);
+    assert_eq!(rt; pair.to_string(alloc)?.as_str(), "{a=i32, b=u64?}");
+    Ok(())
+}
+
+#[test]
+fn names_print_within_quotes(rt: HostRuntime) -> Result<(), Fail> {
+    let alloc = rt.alloc();
+    let plain = names(alloc, "a", "b")?;
+    assert_eq!(rt; plain.to_string(alloc)?.as_str(), "[\"a\", \"b\"]");
+    let escaped = names(alloc, "\"\\\u{8}\t\n\u{c}\r", "\0\u{1f} \u{7f}é😀")?;
+    let want = "[\"\\\"\\\\\\b\\t\\n\\f\\r\", \"\\u0000\\u001f \u{7f}é😀\"]";
+    assert_eq!(rt; escaped.to_string(alloc)?.as_str(), want);
+    Ok(())
+}
+
+#[test]
+fn comparisons_print_as_signs(rt: HostRuntime) -> Result<(), Fail> {
+    let table = [
+        (CompareOperator::Eq, "="),
+        (CompareOperator::NotEq, "!="),
+        (CompareOperator::Gt, ">"),
+        (CompareOperator::Gte, ">="),
+        (CompareOperator::Lt, "<"),
+        (CompareOperator::Lte, "<="),
+    ];
+    for (operator, sign) in table {
+        assert_eq!(rt; operator.to_string(rt.alloc())?.as_str(), sign);
+    }
+    Ok(())
+}
+
+#[test]
+fn ample(rt: HostRuntime) -> Result<(), Fail> {
+    let alloc = rt.alloc();
+    assert_eq!(rt; Text::new(alloc, "é")?.clone()?.as_str(), "é");
+    let name = FieldName::new(alloc, "a")?;
+    let path = FieldPath::from_name(alloc, name.clone()?)?.push(
+        alloc,
+        FieldName::new(alloc, Stat::Max.name())?,
+    )?;
+    assert_eq!(rt; path.parts().len(), 2);
+    let mut set = FieldPathSet::new(alloc);
+    assert_eq!(rt; set.insert(path.clone()?)?, true);
+    assert_eq!(rt; set.insert(path.clone()?)?, false);
+    assert_eq!(rt; set.len(), 1);
+    let dtype = DType::Bool(Nullability::NonNullable);
+    let wide = dtype.union_nullability(Nullability::Nullable)?;
+    assert_eq!(rt; wide, dtype.with_nullability(Nullability::Nullable)?);
+    let mut dtypes = Vec::new(alloc);
+    dtypes.push(dtype)?;
+    dtypes.push(wide)?;
+    let names = names(alloc, "a", "b")?;
+    assert_eq!(rt; names.len(), dtypes.len());
+    let fields = StructFields::new(alloc, names.clone()?, dtypes)?;
+    let picked = fields.project(alloc, &names.as_slice()[1..])?;
+    assert_eq!(rt; picked.nfields(), 1);
+    Ok(())
+}
