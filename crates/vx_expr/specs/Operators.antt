@@ -1,0 +1,77 @@
+-- The tables of the operators.
+use Rattle.std.specs.Prelude.{ℕ, Bool, true, false, Option, Some, None}
+use Rattle.vx_dtype.specs.declared.CompareOperator.{CompareOperator}
+use Rattle.vx_dtype.specs.declared.BetweenOptions.{BetweenOptions}
+use Rattle.vx_dtype.specs.Order.{bound_operator}
+use Rattle.vx_expr.specs.declared.operators.Operator.{Operator}
+use Rattle.vx_expr.specs.Trees.{Tree, binary}
+
+-- the number of an operator
+abbrev pub operator_number : Operator → ℕ
+operator_number Operator.Eq = 0
+operator_number Operator.NotEq = 1
+operator_number Operator.Gt = 2
+operator_number Operator.Gte = 3
+operator_number Operator.Lt = 4
+operator_number Operator.Lte = 5
+operator_number Operator.And = 6
+operator_number Operator.Or = 7
+operator_number Operator.Add = 8
+operator_number Operator.Sub = 9
+
+-- the comparison that an operator is, none for the last four
+abbrev pub comparison_of : Operator → Option CompareOperator
+comparison_of Operator.Eq = Some CompareOperator.Eq
+comparison_of Operator.NotEq = Some CompareOperator.NotEq
+comparison_of Operator.Gt = Some CompareOperator.Gt
+comparison_of Operator.Gte = Some CompareOperator.Gte
+comparison_of Operator.Lt = Some CompareOperator.Lt
+comparison_of Operator.Lte = Some CompareOperator.Lte
+comparison_of _ = None
+
+-- the operator that a comparison is
+abbrev pub operator_of : CompareOperator → Operator
+operator_of CompareOperator.Eq = Operator.Eq
+operator_of CompareOperator.NotEq = Operator.NotEq
+operator_of CompareOperator.Gt = Operator.Gt
+operator_of CompareOperator.Gte = Operator.Gte
+operator_of CompareOperator.Lt = Operator.Lt
+operator_of CompareOperator.Lte = Operator.Lte
+
+-- the operator that is true where this one is false, for comparisons alone
+abbrev pub inverse_of : Operator → Option Operator
+inverse_of Operator.Eq = Some Operator.NotEq
+inverse_of Operator.NotEq = Some Operator.Eq
+inverse_of Operator.Gt = Some Operator.Lte
+inverse_of Operator.Gte = Some Operator.Lt
+inverse_of Operator.Lt = Some Operator.Gte
+inverse_of Operator.Lte = Some Operator.Gt
+inverse_of _ = None
+
+-- the same of two comparisons
+abbrev pub inverse_comparison : CompareOperator → CompareOperator
+inverse_comparison CompareOperator.Eq = CompareOperator.NotEq
+inverse_comparison CompareOperator.NotEq = CompareOperator.Eq
+inverse_comparison CompareOperator.Gt = CompareOperator.Lte
+inverse_comparison CompareOperator.Gte = CompareOperator.Lt
+inverse_comparison CompareOperator.Lt = CompareOperator.Gte
+inverse_comparison CompareOperator.Lte = CompareOperator.Gt
+
+-- `and` and `or` exchanged, none for the rest
+abbrev pub logical_inverse_of : Operator → Option Operator
+logical_inverse_of Operator.And = Some Operator.Or
+logical_inverse_of Operator.Or = Some Operator.And
+logical_inverse_of _ = None
+
+-- the operator that means the same with its operands exchanged; a difference is given back as it is
+abbrev pub swapped : Operator → Operator
+swapped Operator.Gt = Operator.Lt
+swapped Operator.Lt = Operator.Gt
+swapped Operator.Gte = Operator.Lte
+swapped Operator.Lte = Operator.Gte
+swapped op = op
+
+-- the two comparisons that a range stands for: the lower bound before the value, and the value before the upper bound
+abbrev pub range_as_binary : Tree → Tree → Tree → BetweenOptions → Tree
+range_as_binary e lower upper options =
+  binary (binary lower (operator_of (bound_operator options.lower_strict)) e) Operator.And (binary e (operator_of (bound_operator options.upper_strict)) upper)
