@@ -1,5 +1,5 @@
 -- The tables of the operators.
-use Rattle.std.specs.Prelude.{ℕ, Bool, true, false, Option, Some, None}
+use Rattle.std.specs.Prelude.{ℕ, Option, Some, None}
 use Rattle.vx_dtype.specs.declared.CompareOperator.{CompareOperator}
 use Rattle.vx_dtype.specs.declared.BetweenOptions.{BetweenOptions}
 use Rattle.vx_dtype.specs.Order.{bound_operator}
@@ -74,4 +74,4 @@ swapped op = op
 -- the two comparisons that a range stands for: the lower bound before the value, and the value before the upper bound
 abbrev pub range_as_binary : Tree → Tree → Tree → BetweenOptions → Tree
 range_as_binary e lower upper options =
-  binary (binary lower (operator_of (bound_operator options.lower_strict)) e) Operator.And (binary e (operator_of (bound_operator options.upper_strict)) upper)
+    binary (binary lower (operator_of (bound_operator options.lower_strict)) e) Operator.And (binary e (operator_of (bound_operator options.upper_strict)) upper)

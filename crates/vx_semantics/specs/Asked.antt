@@ -1,0 +1,92 @@
+-- What an expression asks by path: the nodes whose values its answer can hang on, and the columns that it touches.
+use Rattle.std.specs.Prelude.{Bool, true, false, cond, List, [], ◌∷◌, ◌++◌, map}
+use Rattle.std.specs.List.{flat_map, filter}
+use Rattle.std.specs.Str.{bytes_eq}
+use Rattle.vx_dtype.specs.Types.{Bytes, Ty}
+use Rattle.vx_dtype.specs.TypeRules.{has_name}
+use Rattle.vx_dtype.specs.Structs.{first_names}
+use Rattle.vx_expr.specs.Trees.{Tree, root, literal, get_item, binary, not_of, is_null_of, like, between, cast, list_contains, pack, merge, select, dynamic, Trees, no_trees, tree}
+use Rattle.vx_semantics.specs.Typing.{names_in, given_names}
+
+-- a node or a column that is asked
+pub data Asking : Type 0 where
+  asks_node : Tree → Asking
+  asks_column : Bytes → Asking
+
+-- the row itself asks the column that its path begins with, and for the empty path all columns
+abbrev pub root_asks : Ty → List Bytes → List Asking
+root_asks t [] = map asks_column (names_in t)
+root_asks t (c ∷ path) = asks_column c ∷ []
+
+-- whether one of the expressions gives a field of this name
+abbrev pub later_gives : Ty → Bytes → Trees → Bool
+later_gives t f no_trees = false
+later_gives t f (tree e es) = cond (has_name f (given_names t e)) true (later_gives t f es)
+
+-- the names that several expressions give together, in order of first appearance
+abbrev pub all_given_names : Ty → Trees → List Bytes
+all_given_names t no_trees = []
+all_given_names t (tree e es) = given_names t e ++ all_given_names t es
+
+-- whether a path has a name
+abbrev pub is_named : List Bytes → Bool
+is_named [] = false
+is_named (f ∷ path) = true
+
+-- what is asked for each of the names, where `ask` says what is asked for a path
+abbrev pub each_asked : (List Bytes → List Asking) → List Bytes → List Asking
+each_asked ask [] = []
+each_asked ask (f ∷ fs) = ask (f ∷ []) ++ each_asked ask fs
+
+-- what is asked for a path, or for the empty path for each of the names
+abbrev pub path_or_each : (List Bytes → List Asking) → List Bytes → List Bytes → List Asking
+path_or_each ask names [] = each_asked ask names
+path_or_each ask names (f ∷ path) = ask (f ∷ path)
+
+unfoldable mutual
+  -- what an expression over the table's type asks for a path: itself, and what its children are asked for
+  pub asked : Ty → Tree → List Bytes → List Asking
+  asked t root path = root_asks t path
+  asked t (literal s) path = asks_node (literal s) ∷ []
+  asked t (get_item f e) path = asks_node (get_item f e) ∷ asked t e (f ∷ path)
+  asked t (binary l op r) path = asks_node (binary l op r) ∷ (asked t l [] ++ asked t r [])
+  asked t (not_of e) path = asks_node (not_of e) ∷ asked t e []
+  asked t (is_null_of e) path = asks_node (is_null_of e) ∷ asked t e []
+  asked t (like e p negated fold_case) path = asks_node (like e p negated fold_case) ∷ (asked t e [] ++ asked t p [])
+  asked t (between e lower upper options) path = asks_node (between e lower upper options) ∷ (asked t e [] ++ (asked t lower [] ++ asked t upper []))
+  asked t (cast e target) path = asks_node (cast e target) ∷ asked t e []
+  asked t (list_contains l v) path = asks_node (list_contains l v) ∷ (asked t l [] ++ asked t v [])
+  asked t (pack names es n) path = asks_node (pack names es n) ∷ asked_in_pack t names es path
+  asked t (merge es n) path = asks_node (merge es n) ∷ path_or_each (asked_of_giver t es) (first_names (all_given_names t es)) path
+  asked t (select s e) path = asks_node (select s e) ∷ path_or_each (asked t e) (given_names t (select s e)) path
+  asked t (dynamic e op k slot default) path = asks_node (dynamic e op k slot default) ∷ asked t e []
+
+  -- of a pack's values: for the empty path each is asked, for a path that begins with a name the first one of that name, for the rest
+  pub asked_in_pack : Ty → List Bytes → Trees → List Bytes → List Asking
+  asked_in_pack t names no_trees path = []
+  asked_in_pack t [] (tree e es) path = []
+  asked_in_pack t (f ∷ names) (tree e es) [] = asked t e [] ++ asked_in_pack t names es []
+  asked_in_pack t (f ∷ names) (tree e es) (g ∷ path) = cond (bytes_eq g f) (asked t e path) (asked_in_pack t names es (g ∷ path))
+
+  -- of a merge's values: the last one that gives the first name of the path is asked for the path
+  pub asked_of_giver : Ty → Trees → List Bytes → List Asking
+  asked_of_giver t es [] = []
+  asked_of_giver t no_trees (f ∷ path) = []
+  asked_of_giver t (tree e es) (f ∷ path) = cond (later_gives t f es) (asked_of_giver t es (f ∷ path)) (asked t e (f ∷ path))
+
+-- the nodes, and the columns, of what is asked
+abbrev pub node_in : Asking → List Tree
+node_in (asks_node e) = e ∷ []
+node_in (asks_column c) = []
+
+abbrev pub column_in : Asking → List Bytes
+column_in (asks_node e) = []
+column_in (asks_column c) = c ∷ []
+
+-- the nodes that an expression asks
+abbrev pub asked_nodes : Ty → Tree → List Tree
+asked_nodes t e = flat_map node_in (asked t e [])
+
+-- the columns that an expression asks, in the table's order
+abbrev pub asked_columns : Ty → Tree → List Bytes
+asked_columns t e = filter (λ c. has_name c (flat_map column_in (asked t e []))) (names_in t)

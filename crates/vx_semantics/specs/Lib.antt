@@ -1,0 +1,10 @@
+pub mod Typing
+pub mod LooseTyping
+pub mod Meaning
+pub mod Breaks
+pub mod Asked
+pub mod Tables
+pub mod Honest
+pub mod Pruning
+pub mod Scans
+pub mod Instances

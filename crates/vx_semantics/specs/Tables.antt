@@ -1,0 +1,60 @@
+-- Tables in blocks, and their statistics.
+use Rattle.std.specs.Prelude.{ℕ, suc, Bool, true, false, ◌&&◌, List, [], ◌∷◌, ◌++◌}
+use Rattle.std.specs.Str.{bytes_eq}
+use Rattle.vx_dtype.specs.declared.Nullability.TheVariants.{NonNullable}
+use Rattle.vx_dtype.specs.declared.Stat.{Stat}
+use Rattle.vx_dtype.specs.declared.Stat.TheVariants.{Min, Max, NaNCount, NullCount}
+use Rattle.vx_dtype.specs.Types.{Bytes, Ty, struct_ty, Fields}
+use Rattle.vx_dtype.specs.Values.{Val, Typed}
+
+-- a table: its columns, and its rows in blocks; each row is a struct of the columns
+pub record Table : Type 0 where
+  pub columns : Fields
+  pub blocks : List (List Val)
+
+-- one statistic of one path: its value in each block
+pub record ZoneStat : Type 0 where
+  pub path : List Bytes
+  pub stat : Stat
+  pub values : List Typed
+
+-- the statistics of a table: its columns, the number of rows of each block, and the statistics
+pub record Zones : Type 0 where
+  pub columns : Fields
+  pub lengths : List ℕ
+  pub stats : List ZoneStat
+
+-- the type of the rows of a table with these columns
+abbrev pub row_type : Fields → Ty
+row_type fs = struct_ty fs NonNullable
+
+-- the items, each with its number, counted from n
+abbrev pub numbered_from {ℓ} : {X : Type ℓ} → ℕ → List X → List (ℕ × X)
+numbered_from n [] = []
+numbered_from n (x ∷ xs) = (n, x) ∷ numbered_from (suc n) xs
+
+-- whether two statistics are of one kind
+abbrev pub same_stat : Stat → Stat → Bool
+same_stat Min Min = true
+same_stat Max Max = true
+same_stat NaNCount NaNCount = true
+same_stat NullCount NullCount = true
+same_stat _ _ = false
+
+-- whether two paths are the same
+abbrev pub same_path : List Bytes → List Bytes → Bool
+same_path [] [] = true
+same_path (f ∷ fs) (g ∷ gs) = bytes_eq f g && same_path fs gs
+same_path _ _ = false
+
+-- the name of a statistic: min, max, nan_count, null_count
+abbrev pub stat_name : Stat → Bytes
+stat_name Min = 109 ∷ 105 ∷ 110 ∷ []
+stat_name Max = 109 ∷ 97 ∷ 120 ∷ []
+stat_name NaNCount = 110 ∷ 97 ∷ 110 ∷ 95 ∷ 99 ∷ 111 ∷ 117 ∷ 110 ∷ 116 ∷ []
+stat_name NullCount = 110 ∷ 117 ∷ 108 ∷ 108 ∷ 95 ∷ 99 ∷ 111 ∷ 117 ∷ 110 ∷ 116 ∷ []
+
+-- the joined name of a statistic of a path: the path's names and the statistic's, with `_` (95) between
+abbrev pub joined_name : List Bytes → Stat → Bytes
+joined_name [] stat = stat_name stat
+joined_name (f ∷ fs) stat = f ++ (95 ∷ joined_name fs stat)
