@@ -8,3 +8,4 @@ pub mod Honest
 pub mod Pruning
 pub mod Scans
 pub mod Instances
+pub mod Samples

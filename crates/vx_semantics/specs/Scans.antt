@@ -1,8 +1,9 @@
 -- What a scan answers: the blocks that it keeps, the rows, the reads, and the phases in which it evaluates.
 use Rattle.std.specs.Prelude.{ℕ, Bool, true, false, cond, not, ◌||◌, List, [], ◌∷◌, ◌++◌, map}
 use Rattle.std.specs.List.{filter, list_any, flat_map}
+use Rattle.std.specs.Str.{bytes_eq}
 use Rattle.vx_dtype.specs.Types.{Bytes, Ty}
-use Rattle.vx_dtype.specs.TypeRules.{has_name}
+use Rattle.vx_dtype.specs.TypeRules.{has_name, field_names}
 use Rattle.vx_dtype.specs.Values.{Val}
 use Rattle.vx_dtype.specs.Logic.{is_true_val}
 use Rattle.vx_expr.specs.Trees.{Tree}
@@ -55,6 +56,10 @@ block_reads t slots filter_expr projection b =
 abbrev pub reads_of : Table → Zones → Slots → Tree → Tree → List (ℕ × Bytes)
 reads_of table zones slots filter_expr projection =
     flat_map (block_reads (row_type table.columns) slots filter_expr projection) (kept_of table zones slots filter_expr)
+
+-- the columns that are read at least once, in the table's order
+abbrev pub read_columns : Table → List (ℕ × Bytes) → List Bytes
+read_columns table reads = filter (λ c. list_any (λ r. bytes_eq c r.1) reads) (field_names table.columns)
 
 -- a phase: an expression that is evaluated, and the rows at which it is
 pub record Phase : Type 0 where

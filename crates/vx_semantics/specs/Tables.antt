@@ -1,5 +1,5 @@
 -- Tables in blocks, and their statistics.
-use Rattle.std.specs.Prelude.{ℕ, suc, Bool, true, false, ◌&&◌, List, [], ◌∷◌, ◌++◌}
+use Rattle.std.specs.Prelude.{ℕ, suc, Bool, true, false, ◌&&◌, List, [], ◌∷◌, ◌++◌, codes}
 use Rattle.std.specs.Str.{bytes_eq}
 use Rattle.vx_dtype.specs.declared.Nullability.TheVariants.{NonNullable}
 use Rattle.vx_dtype.specs.declared.Stat.{Stat}
@@ -49,12 +49,12 @@ same_path _ _ = false
 
 -- the name of a statistic: min, max, nan_count, null_count
 abbrev pub stat_name : Stat → Bytes
-stat_name Min = 109 ∷ 105 ∷ 110 ∷ []
-stat_name Max = 109 ∷ 97 ∷ 120 ∷ []
-stat_name NaNCount = 110 ∷ 97 ∷ 110 ∷ 95 ∷ 99 ∷ 111 ∷ 117 ∷ 110 ∷ 116 ∷ []
-stat_name NullCount = 110 ∷ 117 ∷ 108 ∷ 108 ∷ 95 ∷ 99 ∷ 111 ∷ 117 ∷ 110 ∷ 116 ∷ []
+stat_name Min = codes "min"
+stat_name Max = codes "max"
+stat_name NaNCount = codes "nan_count"
+stat_name NullCount = codes "null_count"
 
--- the joined name of a statistic of a path: the path's names and the statistic's, with `_` (95) between
+-- the joined name of a statistic of a path: the path's names and the statistic's, with `_` between
 abbrev pub joined_name : List Bytes → Stat → Bytes
 joined_name [] stat = stat_name stat
-joined_name (f ∷ fs) stat = f ++ (95 ∷ joined_name fs stat)
+joined_name (f ∷ fs) stat = f ++ (codes "_" ++ joined_name fs stat)

@@ -1,2 +1,4 @@
 //! What expressions mean: definitions, and the worked rows as theorems about them.
 #![tactic(auto)]
+
+pub mod scan_rows;

@@ -1,0 +1,152 @@
+-- Words for the worked rows: constants, columns, tables of one column, and the answer of a scan as one record.
+use Rattle.std.specs.Prelude.{ℕ, ℤ, pos, Bool, true, false, List, [], ◌∷◌, map, codes}
+use Prim.Native.String.{String}
+use Rattle.vx_dtype.specs.declared.PType.{PType}
+use Rattle.vx_dtype.specs.declared.PType.TheVariants.{I8, I32}
+use Rattle.vx_dtype.specs.declared.Nullability.TheVariants.{NonNullable, Nullable}
+use Rattle.vx_dtype.specs.declared.Stat.{Stat}
+use Rattle.vx_dtype.specs.Types.{Bytes, Ty, bool_ty, int_ty, text_ty, list_ty, struct_ty, Fields, no_fields, field}
+use Rattle.vx_dtype.specs.Values.{raw_null, raw_bool, raw_int, raw_text, raw_list, Raws, no_raws, raw, Val, null_val, int_val, struct_val, no_members, member, Typed}
+use Rattle.vx_expr.specs.declared.Operator.{Operator}
+use Rattle.vx_expr.specs.Trees.{Tree, root, literal, get_item, binary, pack, no_trees, tree}
+use Rattle.vx_semantics.specs.Meaning.{Slots}
+use Rattle.vx_semantics.specs.Tables.{Table, ZoneStat, Zones, row_type}
+use Rattle.vx_semantics.specs.Scans.{kept_rows_of, skipped_blocks, reads_of, read_columns, phases_of, phase_breaks_by}
+use Rattle.vx_semantics.specs.Breaks.{by_sum, by_cast}
+use Rattle.std.specs.Prelude.{length}
+
+-- a column
+abbrev pub col : String → Tree
+col name = get_item (codes name) root
+
+-- a constant of an integer type, a boolean, a text
+abbrev pub number : PType → ℤ → Tree
+number p i = literal (record { ty = int_ty p NonNullable; value = raw_int i })
+
+abbrev pub boolean : Bool → Tree
+boolean b = literal (record { ty = bool_ty NonNullable; value = raw_bool b })
+
+abbrev pub quoted : String → Tree
+quoted s = literal (record { ty = text_ty NonNullable; value = raw_text (codes s) })
+
+-- numbers as raw values in a row
+abbrev pub raw_numbers : List ℤ → Raws
+raw_numbers [] = no_raws
+raw_numbers (i ∷ is) = raw (raw_int i) (raw_numbers is)
+
+-- the null of a type
+abbrev pub null_of : Ty → Tree
+null_of t = literal (record { ty = t; value = raw_null })
+
+-- two operands under an operator
+infix 20 ◌⟨◌⟩◌
+abbrev pub ◌⟨◌⟩◌ : Tree → Operator → Tree → Tree
+l ⟨ op ⟩ r = binary l op r
+
+-- one member, one field
+abbrev pub alone : String → Val → Val
+alone name v = struct_val (member (codes name) v no_members)
+
+abbrev pub only : String → Ty → Fields
+only name t = field (codes name) t no_fields
+
+-- numbers of an integer type as rows of one column
+abbrev pub rows_of_numbers : PType → String → List ℤ → List Val
+rows_of_numbers p name is = map (λ i. alone name (int_val p i)) is
+
+-- numbers of an integer type as values
+abbrev pub numbers : PType → List ℤ → List Val
+numbers p is = map (int_val p) is
+
+-- a table of one column of an integer type
+abbrev pub number_table : PType → String → List (List ℤ) → Table
+number_table p name blocks = record { columns = only name (int_ty p NonNullable); blocks = map (rows_of_numbers p name) blocks }
+
+-- values of an integer type as a statistic holds them
+abbrev pub bounds : PType → List ℤ → List Typed
+bounds p is = map (λ i. record { ty = int_ty p Nullable; value = raw_int i }) is
+
+-- a statistic of a path
+abbrev pub statistic : List String → Stat → List Typed → ZoneStat
+statistic path stat values = record { path = map codes path; stat = stat; values = values }
+
+-- the zones of a table with these statistics
+abbrev pub zones_of : Table → List ZoneStat → Zones
+zones_of table stats = record { columns = table.columns; lengths = map length table.blocks; stats = stats }
+
+-- what a scan answers: the rows over the kept blocks, the skipped blocks, the columns that are read, the reads
+pub record Answer : Type 0 where
+  pub rows : List Val
+  pub skipped : List ℕ
+  pub columns : List Bytes
+  pub reads : List (ℕ × Bytes)
+
+abbrev pub answer_of : Table → List ZoneStat → Slots → Tree → Tree → Answer
+answer_of table stats slots filter_expr projection =
+    record {
+      rows = kept_rows_of table (zones_of table stats) slots filter_expr projection;
+      skipped = skipped_blocks (zones_of table stats) slots filter_expr;
+      columns = read_columns table (reads_of table (zones_of table stats) slots filter_expr projection);
+      reads = reads_of table (zones_of table stats) slots filter_expr projection;
+    }
+
+-- of each phase of a scan in order, whether it breaks by a sum, and whether by a cast
+abbrev pub breaks_in_order : Table → List ZoneStat → Slots → Tree → Tree → List (Bool × Bool)
+breaks_in_order table stats slots filter_expr projection =
+    map
+    (λ phase. (phase_breaks_by by_sum (row_type table.columns) slots phase, phase_breaks_by by_cast (row_type table.columns) slots phase))
+    (phases_of table (zones_of table stats) slots filter_expr projection)
+
+-- no phase breaks; one phase that breaks by a sum, and by a cast
+abbrev pub sound : Bool × Bool
+sound = (false, false)
+
+abbrev pub broken_sum : Bool × Bool
+broken_sum = (true, false)
+
+abbrev pub broken_cast : Bool × Bool
+broken_cast = (false, true)
+
+-- the table of the first rows: twelve and twenty are above ten
+abbrev pub two_blocks : Table
+two_blocks = number_table I32 "x" ((pos 1 ∷ pos 12 ∷ []) ∷ (pos 20 ∷ []) ∷ [])
+
+-- the filter of the first rows: the column is above ten
+abbrev pub above_ten : Tree
+above_ten = col "x" ⟨ Operator.Gt ⟩ number I32 (pos 10)
+
+-- reads of one column in each of these blocks
+abbrev pub reads_in : String → List ℕ → List (ℕ × Bytes)
+reads_in name blocks = map (λ b. (b, codes name)) blocks
+
+-- a table of a nullable struct and a struct, in one row: null, and two
+abbrev pub two_structs : Table
+two_structs = record {
+  columns = field (codes "p") (struct_ty (only "a" (int_ty I32 NonNullable)) Nullable) (only "q" (struct_ty (only "b" (int_ty I32 NonNullable)) NonNullable));
+  blocks = (struct_val (member (codes "p") null_val (member (codes "q") (alone "b" (int_val I32 (pos 2))) no_members)) ∷ []) ∷ [];
+}
+
+-- a table whose column `a_b` and whose field `b` of `a` have one joined name, in one row: one, and one
+abbrev pub joined_twice : Table
+joined_twice = record {
+  columns = field (codes "a_b") (int_ty I32 NonNullable) (only "a" (struct_ty (only "b" (int_ty I32 NonNullable)) NonNullable));
+  blocks = (struct_val (member (codes "a_b") (int_val I32 (pos 1)) (member (codes "a") (alone "b" (int_val I32 (pos 1))) no_members)) ∷ []) ∷ [];
+}
+
+-- a table of two small columns in one row: 127, and 5
+abbrev pub two_small : Table
+two_small = record {
+  columns = field (codes "x") (int_ty I8 NonNullable) (only "y" (int_ty I8 NonNullable));
+  blocks = (struct_val (member (codes "x") (int_val I8 (pos 127)) (member (codes "y") (int_val I8 (pos 5)) no_members)) ∷ []) ∷ [];
+}
+
+-- a pack of one value, of two values
+abbrev pub pack_one : String → Tree → Tree
+pack_one f e = pack (codes f ∷ []) (tree e no_trees) NonNullable
+
+abbrev pub pack_two : String → Tree → String → Tree → Tree
+pack_two f e g d = pack (codes f ∷ codes g ∷ []) (tree e (tree d no_trees)) NonNullable
+
+-- a constant list of numbers
+abbrev pub number_list : PType → List ℤ → Tree
+number_list p is = literal (record { ty = list_ty (int_ty p NonNullable) NonNullable; value = raw_list (raw_numbers is) })
