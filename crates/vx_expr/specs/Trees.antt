@@ -6,11 +6,7 @@ use Rattle.vx_dtype.specs.declared.BetweenOptions.{BetweenOptions}
 use Rattle.vx_dtype.specs.Types.{Bytes, Ty}
 use Rattle.vx_dtype.specs.Values.{Typed}
 use Rattle.vx_expr.specs.declared.operators.Operator.{Operator}
-
--- a choice of fields: these names in their listed order, or all but these
-pub data FieldSelection : Type 0 where
-  Include : List Bytes → FieldSelection
-  Exclude : List Bytes → FieldSelection
+use Rattle.vx_expr.specs.declared.selections.FieldSelection.{FieldSelection}
 
 mutual
   -- an expression

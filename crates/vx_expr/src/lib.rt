@@ -2,5 +2,7 @@
 #![tactic(auto)]
 
 mod operators;
+mod selections;
 
 pub use operators::Operator;
+pub use selections::FieldSelection;

@@ -8,7 +8,9 @@ use Rattle.vx_dtype.specs.declared.Nullability.TheVariants.{NonNullable}
 use Rattle.vx_dtype.specs.Types.{Bytes, Ty, bool_ty, struct_ty, Fields}
 use Rattle.vx_dtype.specs.TypeRules.{union, nullability_of, same_type}
 use Rattle.vx_expr.specs.declared.Operator.{Operator}
-use Rattle.vx_expr.specs.Trees.{FieldSelection, Include, Exclude, Tree, root, literal, get_item, binary, not_of, is_null_of, like, between, cast, list_contains, pack, merge, select, dynamic, Trees, no_trees, tree}
+use Rattle.vx_expr.specs.declared.FieldSelection.{FieldSelection}
+use Rattle.vx_expr.specs.declared.FieldSelection.TheVariants.{Include, Exclude}
+use Rattle.vx_expr.specs.Trees.{Tree, root, literal, get_item, binary, not_of, is_null_of, like, between, cast, list_contains, pack, merge, select, dynamic, Trees, no_trees, tree}
 use Rattle.vx_semantics.specs.Typing.{Refusal, not_struct, unknown_field, type_mismatch, and_then, unless, item_type, selected_fields, all_known, zip_fields, merge_type, union_of, sum_type, not_type}
 
 -- whether each included name is one of the fields'

@@ -13,7 +13,9 @@ use Rattle.vx_dtype.specs.Casts.{cast3}
 use Rattle.vx_dtype.specs.Lists.{contains3}
 use Rattle.vx_dtype.specs.Structs.{field_of, selected, deselected, first_names}
 use Rattle.vx_expr.specs.declared.Operator.{Operator}
-use Rattle.vx_expr.specs.Trees.{FieldSelection, Include, Exclude, Tree, root, literal, get_item, binary, not_of, is_null_of, like, between, cast, list_contains, pack, merge, select, dynamic, Trees, no_trees, tree}
+use Rattle.vx_expr.specs.declared.FieldSelection.{FieldSelection}
+use Rattle.vx_expr.specs.declared.FieldSelection.TheVariants.{Include, Exclude}
+use Rattle.vx_expr.specs.Trees.{Tree, root, literal, get_item, binary, not_of, is_null_of, like, between, cast, list_contains, pack, merge, select, dynamic, Trees, no_trees, tree}
 use Rattle.vx_semantics.specs.Typing.{given_names}
 
 -- the slots of dynamic comparisons, each with its value where it has one

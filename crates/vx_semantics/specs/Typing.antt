@@ -11,7 +11,9 @@ use Rattle.vx_dtype.specs.Fits.{fits}
 use Rattle.vx_dtype.specs.Casts.{takes_cast}
 use Rattle.vx_dtype.specs.Structs.{first_names}
 use Rattle.vx_expr.specs.declared.Operator.{Operator}
-use Rattle.vx_expr.specs.Trees.{FieldSelection, Include, Exclude, Tree, root, literal, get_item, binary, not_of, is_null_of, like, between, cast, list_contains, pack, merge, select, dynamic, Trees, no_trees, tree}
+use Rattle.vx_expr.specs.declared.FieldSelection.{FieldSelection}
+use Rattle.vx_expr.specs.declared.FieldSelection.TheVariants.{Include, Exclude}
+use Rattle.vx_expr.specs.Trees.{Tree, root, literal, get_item, binary, not_of, is_null_of, like, between, cast, list_contains, pack, merge, select, dynamic, Trees, no_trees, tree}
 
 -- why an expression has no type
 pub data Refusal : Type 0 where
