@@ -1,7 +1,6 @@
 -- LIKE: `%` matches any run of characters, `_` one character, `\` makes the next character stand for itself, and a last `\` stands for itself.
 -- Where case is folded, ASCII letters alone are.
-use Rattle.std.specs.Prelude.{ℕ, ◌+◌, ◌==◌, nat_le, Bool, true, false, cond, ◌&&◌, ◌||◌, List, [], ◌∷◌, map}
-use Rattle.std.specs.Bool.{xor}
+use Rattle.std.specs.Prelude.{ℕ, ◌+◌, ◌==◌, nat_le, Bool, true, false, cond, not, ◌&&◌, ◌||◌, List, [], ◌∷◌, map}
 use Rattle.std.specs.Str.{chars}
 use Rattle.vx_dtype.specs.Types.{Bytes}
 use Rattle.vx_dtype.specs.Values.{Val, bool_val, text_val, fault}
@@ -60,9 +59,13 @@ abbrev pub text_matches : Bool → Bytes → Bytes → Bool
 text_matches false text pattern = matches (wildcards (chars pattern)) (chars text)
 text_matches true text pattern = matches (map folded_wildcard (wildcards (chars pattern))) (map folded (chars text))
 
+-- the answer, true and false exchanged where it is negated
+abbrev pub inverted_if : Bool → Bool → Bool
+inverted_if negated b = cond negated (not b) b
+
 -- the match of two texts, inverted where it is negated; what is no text matches nothing
 abbrev pub like_of : Bool → Bool → Val → Val → Val
-like_of negated fold_case (text_val s) (text_val p) = bool_val (xor negated (text_matches fold_case s p))
+like_of negated fold_case (text_val s) (text_val p) = bool_val (inverted_if negated (text_matches fold_case s p))
 like_of negated fold_case _ _ = fault
 
 -- whether a value matches a pattern

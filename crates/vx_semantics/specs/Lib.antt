@@ -9,3 +9,4 @@ pub mod Pruning
 pub mod Scans
 pub mod Instances
 pub mod Samples
+pub mod Catalog

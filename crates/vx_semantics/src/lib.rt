@@ -1,4 +1,5 @@
 //! What expressions mean: definitions, and the worked rows as theorems about them.
 #![tactic(auto)]
 
+pub mod catalog_rows;
 pub mod scan_rows;

@@ -1,5 +1,5 @@
 // Scans that were worked out by hand.
-#![tactic(auto, unfolding(crate::specs::Meaning::mean, crate::specs::Pruning::rules_out, crate::specs::Asked::asked, crate::specs::Typing::typed_of, vx_dtype::specs::Values::valued, vx_dtype::specs::Fits::fits, vx_dtype::specs::TypeRules::no_name_twice, vx_dtype::specs::TypeRules::same_type))]
+#![tactic(auto, unfolding(crate::proofs::Computing::all_definitions))]
 
 ghost use Rattle.std.specs.Prelude.{◌≡◌, pos, negsuc, true, [], ◌∷◌, codes, Ok, Err};
 ghost use Rattle.vx_dtype.specs.declared.PType.TheVariants.{I8, I32, U8};
