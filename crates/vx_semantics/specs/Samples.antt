@@ -1,19 +1,18 @@
 -- Words for the worked rows: constants, columns, tables of one column, and the answer of a scan as one record.
-use Rattle.std.specs.Prelude.{ℕ, ℤ, pos, Bool, true, false, List, [], ◌∷◌, map, codes}
+use Rattle.std.specs.Prelude.{ℕ, ℤ, pos, Bool, true, false, List, [], ◌∷◌, map, length, codes, Option, Some, None}
 use Prim.Native.String.{String}
 use Rattle.vx_dtype.specs.declared.PType.{PType}
-use Rattle.vx_dtype.specs.declared.PType.TheVariants.{I8, I32}
+use Rattle.vx_dtype.specs.declared.PType.TheVariants.{U16, I8, I32}
 use Rattle.vx_dtype.specs.declared.Nullability.TheVariants.{NonNullable, Nullable}
 use Rattle.vx_dtype.specs.declared.Stat.{Stat}
 use Rattle.vx_dtype.specs.Types.{Bytes, Ty, bool_ty, int_ty, text_ty, list_ty, struct_ty, Fields, no_fields, field}
-use Rattle.vx_dtype.specs.Values.{raw_null, raw_bool, raw_int, raw_text, raw_list, Raws, no_raws, raw, Val, null_val, int_val, struct_val, no_members, member, Typed}
+use Rattle.vx_dtype.specs.Values.{raw_null, raw_bool, raw_int, raw_text, raw_list, Raws, no_raws, raw, Val, null_val, bool_val, int_val, fault, struct_val, no_members, member, Typed}
 use Rattle.vx_expr.specs.declared.Operator.{Operator}
 use Rattle.vx_expr.specs.Trees.{Tree, root, literal, get_item, binary, pack, no_trees, tree}
 use Rattle.vx_semantics.specs.Meaning.{Slots}
 use Rattle.vx_semantics.specs.Tables.{Table, ZoneStat, Zones, row_type}
 use Rattle.vx_semantics.specs.Scans.{kept_rows_of, skipped_blocks, reads_of, read_columns, phases_of, phase_breaks_by}
 use Rattle.vx_semantics.specs.Breaks.{by_sum, by_cast}
-use Rattle.std.specs.Prelude.{length}
 
 -- a column
 abbrev pub col : String → Tree
@@ -150,3 +149,36 @@ pack_two f e g d = pack (codes f ∷ codes g ∷ []) (tree e (tree d no_trees)) 
 -- a constant list of numbers
 abbrev pub number_list : PType → List ℤ → Tree
 number_list p is = literal (record { ty = list_ty (int_ty p NonNullable) NonNullable; value = raw_list (raw_numbers is) })
+
+-- a number of a nullable type, or null
+abbrev pub number_or_null : Option ℤ → Val
+number_or_null None = null_val
+number_or_null (Some i) = int_val I32 i
+
+-- a table of one nullable column
+abbrev pub nullable_table : String → List (List (Option ℤ)) → Table
+nullable_table name blocks = record { columns = only name (int_ty I32 Nullable); blocks = map (λ rows. map (λ i. alone name (number_or_null i)) rows) blocks }
+
+-- a slot with a value
+abbrev pub slot_of : PType → ℤ → Option Typed
+slot_of p i = Some (record { ty = int_ty p NonNullable; value = raw_int i })
+
+-- a struct of a number, two nullable numbers and two booleans
+abbrev pub five_columns : Ty
+five_columns =
+    struct_ty
+    (field (codes "a") (int_ty I32 NonNullable)
+    (field (codes "col1") (int_ty U16 Nullable)
+    (field (codes "col2") (int_ty U16 Nullable)
+    (field (codes "bool1") (bool_ty NonNullable)
+    (field (codes "bool2") (bool_ty NonNullable) no_fields)))))
+    NonNullable
+
+-- all operators by their numbers
+abbrev pub operators : List Operator
+operators =
+    Operator.Eq ∷ Operator.NotEq ∷ Operator.Gt ∷ Operator.Gte ∷ Operator.Lt ∷ Operator.Lte ∷ Operator.And ∷ Operator.Or ∷ Operator.Add ∷ Operator.Sub ∷ []
+
+-- true, false, null and a fault
+abbrev pub values_of_truth : List Val
+values_of_truth = bool_val true ∷ bool_val false ∷ null_val ∷ fault ∷ []
