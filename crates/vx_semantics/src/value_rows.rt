@@ -231,6 +231,7 @@ pub fn compares_with_a_slot()
 /// The node breaks that makes the fault, not one above it.
 pub fn breaks_where_the_fault_arises()
     ensures sum { break_of (struct_ty no_fields NonNullable) [] (struct_val no_members) (number I8 (pos 127) ⟨ Add ⟩ number I8 (pos 1)) ≡ Some by_sum }
+    ensures difference { break_of (struct_ty no_fields NonNullable) [] (struct_val no_members) (number I8 (negsuc 127) ⟨ Sub ⟩ number I8 (pos 1)) ≡ Some by_sum }
     ensures above { break_of (struct_ty no_fields NonNullable) [] (struct_val no_members) ((number I8 (pos 127) ⟨ Add ⟩ number I8 (pos 1)) ⟨ Sub ⟩ number I8 (pos 1)) ≡ None }
     ensures a_cast { break_of (struct_ty no_fields NonNullable) [] (struct_val no_members) (cast (number I8 (negsuc 0)) (int_ty U8 NonNullable)) ≡ Some by_cast }
     ensures a_sound_cast { break_of (struct_ty no_fields NonNullable) [] (struct_val no_members) (cast (number I8 (pos 1)) (int_ty U8 NonNullable)) ≡ None }
