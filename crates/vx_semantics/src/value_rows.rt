@@ -235,6 +235,7 @@ pub fn breaks_where_the_fault_arises()
     ensures above { break_of (struct_ty no_fields NonNullable) [] (struct_val no_members) ((number I8 (pos 127) ⟨ Add ⟩ number I8 (pos 1)) ⟨ Sub ⟩ number I8 (pos 1)) ≡ None }
     ensures a_cast { break_of (struct_ty no_fields NonNullable) [] (struct_val no_members) (cast (number I8 (negsuc 0)) (int_ty U8 NonNullable)) ≡ Some by_cast }
     ensures a_sound_cast { break_of (struct_ty no_fields NonNullable) [] (struct_val no_members) (cast (number I8 (pos 1)) (int_ty U8 NonNullable)) ≡ None }
+    ensures a_cast_of_a_fault { break_of (struct_ty no_fields NonNullable) [] (struct_val no_members) (cast (number I8 (pos 127) ⟨ Add ⟩ number I8 (pos 1)) (int_ty U8 NonNullable)) ≡ None }
     ensures no_other { break_of (struct_ty no_fields NonNullable) [] (struct_val no_members) (number I8 (pos 127)) ≡ None }
 {}
 
