@@ -1,3 +1,7 @@
+pub mod PrintingLemmas
+pub mod OrderLemmas
+pub mod FitLemmas
+pub mod ValuedLemmas
 pub mod ZippedLemmas
 pub mod RawLemmas
 pub mod PathLemmas

@@ -22,6 +22,7 @@ pub use names::{FieldName, FieldNames, Text};
 pub use nulls::Nullability;
 pub use paths::{Field, FieldPath, FieldPathSet};
 pub use scalars::Scalar;
+pub use scalars::errors::{ScalarError, WrongValue};
 pub use statistics::Stat;
 pub use types::{DType, ElementType, StructFields};
 pub use values::ScalarValue;

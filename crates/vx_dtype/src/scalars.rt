@@ -8,12 +8,19 @@ ghost use Rattle.vx_dtype.specs.Feeds.{typed_feed};
 ghost use Rattle.vx_dtype.specs.Fits.{fits};
 ghost use Rattle.vx_dtype.specs.TypeViews.{type_view};
 ghost use Rattle.vx_dtype.specs.RawViews.{raw_view};
+ghost use Rattle.vx_dtype.specs.ScalarAnswers.{is_raw_null};
 
 use crate::types::DType;
 use crate::values::ScalarValue;
 use std::alloc::AllocError;
 use std::hash::{Hash, Hasher};
 use std::marker::Model;
+
+mod conversions;
+pub(crate) mod errors;
+mod making;
+mod order;
+mod printing;
 
 /// A value of a type. The value is one of the type. A scalar is seen as both together.
 #[derive(Debug, Drop)]
@@ -54,6 +61,13 @@ impl Scalar {
         ensures within { fits self.now.value self.now.ty ≡ true }
     {
         &self.value
+    }
+
+    /// Whether the value is null.
+    pub fn is_null(&self) -> bool
+        ensures { result ≡ is_raw_null self.now.value }
+    {
+        matches!(self.value, ScalarValue::Null)
     }
 }
 

@@ -16,8 +16,10 @@ mod depth;
 mod display;
 mod equality;
 mod fields;
+pub(crate) mod fitting;
 mod likeness;
 mod nullability;
+pub(crate) mod printing;
 
 /// The type of a value.
 #[cycle(types)]
