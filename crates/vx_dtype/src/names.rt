@@ -1,8 +1,7 @@
 // Texts, names of fields, and lists of names. Clones share their bytes.
-ghost use Rattle.std.specs.Prelude.{◌≡◌, [], ◌++◌, Some, length, map, position, IfOk, option_copied};
+ghost use Rattle.std.specs.Prelude.{◌≡◌, [], ◌++◌, Some, length, map, position, IfOk, Decides, option_copied};
 ghost use Rattle.std.specs.List.{slice_get};
 ghost use Rattle.std.specs.Str.{bytes_eq};
-ghost use Rattle.std.specs.Prelude.{Decides};
 ghost use Rattle.std.specs.Cmp.{partial_equiv_from_equiv};
 ghost use Rattle.std.proofs.Common.{ap};
 ghost use Rattle.std.proofs.lemmas.Slice.Eq.{bytes_eq-Decides};
