@@ -1,6 +1,7 @@
 pub mod Typing
 pub mod LooseTyping
 pub mod Meaning
+pub mod Slots
 pub mod Breaks
 pub mod Asked
 pub mod Tables

@@ -4,6 +4,7 @@ use Rattle.std.specs.Str.{bytes_eq}
 use Rattle.vx_dtype.specs.declared.Nullability.TheVariants.{NonNullable}
 use Rattle.vx_dtype.specs.declared.Stat.{Stat}
 use Rattle.vx_dtype.specs.declared.Stat.TheVariants.{Min, Max, NaNCount, NullCount}
+use Rattle.vx_dtype.specs.StatNames.{stat_name}
 use Rattle.vx_dtype.specs.Types.{Bytes, Ty, struct_ty, Fields}
 use Rattle.vx_dtype.specs.Values.{Val, Typed}
 
@@ -46,13 +47,6 @@ abbrev pub same_path : List Bytes → List Bytes → Bool
 same_path [] [] = true
 same_path (f ∷ fs) (g ∷ gs) = bytes_eq f g && same_path fs gs
 same_path _ _ = false
-
--- the name of a statistic: min, max, nan_count, null_count
-abbrev pub stat_name : Stat → Bytes
-stat_name Min = codes "min"
-stat_name Max = codes "max"
-stat_name NaNCount = codes "nan_count"
-stat_name NullCount = codes "null_count"
 
 -- the joined name of a statistic of a path: the path's names and the statistic's, with `_` between
 abbrev pub joined_name : List Bytes → Stat → Bytes

@@ -6,6 +6,7 @@ use Rattle.vx_dtype.specs.declared.Nullability.{Nullability}
 use Rattle.vx_dtype.specs.declared.Nullability.TheVariants.{NonNullable}
 use Rattle.vx_dtype.specs.Types.{Bytes, Ty, bool_ty, list_ty, struct_ty, Fields, no_fields, field}
 use Rattle.vx_dtype.specs.TypeRules.{is_nullable, union, nullability_of, with_nullability, widened, same_type, is_plain, is_bool_ty, is_int_ty, is_text_ty, fields_of, field_names, field_type, has_name, distinct_names, no_name_twice}
+use Rattle.vx_dtype.specs.StructTypes.{is_struct_ty}
 use Rattle.vx_dtype.specs.Values.{Typed}
 use Rattle.vx_dtype.specs.Fits.{fits}
 use Rattle.vx_dtype.specs.Casts.{takes_cast}
@@ -98,11 +99,6 @@ zip_fields (f ∷ fs) (t ∷ ts) = field f t (zip_fields fs ts)
 -- the struct of named values; one with more names than values, or fewer, has no type
 abbrev pub pack_type : List Bytes → Nullability → List Ty → Result Ty Refusal
 pack_type names n ts = unless (distinct_names names) duplicate_field (unless (nat_eq (length names) (length ts)) type_mismatch (Ok (struct_ty (zip_fields names ts) n)))
-
--- whether a type is a struct
-abbrev pub is_struct_ty : Ty → Bool
-is_struct_ty (struct_ty fs n) = true
-is_struct_ty _ = false
 
 -- the names of a type's fields, in order
 abbrev pub names_in : Ty → List Bytes
