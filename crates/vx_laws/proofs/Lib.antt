@@ -1,0 +1,13 @@
+pub mod Kleene
+pub mod Comparing
+pub mod Conjunctions
+pub mod Inverting
+pub mod Fitting
+pub mod Structs
+pub mod Preserving
+pub mod Distinct
+pub mod Lookups
+pub mod Sound
+pub mod Paths
+pub mod Faultless
+pub mod Swapping

@@ -1,0 +1,5 @@
+use Rattle.vx_laws.proofs.Preserving.{faults_are_plain}
+use Rattle.vx_laws.proofs.values.faults_are_plain.Goals as goal
+
+pub returns : goal.returns
+returns c = faults_are_plain

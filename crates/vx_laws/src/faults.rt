@@ -1,0 +1,9 @@
+// Where what an expression means holds no fault.
+
+ghost use Rattle.vx_laws.specs.Faults.{NoBreakNoFault};
+
+/// At a row of the scope's type at which no asked node of a strictly typed expression breaks, and with slots that fit,
+/// what the expression means there holds no fault, at any depth.
+pub fn no_break_no_fault()
+    ensures { NoBreakNoFault }
+{}

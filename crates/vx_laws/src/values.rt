@@ -1,0 +1,14 @@
+// What the values of a strictly typed expression are.
+
+ghost use Rattle.vx_laws.specs.Values.{FaultsArePlain, MeaningFits};
+
+/// At a row that fits the scope's type, but perhaps for faults in place of plain values, and with slots that fit,
+/// a strictly typed expression means a value that fits its type but for such faults.
+pub fn meaning_fits_the_type()
+    ensures { MeaningFits }
+{}
+
+/// At such a row, with slots that fit, a strictly typed expression means a fault itself only where its type is plain: one of struct or list type never does.
+pub fn faults_are_plain()
+    ensures { FaultsArePlain }
+{}

@@ -1,0 +1,13 @@
+pub mod Ordered
+pub mod Bounds
+pub mod HonestRows
+pub mod Ruling
+pub mod Keeping
+pub mod Alike
+pub mod Columns
+pub mod Constants
+pub mod Connectives
+pub mod Comparisons
+pub mod Memberships
+pub mod Exacting
+pub mod Phases

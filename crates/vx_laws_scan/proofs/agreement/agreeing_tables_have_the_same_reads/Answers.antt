@@ -1,0 +1,5 @@
+use Rattle.vx_laws_scan.proofs.Columns.{agreeing_tables_reads}
+use Rattle.vx_laws_scan.proofs.agreement.agreeing_tables_have_the_same_reads.Goals as goal
+
+pub returns : goal.returns
+returns c = agreeing_tables_reads

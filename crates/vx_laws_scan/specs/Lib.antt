@@ -1,0 +1,4 @@
+pub mod Pruned
+pub mod Agreeing
+pub mod Exactness
+pub mod Quiet
