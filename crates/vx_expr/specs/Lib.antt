@@ -1,3 +1,17 @@
 pub mod Trees
 pub mod Operators
 pub mod Conjuncts
+pub mod Heights
+pub mod Packed
+pub mod Codes
+pub mod Nodes
+pub mod Depths
+pub mod Answers
+pub mod Children
+pub mod Slots
+pub mod Selections
+pub mod OperatorTexts
+pub mod Equal
+pub mod EqualLaws
+pub mod Feeds
+pub mod SelectionTexts

@@ -1,8 +1,33 @@
 //! Expressions over nested nullable columns: the tree by kind, and the operators.
 #![tactic(auto)]
 
+mod children;
+mod equality;
+mod errors;
+mod expressions;
+mod exprs;
 mod operators;
+mod selection_texts;
 mod selections;
+mod vortex_expr;
 
+pub use children::ExprId;
+pub use errors::ExprError;
+pub use expressions::{Expr, ExprRef};
+pub use exprs::between::BetweenExpr;
+pub use exprs::binary::BinaryExpr;
+pub use exprs::cast::CastExpr;
+pub use exprs::dynamic::DynamicComparisonExpr;
+pub use exprs::get_item::GetItemExpr;
+pub use exprs::is_null::IsNullExpr;
+pub use exprs::like::LikeExpr;
+pub use exprs::list_contains::ListContainsExpr;
+pub use exprs::literal::LiteralExpr;
+pub use exprs::merge::MergeExpr;
+pub use exprs::not::NotExpr;
+pub use exprs::pack::PackExpr;
+pub use exprs::root::RootExpr;
+pub use exprs::select::SelectExpr;
 pub use operators::Operator;
 pub use selections::FieldSelection;
+pub use vortex_expr::VortexExpr;

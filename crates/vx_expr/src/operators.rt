@@ -1,9 +1,18 @@
 // The operators of a binary expression.
+ghost use Rattle.std.specs.Prelude.{◌≡◌, pos, Some};
+ghost use Rattle.vx_expr.specs.Operators.{operator_number, operator_of, comparison_of, inverse_of, logical_inverse_of, swapped};
+ghost use Rattle.vx_expr.specs.OperatorTexts.{operator_text, operator_numbered};
+ghost use Rattle.vx_expr.specs.Answers.{Answers};
+ghost use Rattle.vx_expr.specs.declared.errors.ExprError.TheVariants.{UnknownOperator, NotComparison};
+
+use crate::errors::ExprError;
+use std::fmt;
+use vx_dtype::CompareOperator;
 
 /// An operator of two operands.
 ///
 /// And and Or obey the three-valued logic after Kleene; the others give null where an operand is null.
-#[derive(Clone, Copy, PartialEq, Eq, Hash, Debug)]
+#[derive(Clone, Copy, PartialEq, Eq, PartialOrd, Hash, Debug)]
 pub enum Operator {
     Eq,
     NotEq,
@@ -15,4 +24,190 @@ pub enum Operator {
     Or,
     Add,
     Sub,
+}
+
+impl Operator {
+    /// The comparison that is true where this one is false, and None for the operators that are no comparison.
+    pub fn inverse(self) -> Option<Operator>
+        ensures { result ≡ inverse_of self }
+    {
+        match self {
+            Operator::Eq => Some(Operator::NotEq),
+            Operator::NotEq => Some(Operator::Eq),
+            Operator::Gt => Some(Operator::Lte),
+            Operator::Gte => Some(Operator::Lt),
+            Operator::Lt => Some(Operator::Gte),
+            Operator::Lte => Some(Operator::Gt),
+            Operator::And | Operator::Or | Operator::Add | Operator::Sub => None,
+        }
+    }
+
+    /// And and Or exchanged, and None for the rest.
+    pub fn logical_inverse(self) -> Option<Operator>
+        ensures { result ≡ logical_inverse_of self }
+    {
+        match self {
+            Operator::And => Some(Operator::Or),
+            Operator::Or => Some(Operator::And),
+            _ => None,
+        }
+    }
+
+    /// The operator for exchanged operands: greater and less exchanged, and all others, Sub too, as they are.
+    pub fn swap(self) -> Operator
+        ensures { result ≡ swapped self }
+    {
+        match self {
+            Operator::Gt => Operator::Lt,
+            Operator::Gte => Operator::Lte,
+            Operator::Lt => Operator::Gt,
+            Operator::Lte => Operator::Gte,
+            other => other,
+        }
+    }
+
+    /// The comparison that the operator is, and None for And, Or, Add and Sub.
+    pub fn maybe_cmp_operator(self) -> Option<CompareOperator>
+        ensures { result ≡ comparison_of self }
+    {
+        match self {
+            Operator::Eq => Some(CompareOperator::Eq),
+            Operator::NotEq => Some(CompareOperator::NotEq),
+            Operator::Gt => Some(CompareOperator::Gt),
+            Operator::Gte => Some(CompareOperator::Gte),
+            Operator::Lt => Some(CompareOperator::Lt),
+            Operator::Lte => Some(CompareOperator::Lte),
+            Operator::And | Operator::Or | Operator::Add | Operator::Sub => None,
+        }
+    }
+
+    /// The number of the operator, from 0 to 9.
+    pub(crate) fn number(self) -> u8
+        ensures { result ≡ operator_number self }
+    {
+        match self {
+            Operator::Eq => 0,
+            Operator::NotEq => 1,
+            Operator::Gt => 2,
+            Operator::Gte => 3,
+            Operator::Lt => 4,
+            Operator::Lte => 5,
+            Operator::And => 6,
+            Operator::Or => 7,
+            Operator::Add => 8,
+            Operator::Sub => 9,
+        }
+    }
+}
+
+impl From<Operator> for i32 {
+    ghost from_gives = { λ operator number. number ≡ pos (operator_number operator) };
+
+    fn from(operator: Operator) -> i32 {
+        i32::from(operator.number())
+    }
+}
+
+impl From<CompareOperator> for Operator {
+    ghost from_gives = { λ comparison operator. operator ≡ operator_of comparison };
+
+    fn from(comparison: CompareOperator) -> Operator {
+        match comparison {
+            CompareOperator::Eq => Operator::Eq,
+            CompareOperator::NotEq => Operator::NotEq,
+            CompareOperator::Gt => Operator::Gt,
+            CompareOperator::Gte => Operator::Gte,
+            CompareOperator::Lt => Operator::Lt,
+            CompareOperator::Lte => Operator::Lte,
+        }
+    }
+}
+
+impl TryFrom<i32> for Operator {
+    type Error = ExprError;
+
+    ghost try_from_gives = { λ number answer. Answers UnknownOperator (operator_numbered number) answer };
+
+    fn try_from(number: i32) -> Result<Operator, ExprError> {
+        match number {
+            0 => Ok(Operator::Eq),
+            1 => Ok(Operator::NotEq),
+            2 => Ok(Operator::Gt),
+            3 => Ok(Operator::Gte),
+            4 => Ok(Operator::Lt),
+            5 => Ok(Operator::Lte),
+            6 => Ok(Operator::And),
+            7 => Ok(Operator::Or),
+            8 => Ok(Operator::Add),
+            9 => Ok(Operator::Sub),
+            _ => Err(ExprError::UnknownOperator),
+        }
+    }
+}
+
+impl TryFrom<Operator> for CompareOperator {
+    type Error = ExprError;
+
+    ghost try_from_gives = { λ operator answer. Answers NotComparison (comparison_of operator) answer };
+
+    fn try_from(operator: Operator) -> Result<CompareOperator, ExprError> {
+        operator
+            .maybe_cmp_operator()
+            .ok_or(ExprError::NotComparison)
+    }
+}
+
+impl fmt::Display for Operator {
+    ghost output = { λ operator. Some (operator_text operator) };
+
+    fn fmt<W: fmt::Write>(&self, f: &mut fmt::Formatter<W>) -> fmt::Result {
+        match self {
+            Operator::Eq => write!(f, "="),
+            Operator::NotEq => write!(f, "!="),
+            Operator::Gt => write!(f, ">"),
+            Operator::Gte => write!(f, ">="),
+            Operator::Lt => write!(f, "<"),
+            Operator::Lte => write!(f, "<="),
+            Operator::And => write!(f, "and"),
+            Operator::Or => write!(f, "or"),
+            Operator::Add => write!(f, "+"),
+            Operator::Sub => write!(f, "-"),
+        }
+    }
+}
+
+#[cfg(test)]
+mod tests {
+    use super::Operator;
+    use crate::errors::ExprError;
+    use std::test::Fail;
+
+    /// The operators in the order of their numbers.
+    const OPERATORS: [Operator; 10] = [
+        Operator::Eq,
+        Operator::NotEq,
+        Operator::Gt,
+        Operator::Gte,
+        Operator::Lt,
+        Operator::Lte,
+        Operator::And,
+        Operator::Or,
+        Operator::Add,
+        Operator::Sub,
+    ];
+
+    #[test]
+    fn numbers(rt: HostRuntime) -> Result<(), Fail> {
+        assert_eq!(rt; Operator::try_from(0), Ok(Operator::Eq));
+        assert_eq!(rt; Operator::try_from(5), Ok(Operator::Lte));
+        assert_eq!(rt; Operator::try_from(9), Ok(Operator::Sub));
+        assert_eq!(rt; Operator::try_from(-1), Err(ExprError::UnknownOperator));
+        assert_eq!(rt; Operator::try_from(10), Err(ExprError::UnknownOperator));
+        let mut number = 0i32;
+        for operator in OPERATORS {
+            assert_eq!(rt; i32::from(operator), number);
+            number = number.wrapping_add(1);
+        }
+        Ok(())
+    }
 }

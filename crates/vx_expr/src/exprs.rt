@@ -1,0 +1,16 @@
+// The kinds of expressions.
+
+pub mod between;
+pub mod binary;
+pub mod cast;
+pub mod dynamic;
+pub mod get_item;
+pub mod is_null;
+pub mod like;
+pub mod list_contains;
+pub mod literal;
+pub mod merge;
+pub mod not;
+pub mod pack;
+pub mod root;
+pub mod select;

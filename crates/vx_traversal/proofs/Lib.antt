@@ -1,0 +1,5 @@
+pub mod Steps
+pub mod VisitLemmas
+pub mod RewriteLemmas
+pub mod FoldLemmas
+pub mod ContainerLemmas

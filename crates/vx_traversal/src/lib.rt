@@ -1,0 +1,33 @@
+//! Generic walks over trees: visits, rewrites and folds over every [`Node`], and the containers
+//! that hold a node's children.
+#![tactic(auto)]
+
+mod containers;
+mod errors;
+mod ext;
+mod fold;
+mod folding;
+mod nodes;
+#[cfg(test)]
+mod numbers;
+mod order;
+mod rewriter;
+mod rewriting;
+#[cfg(test)]
+mod tests;
+mod transform;
+mod visitor;
+mod walking;
+
+pub use containers::{
+    ByCall, EachCursor, ElementMapper, EqualClone, NodeContainer, NodeRefContainer, PairCursor,
+    map_single,
+};
+pub use errors::{Walk, WalkError};
+pub use ext::NodeExt;
+pub use fold::{FoldDown, FoldDownContext, FoldUp, NodeFolder, NodeFolderContext};
+pub use nodes::Node;
+pub use order::TraversalOrder;
+pub use rewriter::NodeRewriter;
+pub use transform::Transformed;
+pub use visitor::{NodeVisitor, pre_order_visit_down, pre_order_visit_up};
