@@ -1,8 +1,8 @@
 //! Why a walk ended early.
 ghost use Rattle.std.specs.Prelude.{◌≡◌};
 
-use vx_dtype::NoMemory;
 use std::alloc::{AllocError, AllocFailed};
+use vx_dtype::NoMemory;
 
 /// Why a walk that takes memory answered no value.
 #[derive(Debug, Drop, PartialEq, Eq)]

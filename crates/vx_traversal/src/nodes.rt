@@ -5,10 +5,10 @@ ghost use Rattle.vx_traversal.specs.Rewrites.{CalledWith, MapsChildren, Rebuilds
 ghost use Rattle.vx_traversal.specs.Visits.{InTurn};
 
 use crate::errors::Walk;
-use vx_dtype::Mem;
 use crate::order::TraversalOrder;
 use crate::transform::Transformed;
 use std::alloc::Global;
+use vx_dtype::Mem;
 
 /// A tree: a node has its children in order, and a height above the height of each child.
 pub trait Node: Sized + Clone {

@@ -3,13 +3,13 @@ ghost use Rattle.std.specs.Prelude.{◌≡◌, IfOk};
 
 use crate::containers::{ElementMapper, EqualClone, NodeContainer, map_single};
 use crate::errors::Walk;
-use vx_dtype::Mem;
 use crate::nodes::Node;
 use crate::order::TraversalOrder;
 use crate::transform::Transformed;
 use std::alloc::{AllocError, Global};
 use std::marker::Model;
 use std::rc::Rc;
+use vx_dtype::Mem;
 
 /// A number with trees of numbers below it, shared with its clones. It is seen as that tree.
 #[derive(Drop)]

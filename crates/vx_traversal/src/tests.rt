@@ -7,7 +7,6 @@ use crate::containers::{NodeContainer, NodeRefContainer};
 use crate::errors::{Walk, WalkError};
 use crate::ext::NodeExt;
 use crate::fold::{FoldDown, FoldDownContext, FoldUp, NodeFolder, NodeFolderContext};
-use vx_dtype::{Mem, NoMemory};
 use crate::nodes::Node;
 use crate::numbers::Numbers;
 use crate::order::TraversalOrder;
@@ -17,6 +16,7 @@ use crate::visitor::{NodeVisitor, pre_order_visit_down, pre_order_visit_up};
 use std::alloc::Global;
 use std::rc::Rc;
 use std::test::Fail;
+use vx_dtype::{Mem, NoMemory};
 
 fn leaf(alloc: Global, value: u64) -> Mem<Numbers> {
     Numbers::new(alloc, value, Vec::new(alloc))

@@ -1,0 +1,9 @@
+mod FitLemmas
+mod RowLemmas
+mod OrderLemmas
+mod NameLemmas
+mod MadeLemmas
+mod SumLemmas
+mod ListLemmas
+mod CastLemmas
+mod FieldLemmas

@@ -1,0 +1,34 @@
+use Rattle.std.proofs.Common.{◌≡◌, true, refl, ap, sym, ◌∙◌, map, Some, None, Ok}
+use Rattle.std.specs.Str.{bytes_eq}
+use Rattle.std.specs.List.{position}
+use Rattle.vx_dtype.specs.Types.{struct_ty}
+use Rattle.vx_dtype.specs.TypeRules.{no_name_twice, field_type, field_names, fields_of, nullability_of, widened}
+use Rattle.vx_dtype.specs.TypeViews.{type_view}
+use Rattle.vx_dtype.specs.Structs.{field_of}
+use Rattle.vx_column.specs.Columns.{column}
+use Rattle.vx_column.proofs.FieldLemmas.{field_missing, field_typed, names_at, names_of_struct, names_widened}
+use Rattle.vx_column.proofs.columns.ColumnRef.field.Goals as goal
+
+pub returns-in_default-position : goal.returns-in_default-position
+returns-in_default-position c =
+    let ty : c.args.self.now.ty ≡ struct_ty c.in-Struct.fields c.in-Struct.nullability = sym c.dtype.ensures.shown ∙ ap type_view c.in-Struct.is in
+    let place : position (bytes_eq c.args.name.now) (field_names c.in-Struct.fields) ≡ None = rw c.names.ensures at (sym c.position.ensures ∙ c.in_default-position.is) in
+    let missing : field_type c.args.name.now (fields_of c.args.self.now.ty) ≡ None = ap (λ t. field_type c.args.name.now (fields_of t)) ty ∙ field_missing c.args.name.now c.in-Struct.fields place in
+    rw missing refl
+
+pub map_column-requires-clause-names : goal.map_column-requires-clause-names
+map_column-requires-clause-names c =
+    let ty : c.args.self.now.ty ≡ struct_ty c.in-Struct.fields c.in-Struct.nullability = sym c.dtype.ensures.shown ∙ ap type_view c.in-Struct.is in
+    let names : no_name_twice (struct_ty c.in-Struct.fields c.in-Struct.nullability) ≡ true = ap no_name_twice (sym ty) ∙ c.dtype.ensures.names in
+    let below = names_of_struct c.in-Struct.fields c.in-Struct.nullability names in
+    let here = names_at c.in-Struct.fields c.in-Some.place _ below c.type_at.ensures in
+    ap no_name_twice c.in_ok-dtype.ensures ∙ names_widened _ _ here
+
+pub returns : goal.returns
+returns c =
+    let ty : c.args.self.now.ty ≡ struct_ty c.in-Struct.fields c.in-Struct.nullability = sym c.dtype.ensures.shown ∙ ap type_view c.in-Struct.is in
+    let place : position (bytes_eq c.args.name.now) (field_names c.in-Struct.fields) ≡ Some c.in-Some.place = rw c.names.ensures at (sym c.position.ensures ∙ c.in-Some.is) in
+    let there : field_type c.args.name.now (fields_of c.args.self.now.ty) ≡ Some (type_view c.type_at.result.now) = ap (λ t. field_type c.args.name.now (fields_of t)) ty ∙ field_typed c.args.name.now c.in-Struct.fields c.in-Some.place _ place c.type_at.ensures in
+    let made : c.in_ok-map_column.field-0.ty ≡ widened (type_view c.type_at.result.now) (nullability_of c.args.self.now.ty) = c.in_ok-map_column.ensures.dtype ∙ c.in_ok-dtype.ensures ∙ ap (λ t. widened (type_view c.type_at.result.now) (nullability_of t)) (sym ty) in
+    let same : c.in_ok-map_column.field-0 ≡ column (widened (type_view c.type_at.result.now) (nullability_of c.args.self.now.ty)) (map (field_of c.args.name.now) c.args.self.now.rows) = λ i. column (made i) (c.in_ok-map_column.ensures.rows i) in
+    rw there (ap (λ d. Ok d) same)

@@ -1,0 +1,202 @@
+// Comparisons of plain columns.
+ghost use Rattle.std.specs.Prelude.{◌≡◌, true, length, map, option_map, IfOk};
+ghost use Rattle.vx_dtype.specs.Types.{bool_ty};
+ghost use Rattle.vx_dtype.specs.TypeRules.{is_plain, same_type, nullability_of, union};
+ghost use Rattle.vx_dtype.specs.TypeViews.{type_view};
+ghost use Rattle.vx_dtype.specs.Order.{meets, compare3, bound_operator, between3};
+ghost use Rattle.vx_dtype.specs.RawViews.{raw_view, raws_of};
+ghost use Rattle.vx_dtype.specs.Lists.{contains3};
+ghost use Rattle.vx_column.specs.Columns.{zip_rows, zip_rows3};
+ghost use Rattle.vx_column.specs.RawParts.{raw_order, raw_equal, raws_have, raw_contains, lists_kind};
+
+use crate::columns::ColumnRef;
+use crate::logic::{and_kleene, is_null_value, of_truth};
+use crate::rows::{PairRule, zip_columns};
+use std::alloc::Global;
+use std::cmp::Ordering;
+use vx_dtype::{BetweenOptions, CompareOperator, DType, Mem, ScalarValue, StrictComparison};
+
+/// How two plain values of one kind stand: false before true, numbers by value, texts by their bytes. None where one of them is null.
+pub(crate) fn order_of(l: &ScalarValue, r: &ScalarValue) -> Option<Ordering>
+    ensures { result ≡ raw_order (raw_view l.now) (raw_view r.now) }
+{
+    match (l, r) {
+        (ScalarValue::Bool(a), ScalarValue::Bool(b)) => Some(a.cmp(b)),
+        (ScalarValue::Int(a), ScalarValue::Int(b)) => Some(a.cmp(b)),
+        (ScalarValue::Utf8(a), ScalarValue::Utf8(b)) => Some(a.as_str().cmp(b.as_str())),
+        _ => None,
+    }
+}
+
+/// Whether a comparison holds of values that stand so.
+fn holds(op: CompareOperator, order: Ordering) -> bool
+    ensures { result ≡ meets op order }
+{
+    match op {
+        CompareOperator::Eq => order.is_eq(),
+        CompareOperator::NotEq => order.is_ne(),
+        CompareOperator::Gt => order.is_gt(),
+        CompareOperator::Gte => order.is_ge(),
+        CompareOperator::Lt => order.is_lt(),
+        CompareOperator::Lte => order.is_le(),
+    }
+}
+
+/// Whether a comparison holds, and none where there is no order.
+fn compared(op: CompareOperator, order: Option<Ordering>) -> Option<bool>
+    ensures { result ≡ option_map (meets op) order }
+{
+    match order {
+        Some(order) => Some(holds(op, order)),
+        None => None,
+    }
+}
+
+/// The comparison of values of two plain types, which are equal but for nullability.
+#[derive(Drop)]
+struct Comparison<'a> {
+    op: CompareOperator,
+    left: &'a DType,
+    right: &'a DType,
+    ghost plain: { is_plain (type_view left.now) ≡ true },
+    ghost same: { same_type (type_view left.now) (type_view right.now) ≡ true },
+}
+
+impl PairRule for Comparison<'_> {
+    ghost left = { λ a. type_view a.left.now };
+
+    ghost right = { λ a. type_view a.right.now };
+
+    ghost made = { λ a. bool_ty (union (nullability_of (type_view a.left.now)) (nullability_of (type_view a.right.now))) };
+
+    ghost rule = { λ a. compare3 a.op };
+
+    #[tactic(auto, using(crate::proofs::OrderLemmas::compare3_valued, crate::proofs::OrderLemmas::order_fits))]
+    fn at(&self, _alloc: Global, l: &ScalarValue, r: &ScalarValue) -> Mem<ScalarValue> {
+        Ok(of_truth(compared(self.op, order_of(l, r))))
+    }
+}
+
+/// Whether a comparison holds, row by row: false before true, numbers by value, texts by their bytes; null where a side is null.
+#[tactic(auto, unfolding(vx_dtype::specs::TypeRules::no_name_twice))]
+pub fn compare(alloc: Global, l: &ColumnRef, r: &ColumnRef, op: CompareOperator) -> Mem<ColumnRef>
+    requires plain { is_plain l.now.ty ≡ true }
+    requires same { same_type l.now.ty r.now.ty ≡ true }
+    requires lengths { length l.now.rows ≡ length r.now.rows }
+    ensures dtype { IfOk result (λ c. c.ty ≡ bool_ty (union (nullability_of l.now.ty) (nullability_of r.now.ty))) }
+    ensures rows { IfOk result (λ c. c.rows ≡ zip_rows (compare3 op) l.now.rows r.now.rows) }
+{
+    let left = l.dtype();
+    let right = r.dtype();
+    let dtype = DType::Bool(left.nullability().union(right.nullability()));
+    zip_columns(alloc, &Comparison { op, left, right }, dtype, l, r)
+}
+
+/// The comparison that a bound asks: less where it is strict, else less or equal.
+fn bound_operator(strict: StrictComparison) -> CompareOperator
+    ensures { result ≡ bound_operator strict }
+{
+    match strict {
+        StrictComparison::Strict => CompareOperator::Lt,
+        StrictComparison::NonStrict => CompareOperator::Lte,
+    }
+}
+
+/// Whether the lower bound stands before the value and the value before the upper bound, row by row. The conjunction is Kleene's, also beside a null bound.
+pub fn between(
+    alloc: Global,
+    c: &ColumnRef,
+    lower: &ColumnRef,
+    upper: &ColumnRef,
+    options: BetweenOptions,
+) -> Mem<ColumnRef>
+    requires plain { is_plain c.now.ty ≡ true }
+    requires lower { same_type c.now.ty lower.now.ty ≡ true }
+    requires upper { same_type c.now.ty upper.now.ty ≡ true }
+    requires lower_length { length c.now.rows ≡ length lower.now.rows }
+    requires upper_length { length c.now.rows ≡ length upper.now.rows }
+    ensures dtype { IfOk result (λ made. made.ty ≡ bool_ty (union (nullability_of c.now.ty) (union (nullability_of lower.now.ty) (nullability_of upper.now.ty)))) }
+    ensures rows { IfOk result (λ made. made.rows ≡ zip_rows3 (between3 options) c.now.rows lower.now.rows upper.now.rows) }
+{
+    let above = compare(alloc, lower, c, bound_operator(options.lower_strict))?;
+    let below = compare(alloc, c, upper, bound_operator(options.upper_strict))?;
+    and_kleene(alloc, &above, &below)
+}
+
+/// Whether two plain values of one kind are equal; null equals nothing.
+fn equal(l: &ScalarValue, r: &ScalarValue) -> bool
+    ensures { result ≡ raw_equal (raw_view l.now) (raw_view r.now) }
+{
+    match order_of(l, r) {
+        Some(order) => order.is_eq(),
+        None => false,
+    }
+}
+
+/// Whether one of the elements equals a value.
+fn has_element(items: &[ScalarValue], value: &ScalarValue) -> bool
+    ensures { result ≡ raws_have (raws_of (map raw_view items.now)) (raw_view value.now) }
+{
+    for item in items {
+        if equal(item, value) {
+            return true;
+        }
+    }
+    false
+}
+
+/// Whether a list holds a value, and none where one of the two is null.
+fn contains(list: &ScalarValue, value: &ScalarValue) -> Option<bool>
+    ensures { result ≡ raw_contains (raw_view list.now) (raw_view value.now) }
+{
+    match list {
+        ScalarValue::List(items) => {
+            if is_null_value(value) {
+                return None;
+            }
+            Some(has_element(items.as_slice(), value))
+        }
+        _ => None,
+    }
+}
+
+/// The membership of values of a type in lists of a type.
+#[derive(Drop)]
+struct Membership<'a> {
+    list: &'a DType,
+    value: &'a DType,
+    ghost kind: { lists_kind (type_view list.now) (type_view value.now) ≡ true },
+}
+
+impl PairRule for Membership<'_> {
+    ghost left = { λ a. type_view a.list.now };
+
+    ghost right = { λ a. type_view a.value.now };
+
+    ghost made = { λ a. bool_ty (union (nullability_of (type_view a.list.now)) (nullability_of (type_view a.value.now))) };
+
+    ghost rule = { λ _. contains3 };
+
+    #[tactic(auto, using(crate::proofs::ListLemmas::contains3_valued, crate::proofs::ListLemmas::contains_fits))]
+    fn at(&self, _alloc: Global, l: &ScalarValue, r: &ScalarValue) -> Mem<ScalarValue> {
+        Ok(of_truth(contains(l, r)))
+    }
+}
+
+/// Whether the list has an element that equals the value, row by row; null where one of the two is null. A null element equals nothing.
+#[tactic(auto, unfolding(vx_dtype::specs::TypeRules::no_name_twice))]
+pub fn list_contains(alloc: Global, list: &ColumnRef, value: &ColumnRef) -> Mem<ColumnRef>
+    requires kind { lists_kind list.now.ty value.now.ty ≡ true }
+    requires lengths { length list.now.rows ≡ length value.now.rows }
+    ensures dtype { IfOk result (λ c. c.ty ≡ bool_ty (union (nullability_of list.now.ty) (nullability_of value.now.ty))) }
+    ensures rows { IfOk result (λ c. c.rows ≡ zip_rows contains3 list.now.rows value.now.rows) }
+{
+    let lists = list.dtype();
+    let values = value.dtype();
+    let dtype = DType::Bool(lists.nullability().union(values.nullability()));
+    let rule = Membership {
+        list: lists,
+        value: values,
+    };
+    zip_columns(alloc, &rule, dtype, list, value)
+}

@@ -1,0 +1,81 @@
+// Fields of struct columns.
+ghost use Rattle.std.specs.Prelude.{◌≡◌, true, Some, position, option_copied};
+ghost use Rattle.std.specs.List.{slice_get};
+ghost use Rattle.std.specs.Str.{bytes_eq};
+ghost use Rattle.vx_dtype.specs.Types.{Fields, struct_ty};
+ghost use Rattle.vx_dtype.specs.declared.Nullability.{Nullability};
+ghost use Rattle.vx_dtype.specs.Fits.{fits};
+ghost use Rattle.vx_dtype.specs.RawViews.{raw_view};
+ghost use Rattle.vx_column.specs.Columns.{seen};
+ghost use Rattle.vx_dtype.specs.TypeRules.{field_names, widened};
+ghost use Rattle.vx_dtype.specs.StructTypes.{field_types, is_struct_ty};
+ghost use Rattle.vx_dtype.specs.Structs.{field_of};
+ghost use Rattle.vx_dtype.specs.TypeViews.{type_view};
+ghost use Rattle.vx_column.specs.Answers.{Answers, field_column, type_at_place, PartsOf};
+
+use crate::columns::ColumnRef;
+use crate::duplicates::type_at;
+use crate::errors::ColumnError;
+use crate::logic::null;
+use crate::rows::{RowRule, map_column};
+use std::alloc::Global;
+use vx_dtype::{DType, FieldName, Mem, Nullability, ScalarValue, StructFields};
+
+/// The field of struct values at the place of its name.
+#[derive(Drop)]
+struct FieldRule<'a> {
+    fields: &'a StructFields,
+    nullability: Nullability,
+    name: &'a FieldName,
+    place: usize,
+    ghost first: { position (bytes_eq name.now) (field_names fields.now) ≡ Some place },
+}
+
+impl RowRule for FieldRule<'_> {
+    ghost taken = { λ a. struct_ty a.fields.now a.nullability };
+
+    ghost made = { λ a. widened (type_at_place a.fields.now a.place) a.nullability };
+
+    ghost rule = { λ a. field_of a.name.now };
+
+    fn at(&self, _alloc: Global, value: &ScalarValue) -> Mem<ScalarValue> {
+        match parts_of(value) {
+            Some(values) => Ok(values[self.place].clone()?),
+            None => Ok(null()),
+        }
+    }
+}
+
+impl ColumnRef {
+    /// The column of the field with this name: null where the struct is null, and of a type that is nullable also where the struct's is. UnknownField exactly where there is no field of this name.
+    pub fn field(&self, alloc: Global, name: &FieldName) -> Result<ColumnRef, ColumnError>
+        requires { is_struct_ty self.now.ty ≡ true }
+        ensures { Answers result (field_column name.now self.now) }
+    {
+        let DType::Struct(fields, nullability) = self.dtype() else {
+            return Err(ColumnError::UnknownField);
+        };
+        let Some(place) = fields.names().position(name) else {
+            return Err(ColumnError::UnknownField);
+        };
+        let rule = FieldRule {
+            fields,
+            nullability: *nullability,
+            name,
+            place,
+        };
+        let dtype = type_at(fields, place).union_nullability(*nullability)?;
+        Ok(map_column(alloc, &rule, dtype, self)?)
+    }
+}
+
+/// The values of a struct's fields, and none of null.
+#[tactic(auto, unfolding(vx_dtype::specs::Fits::fits, vx_dtype::specs::Values::valued))]
+fn parts_of(value: &ScalarValue) -> Option<&[ScalarValue]>
+    ensures { (fs : Fields) (n : Nullability) → fits (raw_view value.now) (struct_ty fs n) ≡ true → PartsOf fs n (seen (struct_ty fs n) value.now) (option_copied result) }
+{
+    match value {
+        ScalarValue::Struct(values) => Some(values.as_slice()),
+        _ => None,
+    }
+}

@@ -1,0 +1,23 @@
+//! Plain columns of a columnar store, and row-wise work on them.
+#![tactic(auto)]
+
+mod casts;
+mod columns;
+mod comparisons;
+mod duplicates;
+mod errors;
+mod fields;
+mod logic;
+mod making;
+mod masks;
+mod rows;
+mod sums;
+#[cfg(test)]
+mod tests;
+
+pub use casts::cast;
+pub use columns::ColumnRef;
+pub use comparisons::{between, compare, list_contains};
+pub use errors::ColumnError;
+pub use logic::{and_kleene, invert, is_null, or_kleene};
+pub use sums::{checked_add, checked_sub};

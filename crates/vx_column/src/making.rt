@@ -1,0 +1,136 @@
+// Making columns of values.
+ghost use Rattle.std.specs.Prelude.{◌≡◌, true, map, Ok, IfOk};
+ghost use Rattle.std.proofs.Math.ListN.{replicate};
+ghost use Rattle.vx_dtype.specs.Types.{bool_ty, int_ty, text_ty, list_ty};
+ghost use Rattle.vx_dtype.specs.TypeRules.{no_name_twice};
+ghost use Rattle.vx_dtype.specs.Values.{raw_bool, raw_int, raw_text, raw_list, value_of};
+ghost use Rattle.vx_dtype.specs.RawViews.{raw_view, raws_of};
+ghost use Rattle.vx_dtype.specs.TypeViews.{type_view};
+ghost use Rattle.vx_column.specs.declared.errors.ColumnError.TheVariants.{DuplicateField};
+ghost use Rattle.vx_column.specs.Columns.{column};
+ghost use Rattle.vx_column.specs.Answers.{Answers, unless, optional_raw, list_raw, column_of_raws};
+
+use crate::columns::ColumnRef;
+use crate::duplicates::no_name_twice;
+use crate::errors::ColumnError;
+use std::alloc::Global;
+use std::rc::Rc;
+use vx_dtype::{DType, ElementType, Mem, Nullability, PType, Scalar, ScalarValue, Text};
+
+impl ColumnRef {
+    /// The column of these values of the type. WrongValue exactly where one of them isn't of the type; else DuplicateField exactly where a name stands twice in a struct of the type, at any depth.
+    #[tactic(auto, using(crate::proofs::MadeLemmas::clones_are_the_same))]
+    pub fn from_values(
+        alloc: Global,
+        dtype: DType,
+        values: &[ScalarValue],
+    ) -> Result<ColumnRef, ColumnError>
+        ensures { Answers result (column_of_raws (type_view dtype) (map raw_view values.now)) }
+    {
+        ColumnRef::of_values(alloc, dtype, Vec::from_clones(alloc, values)?)
+    }
+
+    /// The column of this many rows of one value. DuplicateField exactly where a name stands twice in a struct of its type, at any depth.
+    pub fn constant(alloc: Global, value: &Scalar, len: usize) -> Result<ColumnRef, ColumnError>
+        ensures { Answers result (unless (no_name_twice value.now.ty) DuplicateField (Ok (column value.now.ty (replicate len (value_of value.now))))) }
+    {
+        if !no_name_twice(value.dtype()) {
+            return Err(ColumnError::DuplicateField);
+        }
+        let rows = repeated(alloc, value.value(), len)?;
+        Ok(ColumnRef::of_rows(alloc, value.dtype().clone()?, rows)?)
+    }
+
+    /// The column of these booleans, null where there is none. WrongValue exactly where there is none and the type isn't nullable.
+    pub fn bool(
+        alloc: Global,
+        values: Vec<Option<bool>>,
+        n: Nullability,
+    ) -> Result<ColumnRef, ColumnError>
+        ensures { Answers result (column_of_raws (bool_ty n) (map (optional_raw raw_bool) values.items)) }
+    {
+        let mut rows = Vec::with_capacity(alloc, values.len())?;
+        for value in values {
+            rows.push(match value {
+                Some(b) => ScalarValue::Bool(b),
+                None => ScalarValue::Null,
+            })?;
+        }
+        ColumnRef::of_values(alloc, DType::Bool(n), rows)
+    }
+
+    /// The column of these numbers of an integer type, null where there is none. WrongValue exactly where a number is out of the type's range, or there is none and the type isn't nullable.
+    pub fn primitive(
+        alloc: Global,
+        p: PType,
+        values: Vec<Option<i128>>,
+        n: Nullability,
+    ) -> Result<ColumnRef, ColumnError>
+        ensures { Answers result (column_of_raws (int_ty p n) (map (optional_raw raw_int) values.items)) }
+    {
+        let mut rows = Vec::with_capacity(alloc, values.len())?;
+        for value in values {
+            rows.push(match value {
+                Some(i) => ScalarValue::Int(i),
+                None => ScalarValue::Null,
+            })?;
+        }
+        ColumnRef::of_values(alloc, DType::Primitive(p, n), rows)
+    }
+
+    /// The column of these texts, null where there is none. WrongValue exactly where there is none and the type isn't nullable.
+    pub fn utf8(
+        alloc: Global,
+        values: Vec<Option<Text>>,
+        n: Nullability,
+    ) -> Result<ColumnRef, ColumnError>
+        ensures { Answers result (column_of_raws (text_ty n) (map (optional_raw raw_text) values.items)) }
+    {
+        let mut rows = Vec::with_capacity(alloc, values.len())?;
+        for value in values {
+            rows.push(match value {
+                Some(text) => ScalarValue::Utf8(text),
+                None => ScalarValue::Null,
+            })?;
+        }
+        ColumnRef::of_values(alloc, DType::Utf8(n), rows)
+    }
+
+    /// The column of these lists, null where there is none. WrongValue exactly where an element isn't of the element type, or there is no list and the type isn't nullable; else DuplicateField exactly where a name stands twice in a struct of the element type, at any depth.
+    pub fn list(
+        alloc: Global,
+        element: DType,
+        values: Vec<Option<Vec<ScalarValue>>>,
+        n: Nullability,
+    ) -> Result<ColumnRef, ColumnError>
+        ensures { Answers result (column_of_raws (list_ty (type_view element) n) (map (optional_raw list_raw) values.items)) }
+    {
+        let dtype = DType::List(ElementType::new(Rc::new(alloc, element)?), n);
+        ColumnRef::of_values(alloc, dtype, list_rows(alloc, values)?)
+    }
+}
+
+/// This many clones of a value.
+fn repeated(alloc: Global, value: &ScalarValue, len: usize) -> Mem<Vec<ScalarValue>>
+    ensures { IfOk result (λ values. map raw_view values.items ≡ replicate len (raw_view value.now)) }
+{
+    let mut values = Vec::with_capacity(alloc, len)?;
+    for _ in 0..len {
+        values.push(value.clone()?)?;
+    }
+    Ok(values)
+}
+
+/// The lists as values, null where there is none.
+fn list_rows(alloc: Global, values: Vec<Option<Vec<ScalarValue>>>) -> Mem<Vec<ScalarValue>>
+    ensures { IfOk result (λ rows. map raw_view rows.items ≡ map (optional_raw list_raw) values.items) }
+{
+    let mut rows = Vec::with_capacity(alloc, values.len())?;
+    for value in values {
+        rows.push(match value {
+            Some(items) => ScalarValue::List(Rc::new(alloc, items)?),
+            None => ScalarValue::Null,
+        })?;
+    }
+    Ok(rows)
+}

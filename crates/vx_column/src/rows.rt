@@ -1,0 +1,128 @@
+// Work on columns row by row.
+ghost use Rattle.std.specs.Prelude.{◌≡◌, true, length, map, IfOk};
+ghost use Rattle.vx_dtype.specs.Fits.{fits};
+ghost use Rattle.vx_dtype.specs.RawViews.{raw_view};
+ghost use Rattle.vx_dtype.specs.TypeViews.{type_view};
+ghost use Rattle.vx_dtype.specs.TypeRules.{no_name_twice};
+ghost use Rattle.vx_column.specs.Columns.{values_fit, seen, seen_rows, zip_rows};
+
+use crate::columns::ColumnRef;
+use std::alloc::Global;
+use vx_dtype::{DType, Mem, ScalarValue};
+
+/// A rule that makes one value of two.
+pub(crate) trait PairRule {
+    ghost use Rattle.vx_dtype.specs.Types.{Ty};
+    ghost use Rattle.vx_dtype.specs.Values.{Val};
+
+    /// The types of the two values, and of the one that is made.
+    ghost left: { Self → Ty };
+
+    ghost right: { Self → Ty };
+
+    ghost made: { Self → Ty };
+
+    /// What the rule makes of two values.
+    ghost rule: { Self → Val → Val → Val };
+
+    /// The value that is made of two.
+    fn at(&self, alloc: Global, l: &ScalarValue, r: &ScalarValue) -> Mem<ScalarValue>
+        requires left { fits (raw_view l.now) (left self.now) ≡ true }
+        requires right { fits (raw_view r.now) (right self.now) ≡ true }
+        ensures fit { IfOk result (λ v. fits (raw_view v) (made self.now) ≡ true) }
+        ensures value { IfOk result (λ v. seen (made self.now) v ≡ rule self.now (seen (left self.now) l.now) (seen (right self.now) r.now)) };
+}
+
+/// What a rule makes of two columns' values, row by row.
+pub(crate) fn zip_values<R: PairRule>(
+    alloc: Global,
+    rule: &R,
+    l: &[ScalarValue],
+    r: &[ScalarValue],
+) -> Mem<Vec<ScalarValue>>
+    requires lengths { length l.now ≡ length r.now }
+    requires left { values_fit (R.left rule.now) l.now ≡ true }
+    requires right { values_fit (R.right rule.now) r.now ≡ true }
+    ensures fit { IfOk result (λ vs. values_fit (R.made rule.now) vs.items ≡ true) }
+    ensures values { IfOk result (λ vs. seen_rows (R.made rule.now) vs.items ≡ zip_rows (R.rule rule.now) (seen_rows (R.left rule.now) l.now) (seen_rows (R.right rule.now) r.now)) }
+{
+    let mut made = Vec::with_capacity(alloc, l.len())?;
+    for i in 0..l.len() {
+        made.push(rule.at(alloc, &l[i], &r[i])?)?;
+    }
+    Ok(made)
+}
+
+/// What a rule makes of two columns, row by row. The rule is of the columns' types, and makes values of this type.
+pub(crate) fn zip_columns<R: PairRule>(
+    alloc: Global,
+    rule: &R,
+    dtype: DType,
+    l: &ColumnRef,
+    r: &ColumnRef,
+) -> Mem<ColumnRef>
+    requires lengths { length l.now.rows ≡ length r.now.rows }
+    requires left { l.now.ty ≡ R.left rule.now }
+    requires right { r.now.ty ≡ R.right rule.now }
+    requires made { type_view dtype ≡ R.made rule.now }
+    requires names { no_name_twice (type_view dtype) ≡ true }
+    ensures dtype { IfOk result (λ c. c.ty ≡ type_view dtype) }
+    ensures rows { IfOk result (λ c. c.rows ≡ zip_rows (R.rule rule.now) l.now.rows r.now.rows) }
+{
+    let made = zip_values(alloc, rule, l.values(), r.values())?;
+    ColumnRef::of_rows(alloc, dtype, made)
+}
+
+/// A rule that makes one value of another.
+pub(crate) trait RowRule {
+    ghost use Rattle.vx_dtype.specs.Types.{Ty};
+    ghost use Rattle.vx_dtype.specs.Values.{Val};
+
+    /// The types of the value, and of the one that is made.
+    ghost taken: { Self → Ty };
+
+    ghost made: { Self → Ty };
+
+    /// What the rule makes of a value.
+    ghost rule: { Self → Val → Val };
+
+    /// The value that is made of one.
+    fn at(&self, alloc: Global, value: &ScalarValue) -> Mem<ScalarValue>
+        requires { fits (raw_view value.now) (taken self.now) ≡ true }
+        ensures fit { IfOk result (λ v. fits (raw_view v) (made self.now) ≡ true) }
+        ensures value { IfOk result (λ v. seen (made self.now) v ≡ rule self.now (seen (taken self.now) value.now)) };
+}
+
+/// What a rule makes of a column's values, row by row.
+pub(crate) fn map_values<R: RowRule>(
+    alloc: Global,
+    rule: &R,
+    values: &[ScalarValue],
+) -> Mem<Vec<ScalarValue>>
+    requires { values_fit (R.taken rule.now) values.now ≡ true }
+    ensures fit { IfOk result (λ vs. values_fit (R.made rule.now) vs.items ≡ true) }
+    ensures values { IfOk result (λ vs. seen_rows (R.made rule.now) vs.items ≡ map (R.rule rule.now) (seen_rows (R.taken rule.now) values.now)) }
+{
+    let mut made = Vec::with_capacity(alloc, values.len())?;
+    for i in 0..values.len() {
+        made.push(rule.at(alloc, &values[i])?)?;
+    }
+    Ok(made)
+}
+
+/// What a rule makes of a column, row by row. The rule is of the column's type, and makes values of this type.
+pub(crate) fn map_column<R: RowRule>(
+    alloc: Global,
+    rule: &R,
+    dtype: DType,
+    column: &ColumnRef,
+) -> Mem<ColumnRef>
+    requires taken { column.now.ty ≡ R.taken rule.now }
+    requires made { type_view dtype ≡ R.made rule.now }
+    requires names { no_name_twice (type_view dtype) ≡ true }
+    ensures dtype { IfOk result (λ c. c.ty ≡ type_view dtype) }
+    ensures rows { IfOk result (λ c. c.rows ≡ map (R.rule rule.now) column.now.rows) }
+{
+    let made = map_values(alloc, rule, column.values())?;
+    ColumnRef::of_rows(alloc, dtype, made)
+}

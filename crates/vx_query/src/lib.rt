@@ -1,0 +1,21 @@
+//! The ends of the program: where its bytes come from, and where they go.
+#![tactic(auto)]
+
+mod memory_sink;
+mod memory_source;
+mod reading;
+mod sinks;
+mod sources;
+mod standard;
+mod writing;
+
+pub use memory_sink::MemorySink;
+pub use memory_source::MemorySource;
+pub use reading::{InputError, read_up_to};
+pub use sinks::{Sink, WriteFailed};
+pub use sources::{ReadFailed, Source};
+pub use standard::{StdinSource, StdoutSink};
+pub use writing::write_whole;
+
+#[cfg(test)]
+mod tests;

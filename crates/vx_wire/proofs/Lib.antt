@@ -1,0 +1,14 @@
+pub mod NumberLemmas
+pub mod HeadLemmas
+pub mod RowLemmas
+pub mod PlaceLemmas
+pub mod OrderLemmas
+pub mod TreeLemmas
+pub mod StackLemmas
+pub mod ReadLemmas
+pub mod WriteLemmas
+pub mod TypeLemmas
+pub mod FieldLoops
+pub mod PlaceFields
+pub mod KindLemmas
+pub mod TypeWriting
