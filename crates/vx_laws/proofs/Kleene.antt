@@ -1,7 +1,7 @@
 -- The laws of three-valued logic with faults.
 use Rattle.std.proofs.Common.{◌≡◌, refl, ap, sym, ◌∙◌}
 use Rattle.vx_dtype.specs.Values.{Val}
-use Rattle.vx_dtype.specs.Logic.{Tri, holds, fails, unknown, broken, tri, truth, and_tri, or_tri, and3, or3}
+use Rattle.vx_dtype.specs.Logic.{Tri, holds, fails, unknown, broken, tri, truth, and_tri, or_tri, not_tri, and3, or3, not3}
 
 pub tri-truth : (x : Tri) → tri (truth x) ≡ x
 tri-truth holds = refl
@@ -71,3 +71,29 @@ pub or3_assoc : (a b c : Val) → or3 (or3 a b) c ≡ or3 a (or3 b c)
 or3_assoc a b c =
     ap (λ (x : Tri). truth (or_tri x (tri c))) (tri-truth (or_tri (tri a) (tri b)))
     ∙ (ap truth (or_tri_assoc (tri a) (tri b) (tri c)) ∙ sym (ap (λ (x : Tri). truth (or_tri (tri a) x)) (tri-truth (or_tri (tri b) (tri c)))))
+
+pub not_tri-and : (x y : Tri) → not_tri (and_tri x y) ≡ or_tri (not_tri x) (not_tri y)
+not_tri-and holds holds = refl
+not_tri-and fails holds = refl
+not_tri-and unknown holds = refl
+not_tri-and broken holds = refl
+not_tri-and _ _ = refl
+
+pub not_tri-or : (x y : Tri) → not_tri (or_tri x y) ≡ and_tri (not_tri x) (not_tri y)
+not_tri-or holds holds = refl
+not_tri-or fails holds = refl
+not_tri-or unknown holds = refl
+not_tri-or broken holds = refl
+not_tri-or _ _ = refl
+
+pub not3-and3 : (a b : Val) → not3 (and3 a b) ≡ or3 (not3 a) (not3 b)
+not3-and3 a b =
+    ap (λ (x : Tri). truth (not_tri x)) (tri-truth (and_tri (tri a) (tri b)))
+    ∙ (ap truth (not_tri-and (tri a) (tri b))
+    ∙ (sym (ap (λ (x : Tri). truth (or_tri x (not_tri (tri b)))) (tri-truth (not_tri (tri a)))) ∙ sym (ap (λ (x : Tri). truth (or_tri (tri (not3 a)) x)) (tri-truth (not_tri (tri b))))))
+
+pub not3-or3 : (a b : Val) → not3 (or3 a b) ≡ and3 (not3 a) (not3 b)
+not3-or3 a b =
+    ap (λ (x : Tri). truth (not_tri x)) (tri-truth (or_tri (tri a) (tri b)))
+    ∙ (ap truth (not_tri-or (tri a) (tri b))
+    ∙ (sym (ap (λ (x : Tri). truth (and_tri x (not_tri (tri b)))) (tri-truth (not_tri (tri a)))) ∙ sym (ap (λ (x : Tri). truth (and_tri (tri (not3 a)) x)) (tri-truth (not_tri (tri b))))))

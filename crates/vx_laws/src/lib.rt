@@ -8,7 +8,7 @@ mod values;
 pub use faults::no_break_no_fault;
 pub use operators::{
     and_is_associative, and_is_commutative, conjuncts_mean_the_whole, inverse_negates,
-    or_is_associative, or_is_commutative, range_means_its_comparisons, swap_keeps_meaning,
-    typed_swap_keeps_meaning,
+    negations_exchange_and_with_or, or_is_associative, or_is_commutative,
+    range_means_its_comparisons, swap_keeps_meaning, typed_swap_keeps_meaning,
 };
 pub use values::{faults_are_plain, meaning_fits_the_type};

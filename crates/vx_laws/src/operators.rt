@@ -1,7 +1,7 @@
 // The laws of the operators.
 
 ghost use Rattle.std.specs.Prelude.{◌≡◌};
-ghost use Rattle.vx_dtype.specs.Logic.{and3, or3};
+ghost use Rattle.vx_dtype.specs.Logic.{and3, or3, not3};
 ghost use Rattle.vx_dtype.specs.Values.{Val};
 ghost use Rattle.vx_laws.specs.Operators.{ConjunctsMeanTheWhole, InverseNegates, RangeMeansItsComparisons, SwapKeepsMeaning, TypedSwapKeepsMeaning};
 
@@ -23,6 +23,12 @@ pub fn and_is_commutative()
 /// `a or b` is `b or a`, for all values.
 pub fn or_is_commutative()
     ensures { (a b : Val) → or3 a b ≡ or3 b a }
+{}
+
+/// The negation of `a and b` is the `or` of their negations, and of `a or b` the `and`, for all values.
+pub fn negations_exchange_and_with_or()
+    ensures and { (a b : Val) → not3 (and3 a b) ≡ or3 (not3 a) (not3 b) }
+    ensures or { (a b : Val) → not3 (or3 a b) ≡ and3 (not3 a) (not3 b) }
 {}
 
 /// `a op b` is `b op.swap() a` for every operator but a difference; for a sum, of values that are not numbers of two integer types.
