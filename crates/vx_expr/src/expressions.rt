@@ -23,7 +23,7 @@ use vx_dtype::Mem;
 
 /// A node of an expression, by its kind.
 #[cycle(exprs)]
-#[derive(Drop)]
+#[derive(Debug, Drop)]
 pub enum Expr {
     Between(BetweenExpr),
     Binary(BinaryExpr),
@@ -43,7 +43,7 @@ pub enum Expr {
 
 /// An expression. Clones share its node. It is seen as its tree.
 #[cycle(exprs)]
-#[derive(Drop)]
+#[derive(Debug, Drop)]
 pub struct ExprRef {
     expr: Rc<Expr>,
 }

@@ -9,6 +9,8 @@ mod exprs;
 mod operators;
 mod selection_texts;
 mod selections;
+#[cfg(test)]
+mod tests;
 mod vortex_expr;
 
 pub use children::ExprId;
@@ -28,6 +30,6 @@ pub use exprs::not::NotExpr;
 pub use exprs::pack::PackExpr;
 pub use exprs::root::RootExpr;
 pub use exprs::select::SelectExpr;
-pub use operators::Operator;
+pub use operators::{Operator, operators_order_by_number};
 pub use selections::FieldSelection;
 pub use vortex_expr::VortexExpr;

@@ -1,5 +1,6 @@
 // The operators of a binary expression.
 ghost use Rattle.std.specs.Prelude.{◌≡◌, pos, Some};
+ghost use Rattle.std.specs.Ordering.{nat_cmp};
 ghost use Rattle.vx_expr.specs.Operators.{operator_number, operator_of, comparison_of, inverse_of, logical_inverse_of, swapped};
 ghost use Rattle.vx_expr.specs.OperatorTexts.{operator_text, operator_numbered};
 ghost use Rattle.vx_expr.specs.Answers.{Answers};
@@ -12,6 +13,7 @@ use vx_dtype::CompareOperator;
 /// An operator of two operands.
 ///
 /// And and Or obey the three-valued logic after Kleene; the others give null where an operand is null.
+/// They are ordered by their numbers.
 #[derive(Clone, Copy, PartialEq, Eq, PartialOrd, Hash, Debug)]
 pub enum Operator {
     Eq,
@@ -100,6 +102,11 @@ impl Operator {
     }
 }
 
+/// Law: operators are ordered by their numbers.
+pub fn operators_order_by_number(left: Operator, right: Operator)
+    ensures { ⟦<Operator as PartialOrd>⟧.partial_cmp left right ≡ Some (nat_cmp (operator_number left) (operator_number right)) }
+{}
+
 impl From<Operator> for i32 {
     ghost from_gives = { λ operator number. number ≡ pos (operator_number operator) };
 
@@ -173,41 +180,5 @@ impl fmt::Display for Operator {
             Operator::Add => write!(f, "+"),
             Operator::Sub => write!(f, "-"),
         }
-    }
-}
-
-#[cfg(test)]
-mod tests {
-    use super::Operator;
-    use crate::errors::ExprError;
-    use std::test::Fail;
-
-    /// The operators in the order of their numbers.
-    const OPERATORS: [Operator; 10] = [
-        Operator::Eq,
-        Operator::NotEq,
-        Operator::Gt,
-        Operator::Gte,
-        Operator::Lt,
-        Operator::Lte,
-        Operator::And,
-        Operator::Or,
-        Operator::Add,
-        Operator::Sub,
-    ];
-
-    #[test]
-    fn numbers(rt: HostRuntime) -> Result<(), Fail> {
-        assert_eq!(rt; Operator::try_from(0), Ok(Operator::Eq));
-        assert_eq!(rt; Operator::try_from(5), Ok(Operator::Lte));
-        assert_eq!(rt; Operator::try_from(9), Ok(Operator::Sub));
-        assert_eq!(rt; Operator::try_from(-1), Err(ExprError::UnknownOperator));
-        assert_eq!(rt; Operator::try_from(10), Err(ExprError::UnknownOperator));
-        let mut number = 0i32;
-        for operator in OPERATORS {
-            assert_eq!(rt; i32::from(operator), number);
-            number = number.wrapping_add(1);
-        }
-        Ok(())
     }
 }

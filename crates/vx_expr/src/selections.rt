@@ -18,7 +18,7 @@ use std::hash::{Hash, Hasher};
 use vx_dtype::{FieldName, FieldNames};
 
 /// A choice of fields: these in their listed order, or all but these in the struct's order.
-#[derive(Drop)]
+#[derive(Debug, Drop)]
 pub enum FieldSelection {
     Include(FieldNames),
     Exclude(FieldNames),

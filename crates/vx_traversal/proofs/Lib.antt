@@ -3,3 +3,5 @@ pub mod VisitLemmas
 pub mod RewriteLemmas
 pub mod FoldLemmas
 pub mod ContainerLemmas
+pub mod ReferenceLemmas
+pub mod CallLemmas

@@ -3,4 +3,8 @@ pub mod Visits
 pub mod Rewrites
 pub mod Folds
 pub mod Containers
+pub mod Expressions
+pub mod ExpressionLaws
+pub mod References
 pub mod Numbers
+pub mod Zeros

@@ -4,6 +4,9 @@
 
 mod containers;
 mod errors;
+#[cfg(test)]
+mod expression_tests;
+mod expressions;
 mod ext;
 mod fold;
 mod folding;
@@ -11,6 +14,7 @@ mod nodes;
 #[cfg(test)]
 mod numbers;
 mod order;
+mod references;
 mod rewriter;
 mod rewriting;
 #[cfg(test)]
@@ -18,6 +22,8 @@ mod tests;
 mod transform;
 mod visitor;
 mod walking;
+#[cfg(test)]
+mod zeros;
 
 pub use containers::{
     ByCall, EachCursor, ElementMapper, EqualClone, NodeContainer, NodeRefContainer, PairCursor,
@@ -28,6 +34,7 @@ pub use ext::NodeExt;
 pub use fold::{FoldDown, FoldDownContext, FoldUp, NodeFolder, NodeFolderContext};
 pub use nodes::Node;
 pub use order::TraversalOrder;
+pub use references::{ReferenceCollector, VortexExprExt};
 pub use rewriter::NodeRewriter;
 pub use transform::Transformed;
 pub use visitor::{NodeVisitor, pre_order_visit_down, pre_order_visit_up};

@@ -26,7 +26,7 @@ use vx_dtype::{BetweenOptions, Mem, StrictComparison};
 
 /// Whether a value lies in a range.
 #[cycle(exprs)]
-#[derive(Drop)]
+#[derive(Debug, Drop)]
 pub struct BetweenExpr {
     arr: ExprRef,
     lower: ExprRef,

@@ -23,7 +23,7 @@ use vx_dtype::Mem;
 
 /// Two operands under an operator.
 #[cycle(exprs)]
-#[derive(Drop)]
+#[derive(Debug, Drop)]
 pub struct BinaryExpr {
     lhs: ExprRef,
     operator: Operator,

@@ -21,7 +21,7 @@ use vx_dtype::{DType, Mem};
 
 /// A value in another type.
 #[cycle(exprs)]
-#[derive(Drop)]
+#[derive(Debug, Drop)]
 pub struct CastExpr {
     child: ExprRef,
     target: DType,

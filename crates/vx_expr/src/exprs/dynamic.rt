@@ -24,7 +24,7 @@ use vx_dtype::{CompareOperator, DType, Mem, Scalar};
 
 /// A comparison with the value that a slot holds when the expression is evaluated.
 #[cycle(exprs)]
-#[derive(Drop)]
+#[derive(Debug, Drop)]
 pub struct DynamicComparisonExpr {
     lhs: ExprRef,
     operator: CompareOperator,

@@ -21,7 +21,7 @@ use vx_dtype::{FieldName, Mem};
 
 /// A field of a struct.
 #[cycle(exprs)]
-#[derive(Drop)]
+#[derive(Debug, Drop)]
 pub struct GetItemExpr {
     field: FieldName,
     child: ExprRef,

@@ -20,7 +20,7 @@ use vx_dtype::Mem;
 
 /// Whether a value is null.
 #[cycle(exprs)]
-#[derive(Drop)]
+#[derive(Debug, Drop)]
 pub struct IsNullExpr {
     child: ExprRef,
 }

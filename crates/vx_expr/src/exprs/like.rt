@@ -22,7 +22,7 @@ use vx_dtype::Mem;
 
 /// Whether a text matches a pattern.
 #[cycle(exprs)]
-#[derive(Drop)]
+#[derive(Debug, Drop)]
 pub struct LikeExpr {
     child: ExprRef,
     pattern: ExprRef,

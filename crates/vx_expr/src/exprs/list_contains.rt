@@ -22,7 +22,7 @@ use vx_dtype::Mem;
 
 /// Whether a list holds a value.
 #[cycle(exprs)]
-#[derive(Drop)]
+#[derive(Debug, Drop)]
 pub struct ListContainsExpr {
     list: ExprRef,
     value: ExprRef,

@@ -19,7 +19,7 @@ use std::hash::{Hash, Hasher};
 use vx_dtype::{Mem, Scalar};
 
 /// A constant.
-#[derive(Drop)]
+#[derive(Debug, Drop)]
 pub struct LiteralExpr {
     value: Scalar,
 }

@@ -22,7 +22,7 @@ use vx_dtype::{Mem, Nullability};
 
 /// The fields of several structs, in order of first appearance; a later field of the same name replaces an earlier one in its place.
 #[cycle(exprs)]
-#[derive(Drop)]
+#[derive(Debug, Drop)]
 pub struct MergeExpr {
     values: Vec<ExprRef>,
     nullability: Nullability,

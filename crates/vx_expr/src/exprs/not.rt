@@ -20,7 +20,7 @@ use vx_dtype::Mem;
 
 /// True and false exchanged.
 #[cycle(exprs)]
-#[derive(Drop)]
+#[derive(Debug, Drop)]
 pub struct NotExpr {
     child: ExprRef,
 }

@@ -23,7 +23,7 @@ use vx_dtype::{FieldName, FieldNames, Mem, Nullability};
 
 /// A struct of named values, as many as names. It is seen as its names beside its values.
 #[cycle(exprs)]
-#[derive(Drop)]
+#[derive(Debug, Drop)]
 pub struct PackExpr {
     names: FieldNames,
     values: Vec<ExprRef>,

@@ -18,7 +18,7 @@ use std::hash::{Hash, Hasher};
 use vx_dtype::Mem;
 
 /// The row.
-#[derive(Drop)]
+#[derive(Debug, Drop)]
 pub struct RootExpr;
 
 impl RootExpr {

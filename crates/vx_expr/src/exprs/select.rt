@@ -25,7 +25,7 @@ use vx_dtype::{FieldNames, Mem};
 
 /// Some fields of a struct.
 #[cycle(exprs)]
-#[derive(Drop)]
+#[derive(Debug, Drop)]
 pub struct SelectExpr {
     fields: FieldSelection,
     child: ExprRef,
