@@ -26,3 +26,4 @@ pub use scalars::errors::{ScalarError, WrongValue};
 pub use statistics::Stat;
 pub use types::{DType, ElementType, StructFields};
 pub use values::ScalarValue;
+pub use writing::Quoted;

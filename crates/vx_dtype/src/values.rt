@@ -1,8 +1,11 @@
 // The values that a scalar holds beside its type.
 ghost use Rattle.std.specs.Prelude.{◌≡◌};
+ghost use Rattle.vx_dtype.specs.Fits.{fits};
 ghost use Rattle.vx_dtype.specs.RawViews.{raw_view};
+ghost use Rattle.vx_dtype.specs.TypeViews.{type_view};
 
 use crate::names::Text;
+use crate::types::{DType, fitting};
 use std::alloc::AllocError;
 use std::rc::Rc;
 
@@ -19,6 +22,15 @@ pub enum ScalarValue {
     List(Rc<Vec<ScalarValue>>),
     /// One value per field, in the order of the fields.
     Struct(Rc<Vec<ScalarValue>>),
+}
+
+impl ScalarValue {
+    /// Whether this is a value of the type: null where it is nullable, an integer in range, each element, one value per field.
+    pub fn fits(&self, dtype: &DType) -> bool
+        ensures { result ≡ fits (raw_view self.now) (type_view dtype.now) }
+    {
+        fitting::fits(self, dtype)
+    }
 }
 
 impl Clone for ScalarValue {

@@ -1,5 +1,5 @@
 // What several texts need: separators between parts, and texts within quotes.
-ghost use Rattle.std.specs.Prelude.{◌≡◌, ◌<◌, ◌∷◌, []};
+ghost use Rattle.std.specs.Prelude.{◌≡◌, ◌<◌, ◌∷◌, [], Some};
 ghost use Rattle.std.specs.Fmt.{WritesOnOk};
 ghost use Rattle.std.specs.List.{flat_map};
 ghost use Rattle.std.specs.Char.{encode_utf8};
@@ -12,6 +12,18 @@ pub(crate) fn separator(i: usize) -> &'static str
     ensures { result.now ≡ separator_at i }
 {
     if i == 0 { "" } else { ", " }
+}
+
+/// A text that prints within quotes: `"` and `\` behind a backslash, control characters by their escapes as in JSON, all else as it is.
+#[derive(Clone, Copy)]
+pub struct Quoted<'a>(pub &'a str);
+
+impl<'a> fmt::Display for Quoted<'a> {
+    ghost output = { λ quoted. Some (quoted_text quoted.0.now) };
+
+    fn fmt<W: fmt::Write>(&self, f: &mut fmt::Formatter<W>) -> fmt::Result {
+        write_quoted(self.0, f)
+    }
 }
 
 /// Writes a text within quotes, with its escapes.

@@ -6,6 +6,7 @@ use crate::names::{FieldName, FieldNames};
 use crate::nulls::Nullability::{NonNullable, Nullable};
 use crate::types::{DType, StructFields};
 use crate::values::ScalarValue;
+use crate::writing::Quoted;
 use std::alloc::Global;
 use std::cmp::Ordering;
 use std::fmt::Write;
@@ -146,18 +147,50 @@ fn orders(rt: HostRuntime) -> Result<(), Fail> {
     Ok(())
 }
 
+#[test]
+fn values_fit_their_types(rt: HostRuntime) -> Result<(), Fail> {
+    let alloc = rt.alloc();
+    let number = DType::Primitive(PType::I8, NonNullable);
+    assert!(rt; ScalarValue::Int(127).fits(&number));
+    assert!(rt; !ScalarValue::Int(128).fits(&number));
+    assert!(rt; !ScalarValue::Null.fits(&number));
+    assert!(rt; ScalarValue::Null.fits(&DType::Bool(Nullable)));
+    assert!(rt; !ScalarValue::Bool(true).fits(&number));
+    let list = list_of(alloc, number)??;
+    assert!(rt; list.value().fits(list.dtype()));
+    assert!(rt; !list.value().fits(&DType::Utf8(NonNullable)));
+    Ok(())
+}
+
+#[test]
+fn texts_within_quotes(rt: HostRuntime) -> Result<(), Fail> {
+    let rows = [
+        ("", "\"\""),
+        ("a b", "\"a b\""),
+        ("\"\\/", "\"\\\"\\\\/\""),
+        ("\u{8}\t\n\u{c}\r", "\"\\b\\t\\n\\f\\r\""),
+        ("\0\u{1f}\u{7f}", "\"\\u0000\\u001f\u{7f}\""),
+        ("\u{e9}", "\"\u{e9}\""),
+    ];
+    for (plain, quoted) in &rows {
+        let mut text = String::new(rt.alloc());
+        write!(text, "{}", Quoted(plain))?;
+        assert_eq!(rt; text.as_str(), *quoted);
+    }
+    Ok(())
+}
+
 // With memory at hand each call that may lack it answers.
 #[test]
 fn ample(rt: HostRuntime) -> Result<(), Fail> {
     let alloc = rt.alloc();
-    let text = Scalar::utf8(alloc, "text", NonNullable);
-    assert!(rt; text.is_ok());
-    let list = list_of(alloc, DType::Primitive(PType::I32, NonNullable))?;
-    assert!(rt; list.is_ok());
+    let text = Scalar::utf8(alloc, "text", NonNullable)?;
+    prints(&rt, alloc, &text, "\"text\"")?;
+    let list = list_of(alloc, DType::Primitive(PType::I32, NonNullable))??;
+    prints(&rt, alloc, &list, "[1i32, 2i32]")?;
     let mut fields = Vec::new(alloc);
     fields.push(Scalar::from(32u32))?;
     fields.push(Scalar::utf8(alloc, "rufus", NonNullable)?)?;
-    let pets = Scalar::struct_(alloc, pet_type(alloc)?, fields);
-    assert!(rt; pets.is_ok());
-    Ok(())
+    let pets = Scalar::struct_(alloc, pet_type(alloc)?, fields)?;
+    prints(&rt, alloc, &pets, "{dog: 32u32, cat: \"rufus\"}")
 }
