@@ -3,7 +3,6 @@ use Rattle.std.proofs.Common.{◌≡◌, ℕ, zero, suc, refl, ap, sym, Bool, tr
 use Rattle.std.specs.declared.cmp.Ordering.{Ordering}
 use Rattle.std.specs.declared.cmp.Ordering.TheVariants.{Less, Equal, Greater}
 use Rattle.std.specs.Prelude.{◌<ℤ◌, pos, nat_eq, length, slice_get}
-use Rattle.std.specs.Str.{bytes_eq}
 use Rattle.std.specs.List.{list_all, filter, find, AllByRecursion}
 use Rattle.std.specs.Ordering.{int_cmp, MatchOrdering}
 use Rattle.std.proofs.lemmas.Cmp.{int_ranked}
@@ -18,10 +17,11 @@ use Rattle.vx_dtype.specs.Types.{Bytes, Ty}
 use Rattle.vx_dtype.specs.Values.{Val, null_val, bool_val, int_val, text_val, list_val, struct_val, fault, Typed, value_of}
 use Rattle.vx_expr.specs.Trees.{Tree, root, literal, get_item}
 use Rattle.vx_semantics.specs.Meaning.{Slots, mean}
-use Rattle.vx_semantics.specs.Tables.{Table, ZoneStat, Zones, same_stat, same_path, joined_name}
+use Rattle.vx_dtype.specs.Equal.{names_eq}
+use Rattle.vx_dtype.specs.EqualLaws.{names_decides}
+use Rattle.vx_semantics.specs.Tables.{Table, ZoneStat, Zones, same_stat, joined_name}
 use Rattle.vx_semantics.specs.Honest.{path_value, is_null_val, compares, null_rows, honest_value, honest_values, IsHonest}
 use Rattle.vx_semantics.specs.Pruning.{path_with, path_of, is_joined, is_statistic, available, known, value_in, known_in, known_at, known_bound}
-use Rattle.vx_laws.proofs.Inverting.{bytes_same}
 use Rattle.vx_laws_scan.proofs.Ordered.{compares-stands, IsAtMost, IsAtMost-trans, IsAtMost-from_gte, IsAtMost-from_eq, is_ordered}
 use Rattle.vx_laws_scan.proofs.Bounds.{IsWithin, itself-within}
 
@@ -133,16 +133,6 @@ find-found test holds (y ∷ xs) x e h =
         record { passes = subst (λ z. test z ≡ true) same k; own = subst (λ z. holds z ≡ true) same o }
     by-test false k f o r = r f
 
-pub same_path-same : (p q : List Bytes) → same_path p q ≡ true → p ≡ q
-same_path-same [] [] h = refl
-same_path-same [] (g ∷ q) h = let no : ⊥ = cc in absurd no
-same_path-same (f ∷ p) [] h = let no : ⊥ = cc in absurd no
-same_path-same (f ∷ p) (g ∷ q) h =
-    let parts = and_parts (bytes_eq f g) (same_path p q) h in
-    let first = bytes_same f g parts.0 in
-    let rest = same_path-same p q parts.1 in
-    cc
-
 pub same_stat-same : (a b : Stat) → same_stat a b ≡ true → a ≡ b
 same_stat-same Min Min h = refl
 same_stat-same Max Max h = refl
@@ -201,9 +191,9 @@ known_at-honest zones table block rows h e stat path v k =
     let at = known_at-ok zones block stat path v k in
     let z = at.statistic in
     let found = find-found (is_statistic path stat) (λ (y : ZoneStat). honest_values y.stat y.path y.values table.blocks) zones.stats z at.found h in
-    let parts = and_parts (same_path path z.path) (same_stat stat z.stat) found.passes in
+    let parts = and_parts (names_eq path z.path) (same_stat stat z.stat) found.passes in
     let own = honest-block z.stat z.path z.values table.blocks block at.value.constant rows found.own at.value.there e in
-    let path_same = same_path-same path z.path parts.0 in
+    let path_same = (names_decides path z.path).0 parts.0 in
     let stat_same = same_stat-same stat z.stat parts.1 in
     honest-each stat path v rows at.value.not_null
     (subst (λ (y : Val). honest_value stat path y rows ≡ true) at.value.is

@@ -1,9 +1,8 @@
 -- One equation for each kind of node, for proofs that rewrite by them.
 use Rattle.std.proofs.Common.{refl}
-use Rattle.std.specs.Prelude.{◌≡◌, ℕ, Bool, List, [], ◌∷◌, ◌++◌, Result, Ok, Err}
-use Rattle.std.specs.List.{flat_map}
+use Rattle.std.specs.Prelude.{◌≡◌, ℕ, Bool, List, [], ◌∷◌, ◌++◌, Ok}
 use Rattle.vx_dtype.specs.declared.Nullability.{Nullability}
-use Rattle.vx_dtype.specs.declared.Nullability.TheVariants.{NonNullable, Nullable}
+use Rattle.vx_dtype.specs.declared.Nullability.TheVariants.{NonNullable}
 use Rattle.vx_dtype.specs.declared.CompareOperator.{CompareOperator}
 use Rattle.vx_dtype.specs.declared.BetweenOptions.{BetweenOptions}
 use Rattle.vx_dtype.specs.Types.{Bytes, Ty, bool_ty}
@@ -17,10 +16,10 @@ use Rattle.vx_dtype.specs.Structs.{field_of, first_names}
 use Rattle.vx_expr.specs.declared.Operator.{Operator}
 use Rattle.vx_expr.specs.declared.FieldSelection.{FieldSelection}
 use Rattle.vx_expr.specs.Trees.{Tree, root, literal, get_item, binary, not_of, is_null_of, like, between, cast, list_contains, pack, merge, select, dynamic, Trees, no_trees, tree}
-use Rattle.vx_semantics.specs.Typing.{typed_of, all_typed, Refusal, type_mismatch, and_then, unless, distinct_type, literal_type, item_type, binary_type, not_type, like_type, between_type, cast_type, contains_type, pack_type, merge_type, select_type, dynamic_type, union_of, given_names}
+use Rattle.vx_semantics.specs.Typing.{typed_of, all_typed, and_then, distinct_type, literal_type, item_type, binary_type, not_type, like_type, between_type, cast_type, contains_type, pack_type, merge_type, select_type, dynamic_type, union_of, given_names}
 use Rattle.vx_semantics.specs.LooseTyping.{loosely_typed, all_loosely_typed, loose_binary_type, loose_between_type, loose_pack_type, loose_select_type, loose_dynamic_type}
-use Rattle.vx_semantics.specs.Meaning.{Slots, slot_value, mean, meanings, sources, binary3, select3, dynamic3, merged, zip_members, Source}
-use Rattle.vx_semantics.specs.Asked.{asked, Asking, asks_node, root_asks, path_or_each, all_given_names, asked_in_pack, asked_of_giver}
+use Rattle.vx_semantics.specs.Meaning.{Slots, slot_value, mean, meanings, sources, binary3, select3, dynamic3, merged, zip_members}
+use Rattle.vx_semantics.specs.Asked.{asked, asks_node, root_asks, path_or_each, all_given_names, asked_in_pack, asked_of_giver}
 
 pub typed_of_root : (t : Ty) → typed_of t root ≡ distinct_type t
 unfolding typed_of

@@ -2,13 +2,16 @@
 use Rattle.std.specs.Prelude.{ℕ, ℤ, pos, Bool, true, false, List, [], ◌∷◌, map, length, codes, Option, Some, None}
 use Prim.Native.String.{String}
 use Rattle.vx_dtype.specs.declared.PType.{PType}
-use Rattle.vx_dtype.specs.declared.PType.TheVariants.{U16, I8, I32}
+use Rattle.vx_dtype.specs.declared.PType.TheVariants.{U8, U16, U32, U64, I8, I16, I32, I64}
 use Rattle.vx_dtype.specs.declared.Nullability.TheVariants.{NonNullable, Nullable}
 use Rattle.vx_dtype.specs.declared.Stat.{Stat}
+use Rattle.vx_dtype.specs.declared.Stat.TheVariants.{Min, Max}
+use Rattle.vx_dtype.specs.declared.CompareOperator.{CompareOperator}
 use Rattle.vx_dtype.specs.Types.{Bytes, Ty, bool_ty, int_ty, text_ty, list_ty, struct_ty, Fields, no_fields, field}
 use Rattle.vx_dtype.specs.Values.{raw_null, raw_bool, raw_int, raw_text, raw_list, Raws, no_raws, raw, Val, null_val, bool_val, int_val, fault, struct_val, no_members, member, Typed}
+use Rattle.vx_dtype.specs.Fits.{fits}
 use Rattle.vx_expr.specs.declared.Operator.{Operator}
-use Rattle.vx_expr.specs.Trees.{Tree, root, literal, get_item, binary, pack, no_trees, tree}
+use Rattle.vx_expr.specs.Trees.{Tree, root, literal, get_item, binary, pack, dynamic, no_trees, tree}
 use Rattle.vx_semantics.specs.Meaning.{Slots}
 use Rattle.vx_semantics.specs.Tables.{Table, ZoneStat, Zones, row_type}
 use Rattle.vx_semantics.specs.Scans.{kept_rows_of, skipped_blocks, reads_of, read_columns, phases_of, phase_breaks_by}
@@ -159,6 +162,10 @@ number_or_null (Some i) = int_val I32 i
 abbrev pub nullable_table : String → List (List (Option ℤ)) → Table
 nullable_table name blocks = record { columns = only name (int_ty I32 Nullable); blocks = map (λ rows. map (λ i. alone name (number_or_null i)) rows) blocks }
 
+-- the rows of a block: five, null and nine
+abbrev pub rows_with_null : List Val
+rows_with_null = alone "x" (int_val I32 (pos 5)) ∷ alone "x" null_val ∷ alone "x" (int_val I32 (pos 9)) ∷ []
+
 -- a slot with a value
 abbrev pub slot_of : PType → ℤ → Option Typed
 slot_of p i = Some (record { ty = int_ty p NonNullable; value = raw_int i })
@@ -173,6 +180,70 @@ five_columns =
     (field (codes "bool1") (bool_ty NonNullable)
     (field (codes "bool2") (bool_ty NonNullable) no_fields)))))
     NonNullable
+
+-- a struct of each kind of type, nullable and not: numbers, booleans, texts, a list, and two structs of which both have a field `q`
+abbrev pub struct_p_q : Ty
+struct_p_q = struct_ty (field (codes "p") (int_ty I32 NonNullable) (only "q" (text_ty NonNullable))) NonNullable
+
+abbrev pub struct_q_r : Ty
+struct_q_r = struct_ty (field (codes "q") (bool_ty NonNullable) (only "r" (int_ty I32 NonNullable))) Nullable
+
+abbrev pub mixed : Ty
+mixed =
+    struct_ty
+    (field (codes "a") (int_ty I32 NonNullable)
+    (field (codes "b") (int_ty I32 Nullable)
+    (field (codes "f") (bool_ty NonNullable)
+    (field (codes "g") (bool_ty Nullable)
+    (field (codes "t") (text_ty NonNullable)
+    (field (codes "u") (text_ty Nullable)
+    (field (codes "l") (list_ty (int_ty I32 Nullable) Nullable)
+    (field (codes "s") struct_p_q
+    (only "n" struct_q_r)))))))))
+    NonNullable
+
+-- the zones of one block whose numbers lie from five to nine, and the same with one of the two bounds alone
+abbrev pub five_to_nine : Zones
+five_to_nine =
+    zones_of (number_table I32 "x" ((pos 5 ∷ pos 9 ∷ []) ∷ [])) (statistic ("x" ∷ []) Min (bounds I32 (pos 5 ∷ [])) ∷ statistic ("x" ∷ []) Max (bounds I32 (pos 9 ∷ [])) ∷ [])
+
+abbrev pub from_five : Zones
+from_five = zones_of (number_table I32 "x" ((pos 5 ∷ pos 9 ∷ []) ∷ [])) (statistic ("x" ∷ []) Min (bounds I32 (pos 5 ∷ [])) ∷ [])
+
+abbrev pub up_to_nine : Zones
+up_to_nine = zones_of (number_table I32 "x" ((pos 5 ∷ pos 9 ∷ []) ∷ [])) (statistic ("x" ∷ []) Max (bounds I32 (pos 9 ∷ [])) ∷ [])
+
+-- all comparisons by their numbers
+abbrev pub comparisons : List CompareOperator
+comparisons = CompareOperator.Eq ∷ CompareOperator.NotEq ∷ CompareOperator.Gt ∷ CompareOperator.Gte ∷ CompareOperator.Lt ∷ CompareOperator.Lte ∷ []
+
+-- a comparison of the column with the value of the first slot, with this default
+abbrev pub with_slot : CompareOperator → Bool → Tree
+with_slot op default = dynamic (col "x") op 0 (int_ty I32 NonNullable) default
+
+-- the integer types in their order
+abbrev pub integer_types : List PType
+integer_types = U8 ∷ U16 ∷ U32 ∷ U64 ∷ I8 ∷ I16 ∷ I32 ∷ I64 ∷ []
+
+-- whether each number is one of the integer type in its place
+abbrev pub each_fits : List PType → List ℤ → List Bool
+each_fits [] is = []
+each_fits (p ∷ ps) [] = []
+each_fits (p ∷ ps) (i ∷ is) = fits (raw_int i) (int_ty p NonNullable) ∷ each_fits ps is
+
+-- types of each kind, of which no two are the same: a boolean, two numbers, a text, two lists, a struct without fields, and two with one
+abbrev pub kinds_of_types : List Ty
+kinds_of_types =
+    bool_ty NonNullable
+    ∷ int_ty I32 NonNullable
+    ∷ int_ty I64 NonNullable
+    ∷ text_ty NonNullable
+    ∷ list_ty (int_ty I32 NonNullable) NonNullable
+    ∷ list_ty (text_ty NonNullable) NonNullable
+    ∷ struct_ty no_fields NonNullable
+    ∷ struct_ty (only "a" (bool_ty NonNullable)) NonNullable
+    ∷ struct_ty (only "b" (bool_ty NonNullable)) NonNullable
+    ∷ []
 
 -- all operators by their numbers
 abbrev pub operators : List Operator

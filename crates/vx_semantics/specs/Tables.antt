@@ -1,6 +1,5 @@
 -- Tables in blocks, and their statistics.
-use Rattle.std.specs.Prelude.{ℕ, suc, Bool, true, false, ◌&&◌, List, [], ◌∷◌, ◌++◌, codes}
-use Rattle.std.specs.Str.{bytes_eq}
+use Rattle.std.specs.Prelude.{ℕ, suc, Bool, true, false, List, [], ◌∷◌, ◌++◌, codes}
 use Rattle.vx_dtype.specs.declared.Nullability.TheVariants.{NonNullable}
 use Rattle.vx_dtype.specs.declared.Stat.{Stat}
 use Rattle.vx_dtype.specs.declared.Stat.TheVariants.{Min, Max, NaNCount, NullCount}
@@ -41,12 +40,6 @@ same_stat Max Max = true
 same_stat NaNCount NaNCount = true
 same_stat NullCount NullCount = true
 same_stat _ _ = false
-
--- whether two paths are the same
-abbrev pub same_path : List Bytes → List Bytes → Bool
-same_path [] [] = true
-same_path (f ∷ fs) (g ∷ gs) = bytes_eq f g && same_path fs gs
-same_path _ _ = false
 
 -- the joined name of a statistic of a path: the path's names and the statistic's, with `_` between
 abbrev pub joined_name : List Bytes → Stat → Bytes

@@ -1,0 +1,196 @@
+// The rules on types and on which values a type has, worked by hand.
+#![tactic(auto, unfolding(crate::proofs::Computing::all_definitions))]
+
+ghost use Rattle.std.specs.Prelude.{◌≡◌, ℕ, [], ◌∷◌, ◌++◌, codes, pos, negsuc, map, replicate, true, false, Some, None};
+ghost use Rattle.vx_dtype.specs.declared.PType.TheVariants.{U8, U16, U32, U64, I8, I16, I32, I64};
+ghost use Rattle.vx_dtype.specs.declared.Nullability.TheVariants.{NonNullable, Nullable};
+ghost use Rattle.vx_dtype.specs.Types.{bool_ty, int_ty, text_ty, list_ty, struct_ty, no_fields, field};
+ghost use Rattle.vx_dtype.specs.TypeRules.{union, nullability_of, with_nullability, widened, same_ptype, same_type, is_plain, is_bool_ty, is_int_ty, is_text_ty, no_name_twice, depth_of};
+ghost use Rattle.vx_dtype.specs.Values.{raw_null, raw_bool, raw_int, raw_text, raw_list, raw_struct, no_raws, raw, null_val, bool_val, int_val, text_val, list_val, struct_val, fault, no_vals, val, no_members, member, valued};
+ghost use Rattle.vx_dtype.specs.Fits.{fits, val_fits, fits_but_for_faults, holds_fault};
+ghost use Rattle.vx_dtype.specs.Structs.{first_names};
+ghost use Rattle.vx_expr.specs.declared.Operator.TheVariants.{Eq, NotEq, Gt, Gte, Lt, Lte, And, Or, Add, Sub};
+ghost use Rattle.vx_expr.specs.Operators.{operator_number, comparison_of, operator_of, inverse_of, logical_inverse_of, swapped};
+ghost use Rattle.vx_expr.specs.Conjuncts.{conjuncts_of};
+ghost use Rattle.vx_semantics.specs.Samples.{col, ◌⟨◌⟩◌, only, alone, operators, comparisons as all_comparisons, kinds_of_types, integer_types, each_fits};
+
+/// How deep types are.
+pub fn measures_depth()
+    ensures plain { map depth_of (bool_ty NonNullable ∷ int_ty I32 Nullable ∷ text_ty NonNullable ∷ []) ≡ 1 ∷ 1 ∷ 1 ∷ [] }
+    ensures list { depth_of (list_ty (bool_ty NonNullable) NonNullable) ≡ 2 }
+    ensures list_of_lists { depth_of (list_ty (list_ty (bool_ty NonNullable) NonNullable) NonNullable) ≡ 3 }
+    ensures empty { depth_of (struct_ty no_fields NonNullable) ≡ 1 }
+    ensures one { depth_of (struct_ty (only "a" (bool_ty NonNullable)) NonNullable) ≡ 2 }
+    ensures deepest_first { depth_of (struct_ty (field (codes "a") (list_ty (bool_ty NonNullable) NonNullable) (only "b" (bool_ty NonNullable))) NonNullable) ≡ 3 }
+    ensures deepest_last { depth_of (struct_ty (field (codes "a") (bool_ty NonNullable) (only "b" (list_ty (bool_ty NonNullable) NonNullable))) NonNullable) ≡ 3 }
+{}
+
+/// Each integer type is the same as itself alone.
+pub fn tells_integer_types_apart()
+    ensures { map (λ p. map (same_ptype p) integer_types) integer_types ≡
+        (true ∷ replicate 7 false)
+        ∷ (false ∷ true ∷ replicate 6 false)
+        ∷ (replicate 2 false ++ (true ∷ replicate 5 false))
+        ∷ (replicate 3 false ++ (true ∷ replicate 4 false))
+        ∷ (replicate 4 false ++ (true ∷ replicate 3 false))
+        ∷ (replicate 5 false ++ (true ∷ replicate 2 false))
+        ∷ (replicate 6 false ++ (true ∷ false ∷ []))
+        ∷ (replicate 7 false ++ (true ∷ []))
+        ∷ [] }
+{}
+
+/// Each type is the same as itself alone, whatever is nullable.
+pub fn tells_types_apart()
+    ensures each { map (λ t. map (same_type t) kinds_of_types) kinds_of_types ≡
+        (true ∷ replicate 8 false)
+        ∷ (false ∷ true ∷ replicate 7 false)
+        ∷ (replicate 2 false ++ (true ∷ replicate 6 false))
+        ∷ (replicate 3 false ++ (true ∷ replicate 5 false))
+        ∷ (replicate 4 false ++ (true ∷ replicate 4 false))
+        ∷ (replicate 5 false ++ (true ∷ replicate 3 false))
+        ∷ (replicate 6 false ++ (true ∷ replicate 2 false))
+        ∷ (replicate 7 false ++ (true ∷ false ∷ []))
+        ∷ (replicate 8 false ++ (true ∷ []))
+        ∷ [] }
+    ensures nullable { map (λ t. same_type t (with_nullability t Nullable)) kinds_of_types ≡ replicate 9 true }
+    ensures nullable_below { same_type (struct_ty (only "a" (list_ty (int_ty I32 Nullable) Nullable)) NonNullable) (struct_ty (only "a" (list_ty (int_ty I32 NonNullable) NonNullable)) Nullable) ≡ true }
+    ensures another_field { same_type (struct_ty (only "a" (bool_ty NonNullable)) NonNullable) (struct_ty (only "a" (text_ty NonNullable)) NonNullable) ≡ false }
+    ensures another_last_field { same_type (struct_ty (field (codes "a") (bool_ty NonNullable) (only "b" (bool_ty NonNullable))) NonNullable) (struct_ty (field (codes "a") (bool_ty NonNullable) (only "b" (text_ty NonNullable))) NonNullable) ≡ false }
+{}
+
+/// Which types are of which kind.
+pub fn sorts_types()
+    ensures plain { map is_plain kinds_of_types ≡ replicate 4 true ++ replicate 5 false }
+    ensures booleans { map is_bool_ty kinds_of_types ≡ true ∷ replicate 8 false }
+    ensures numbers { map is_int_ty kinds_of_types ≡ false ∷ true ∷ true ∷ replicate 6 false }
+    ensures texts { map is_text_ty kinds_of_types ≡ replicate 3 false ++ (true ∷ replicate 5 false) }
+{}
+
+/// Nullability: its union, and that of types.
+pub fn joins_nullabilities()
+    ensures union { map (λ n. map (union n) (NonNullable ∷ Nullable ∷ [])) (NonNullable ∷ Nullable ∷ []) ≡ (NonNullable ∷ Nullable ∷ []) ∷ (Nullable ∷ Nullable ∷ []) ∷ [] }
+    ensures none { map nullability_of kinds_of_types ≡ replicate 9 NonNullable }
+    ensures set { map (λ t. nullability_of (with_nullability t Nullable)) kinds_of_types ≡ replicate 9 Nullable }
+    ensures set_back { map (λ t. with_nullability (with_nullability t Nullable) NonNullable) kinds_of_types ≡ kinds_of_types }
+    ensures widened_by { map (λ t. widened t Nullable) kinds_of_types ≡ map (λ t. with_nullability t Nullable) kinds_of_types }
+    ensures widened_none { map (λ t. widened t NonNullable) kinds_of_types ≡ kinds_of_types }
+    ensures stays_nullable { widened (bool_ty Nullable) NonNullable ≡ bool_ty Nullable }
+{}
+
+/// Names that stand twice in a struct, at any depth.
+pub fn finds_names_that_stand_twice()
+    ensures none { map no_name_twice kinds_of_types ≡ replicate 9 true }
+    ensures next { no_name_twice (struct_ty (field (codes "a") (bool_ty NonNullable) (only "a" (text_ty NonNullable))) NonNullable) ≡ false }
+    ensures apart { no_name_twice (struct_ty (field (codes "a") (bool_ty NonNullable) (field (codes "b") (bool_ty NonNullable) (only "a" (text_ty NonNullable)))) NonNullable) ≡ false }
+    ensures in_two_structs { no_name_twice (struct_ty (field (codes "a") (struct_ty (only "a" (bool_ty NonNullable)) NonNullable) (only "b" (struct_ty (only "a" (bool_ty NonNullable)) NonNullable))) NonNullable) ≡ true }
+    ensures in_the_first_field { no_name_twice (struct_ty (field (codes "a") (struct_ty (field (codes "c") (bool_ty NonNullable) (only "c" (bool_ty NonNullable))) NonNullable) (only "b" (bool_ty NonNullable))) NonNullable) ≡ false }
+    ensures in_the_last_field { no_name_twice (struct_ty (field (codes "b") (bool_ty NonNullable) (only "a" (struct_ty (field (codes "c") (bool_ty NonNullable) (only "c" (bool_ty NonNullable))) NonNullable))) NonNullable) ≡ false }
+    ensures in_a_list { no_name_twice (list_ty (struct_ty (field (codes "c") (bool_ty NonNullable) (only "c" (bool_ty NonNullable))) NonNullable) NonNullable) ≡ false }
+    ensures first_appearance { first_names (codes "b" ∷ codes "a" ∷ codes "b" ∷ codes "c" ∷ codes "a" ∷ []) ≡ codes "b" ∷ codes "a" ∷ codes "c" ∷ [] }
+{}
+
+/// The value that a raw value stands for at a type; of another shape it is a fault.
+pub fn gives_values_their_types()
+    ensures null { valued raw_null (int_ty I32 Nullable) ≡ null_val }
+    ensures boolean { valued (raw_bool true) (bool_ty NonNullable) ≡ bool_val true }
+    ensures number { valued (raw_int (pos 5)) (int_ty U16 NonNullable) ≡ int_val U16 (pos 5) }
+    ensures word { valued (raw_text (codes "a")) (text_ty NonNullable) ≡ text_val (codes "a") }
+    ensures list { valued (raw_list (raw (raw_int (pos 5)) (raw raw_null no_raws))) (list_ty (int_ty I8 Nullable) NonNullable) ≡ list_val (val (int_val I8 (pos 5)) (val null_val no_vals)) }
+    ensures members { valued (raw_struct (raw (raw_int (pos 5)) (raw (raw_bool false) no_raws))) (struct_ty (field (codes "a") (int_ty I8 NonNullable) (only "b" (bool_ty NonNullable))) NonNullable) ≡ struct_val (member (codes "a") (int_val I8 (pos 5)) (member (codes "b") (bool_val false) no_members)) }
+    ensures fewer_fields { valued (raw_struct (raw (raw_int (pos 5)) (raw (raw_bool false) no_raws))) (struct_ty (only "a" (int_ty I8 NonNullable)) NonNullable) ≡ alone "a" (int_val I8 (pos 5)) }
+    ensures boolean_elsewhere { map (valued (raw_bool true)) kinds_of_types ≡ bool_val true ∷ replicate 8 fault }
+    ensures number_elsewhere { map (valued (raw_int (pos 5))) kinds_of_types ≡ fault ∷ int_val I32 (pos 5) ∷ int_val I64 (pos 5) ∷ replicate 6 fault }
+    ensures word_elsewhere { map (valued (raw_text (codes "a"))) kinds_of_types ≡ replicate 3 fault ++ (text_val (codes "a") ∷ replicate 5 fault) }
+    ensures list_elsewhere { map (valued (raw_list no_raws)) kinds_of_types ≡ replicate 4 fault ++ (list_val no_vals ∷ list_val no_vals ∷ replicate 3 fault) }
+    ensures struct_elsewhere { map (valued (raw_struct no_raws)) kinds_of_types ≡ replicate 6 fault ++ replicate 3 (struct_val no_members) }
+{}
+
+/// Which raw values a type has: a number in its range, null where it is nullable, one value per field.
+pub fn fits_raw_values()
+    ensures null { map (fits raw_null) kinds_of_types ≡ replicate 9 false }
+    ensures nullable { map (λ t. fits raw_null (with_nullability t Nullable)) kinds_of_types ≡ replicate 9 true }
+    ensures boolean { map (fits (raw_bool true)) kinds_of_types ≡ true ∷ replicate 8 false }
+    ensures number { map (fits (raw_int (pos 5))) kinds_of_types ≡ false ∷ true ∷ true ∷ replicate 6 false }
+    ensures word { map (fits (raw_text (codes "a"))) kinds_of_types ≡ replicate 3 false ++ (true ∷ replicate 5 false) }
+    ensures empty_list { map (fits (raw_list no_raws)) kinds_of_types ≡ replicate 4 false ++ (true ∷ true ∷ replicate 3 false) }
+    ensures no_values { map (fits (raw_struct no_raws)) kinds_of_types ≡ replicate 6 false ++ (true ∷ false ∷ false ∷ []) }
+    ensures elements { fits (raw_list (raw (raw_int (pos 5)) (raw (raw_int (negsuc 5)) no_raws))) (list_ty (int_ty I8 NonNullable) NonNullable) ≡ true }
+    ensures null_first { fits (raw_list (raw raw_null (raw (raw_int (pos 5)) no_raws))) (list_ty (int_ty I8 NonNullable) NonNullable) ≡ false }
+    ensures null_last { fits (raw_list (raw (raw_int (pos 5)) (raw raw_null no_raws))) (list_ty (int_ty I8 NonNullable) NonNullable) ≡ false }
+    ensures members { fits (raw_struct (raw (raw_int (pos 5)) (raw (raw_bool false) no_raws))) (struct_ty (field (codes "a") (int_ty I8 NonNullable) (only "b" (bool_ty NonNullable))) NonNullable) ≡ true }
+    ensures other_first { fits (raw_struct (raw (raw_bool true) (raw (raw_bool false) no_raws))) (struct_ty (field (codes "a") (int_ty I8 NonNullable) (only "b" (bool_ty NonNullable))) NonNullable) ≡ false }
+    ensures other_last { fits (raw_struct (raw (raw_int (pos 5)) (raw (raw_int (pos 5)) no_raws))) (struct_ty (field (codes "a") (int_ty I8 NonNullable) (only "b" (bool_ty NonNullable))) NonNullable) ≡ false }
+    ensures more_values { fits (raw_struct (raw (raw_int (pos 5)) (raw (raw_int (pos 5)) no_raws))) (struct_ty (only "a" (int_ty I8 NonNullable)) NonNullable) ≡ false }
+    ensures greatest { each_fits integer_types (pos 255 ∷ pos 65535 ∷ pos 4294967295 ∷ pos 18446744073709551615 ∷ pos 127 ∷ pos 32767 ∷ pos 2147483647 ∷ pos 9223372036854775807 ∷ []) ≡ replicate 8 true }
+    ensures above { each_fits integer_types (pos 256 ∷ pos 65536 ∷ pos 4294967296 ∷ pos 18446744073709551616 ∷ pos 128 ∷ pos 32768 ∷ pos 2147483648 ∷ pos 9223372036854775808 ∷ []) ≡ replicate 8 false }
+    ensures least { each_fits integer_types (pos 0 ∷ pos 0 ∷ pos 0 ∷ pos 0 ∷ negsuc 127 ∷ negsuc 32767 ∷ negsuc 2147483647 ∷ negsuc 9223372036854775807 ∷ []) ≡ replicate 8 true }
+    ensures below { each_fits integer_types (negsuc 0 ∷ negsuc 0 ∷ negsuc 0 ∷ negsuc 0 ∷ negsuc 128 ∷ negsuc 32768 ∷ negsuc 2147483648 ∷ negsuc 9223372036854775808 ∷ []) ≡ replicate 8 false }
+{}
+
+/// Which values a type has: of its integer type, with its names in order, and with no fault in them.
+pub fn fits_values()
+    ensures null { map (val_fits null_val) kinds_of_types ≡ replicate 9 false }
+    ensures nullable { map (λ t. val_fits null_val (with_nullability t Nullable)) kinds_of_types ≡ replicate 9 true }
+    ensures boolean { map (val_fits (bool_val true)) kinds_of_types ≡ true ∷ replicate 8 false }
+    ensures number { map (val_fits (int_val I32 (pos 5))) kinds_of_types ≡ false ∷ true ∷ replicate 7 false }
+    ensures out_of_range { val_fits (int_val U8 (pos 256)) (int_ty U8 NonNullable) ≡ false }
+    ensures word { map (val_fits (text_val (codes "a"))) kinds_of_types ≡ replicate 3 false ++ (true ∷ replicate 5 false) }
+    ensures empty_list { map (val_fits (list_val no_vals)) kinds_of_types ≡ replicate 4 false ++ (true ∷ true ∷ replicate 3 false) }
+    ensures no_members { map (val_fits (struct_val no_members)) kinds_of_types ≡ replicate 6 false ++ (true ∷ false ∷ false ∷ []) }
+    ensures broken { map (val_fits fault) kinds_of_types ≡ replicate 9 false }
+    ensures elements { val_fits (list_val (val (int_val I8 (pos 5)) (val null_val no_vals))) (list_ty (int_ty I8 Nullable) NonNullable) ≡ true }
+    ensures other_first { val_fits (list_val (val (bool_val true) (val null_val no_vals))) (list_ty (int_ty I8 Nullable) NonNullable) ≡ false }
+    ensures other_last { val_fits (list_val (val null_val (val (bool_val true) no_vals))) (list_ty (int_ty I8 Nullable) NonNullable) ≡ false }
+    ensures named { val_fits (alone "a" (bool_val true)) (struct_ty (only "a" (bool_ty NonNullable)) NonNullable) ≡ true }
+    ensures misnamed { val_fits (alone "b" (bool_val true)) (struct_ty (only "a" (bool_ty NonNullable)) NonNullable) ≡ false }
+    ensures other_member { val_fits (alone "a" (text_val [])) (struct_ty (only "a" (bool_ty NonNullable)) NonNullable) ≡ false }
+    ensures more_members { val_fits (struct_val (member (codes "a") (bool_val true) (member (codes "b") (bool_val true) no_members))) (struct_ty (only "a" (bool_ty NonNullable)) NonNullable) ≡ false }
+    ensures last_member { val_fits (struct_val (member (codes "a") (bool_val true) (member (codes "b") (bool_val true) no_members))) (struct_ty (field (codes "a") (bool_ty NonNullable) (only "b" (text_ty NonNullable))) NonNullable) ≡ false }
+{}
+
+/// The same with faults in place of plain values: a fault is one of each plain type, and of no list and no struct.
+pub fn fits_values_but_for_faults()
+    ensures null { map (fits_but_for_faults null_val) kinds_of_types ≡ replicate 9 false }
+    ensures nullable { map (λ t. fits_but_for_faults null_val (with_nullability t Nullable)) kinds_of_types ≡ replicate 9 true }
+    ensures boolean { map (fits_but_for_faults (bool_val true)) kinds_of_types ≡ true ∷ replicate 8 false }
+    ensures number { map (fits_but_for_faults (int_val I32 (pos 5))) kinds_of_types ≡ false ∷ true ∷ replicate 7 false }
+    ensures word { map (fits_but_for_faults (text_val (codes "a"))) kinds_of_types ≡ replicate 3 false ++ (true ∷ replicate 5 false) }
+    ensures empty_list { map (fits_but_for_faults (list_val no_vals)) kinds_of_types ≡ replicate 4 false ++ (true ∷ true ∷ replicate 3 false) }
+    ensures no_members { map (fits_but_for_faults (struct_val no_members)) kinds_of_types ≡ replicate 6 false ++ (true ∷ false ∷ false ∷ []) }
+    ensures broken { map (fits_but_for_faults fault) kinds_of_types ≡ replicate 4 true ++ replicate 5 false }
+    ensures elements { fits_but_for_faults (list_val (val (int_val I8 (pos 5)) (val fault no_vals))) (list_ty (int_ty I8 NonNullable) NonNullable) ≡ true }
+    ensures other_first { fits_but_for_faults (list_val (val (bool_val true) (val fault no_vals))) (list_ty (int_ty I8 NonNullable) NonNullable) ≡ false }
+    ensures other_last { fits_but_for_faults (list_val (val fault (val (bool_val true) no_vals))) (list_ty (int_ty I8 NonNullable) NonNullable) ≡ false }
+    ensures named { fits_but_for_faults (alone "a" fault) (struct_ty (only "a" (bool_ty NonNullable)) NonNullable) ≡ true }
+    ensures misnamed { fits_but_for_faults (alone "b" fault) (struct_ty (only "a" (bool_ty NonNullable)) NonNullable) ≡ false }
+    ensures other_member { fits_but_for_faults (alone "a" (text_val [])) (struct_ty (only "a" (bool_ty NonNullable)) NonNullable) ≡ false }
+    ensures more_members { fits_but_for_faults (struct_val (member (codes "a") fault (member (codes "b") fault no_members))) (struct_ty (only "a" (bool_ty NonNullable)) NonNullable) ≡ false }
+    ensures last_member { fits_but_for_faults (struct_val (member (codes "a") fault (member (codes "b") (bool_val true) no_members))) (struct_ty (field (codes "a") (bool_ty NonNullable) (only "b" (text_ty NonNullable))) NonNullable) ≡ false }
+{}
+
+/// Faults, at any depth.
+pub fn finds_faults()
+    ensures plain { map holds_fault (fault ∷ null_val ∷ bool_val true ∷ int_val I32 (pos 1) ∷ text_val [] ∷ list_val no_vals ∷ struct_val no_members ∷ []) ≡ true ∷ replicate 6 false }
+    ensures first { holds_fault (list_val (val fault (val null_val no_vals))) ≡ true }
+    ensures last { holds_fault (list_val (val null_val (val fault no_vals))) ≡ true }
+    ensures none { holds_fault (list_val (val null_val no_vals)) ≡ false }
+    ensures first_member { holds_fault (struct_val (member (codes "a") fault (member (codes "b") null_val no_members))) ≡ true }
+    ensures last_member { holds_fault (struct_val (member (codes "a") null_val (member (codes "b") fault no_members))) ≡ true }
+    ensures no_member { holds_fault (alone "a" null_val) ≡ false }
+    ensures below { holds_fault (alone "a" (list_val (val fault no_vals))) ≡ true }
+{}
+
+/// The operators by number, and their tables.
+pub fn tabulates_operators()
+    ensures numbers { map operator_number operators ≡ 0 ∷ 1 ∷ 2 ∷ 3 ∷ 4 ∷ 5 ∷ 6 ∷ 7 ∷ 8 ∷ 9 ∷ [] }
+    ensures of_comparisons { map operator_of all_comparisons ≡ Eq ∷ NotEq ∷ Gt ∷ Gte ∷ Lt ∷ Lte ∷ [] }
+    ensures as_comparisons { map comparison_of operators ≡ map Some all_comparisons ++ replicate 4 None }
+    ensures inverses { map inverse_of operators ≡ (Some NotEq ∷ Some Eq ∷ Some Lte ∷ Some Lt ∷ Some Gte ∷ Some Gt ∷ []) ++ replicate 4 None }
+    ensures logical_inverses { map logical_inverse_of operators ≡ replicate 6 None ++ (Some Or ∷ Some And ∷ None ∷ None ∷ []) }
+    ensures exchanged { map swapped operators ≡ Eq ∷ NotEq ∷ Lt ∷ Lte ∷ Gt ∷ Gte ∷ And ∷ Or ∷ Add ∷ Sub ∷ [] }
+{}
+
+/// Conjuncts from left to right, through both sides and no other operator.
+pub fn lists_conjuncts()
+    ensures { conjuncts_of ((col "a" ⟨ And ⟩ col "b") ⟨ And ⟩ ((col "c" ⟨ Or ⟩ col "d") ⟨ And ⟩ col "e")) ≡ col "a" ∷ col "b" ∷ (col "c" ⟨ Or ⟩ col "d") ∷ col "e" ∷ [] }
+{}
