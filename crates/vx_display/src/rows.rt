@@ -1,0 +1,97 @@
+// Rows as texts.
+ghost use Rattle.std.specs.Prelude.{◌≡◌, true, map, [], ◌++◌, codes, OnOk, IfOk};
+ghost use Rattle.std.specs.String.{string_bytes};
+ghost use Rattle.vx_dtype.specs.Fits.{fits};
+ghost use Rattle.vx_dtype.specs.TypeViews.{type_view};
+ghost use Rattle.vx_dtype.specs.RawViews.{raw_view, raws_of};
+ghost use Rattle.vx_dtype.specs.Texts.{quoted_text};
+ghost use Rattle.vx_display.specs.RowTexts.{row_text_of, elements_text, members_text};
+
+use std::alloc::Global;
+use std::fmt::Write;
+use vx_dtype::{DType, Mem, NoMemory, Quoted, ScalarValue, StructFields};
+
+/// A value of a type as a text in the form of JSON, without spaces: `null`, `true`, a decimal number, a text within quotes, `[v,v]`,
+/// `{"name":v,"name":v}` in the order of the type's fields.
+#[tactic(auto, unfolding(crate::specs::RowTexts::row_text_of))]
+pub fn row_text(alloc: Global, dtype: &DType, value: &ScalarValue) -> Mem<String>
+    requires { fits (raw_view value.now) (type_view dtype.now) ≡ true }
+    ensures { IfOk result (λ text. string_bytes text ≡ row_text_of (raw_view value.now) (type_view dtype.now)) }
+{
+    let mut text = String::new(alloc);
+    push_value(&mut text, value, dtype)?;
+    Ok(text)
+}
+
+/// Writes the text of a value at the end, as far as there is memory.
+#[cycle(push)]
+#[tactic(auto, unfolding(crate::specs::RowTexts::row_text_of))]
+fn push_value(out: &mut String, value: &ScalarValue, dtype: &DType) -> Mem<()>
+    ensures { OnOk result (string_bytes out.new ≡ string_bytes out.old ++ row_text_of (raw_view value.now) (type_view dtype.now)) }
+{
+    match value {
+        ScalarValue::Null => Ok(out.push_str("null")?),
+        ScalarValue::Bool(b) => Ok(out.push_str(if *b { "true" } else { "false" })?),
+        ScalarValue::Int(i) => match write!(out, "{i}") {
+            Ok(()) => Ok(()),
+            Err(_) => Err(NoMemory),
+        },
+        ScalarValue::Utf8(text) => push_quoted(out, text.as_str()),
+        ScalarValue::List(items) => match dtype {
+            DType::List(element, _) => push_elements(out, items.as_slice(), element.dtype()),
+            _ => Ok(()),
+        },
+        ScalarValue::Struct(values) => match dtype {
+            DType::Struct(fields, _) => push_members(out, values.as_slice(), fields),
+            _ => Ok(()),
+        },
+    }
+}
+
+/// Writes a text within quotes at the end, as far as there is memory.
+fn push_quoted(out: &mut String, text: &str) -> Mem<()>
+    ensures { OnOk result (string_bytes out.new ≡ string_bytes out.old ++ quoted_text text.now) }
+{
+    match write!(out, "{}", Quoted(text)) {
+        Ok(()) => Ok(()),
+        Err(_) => Err(NoMemory),
+    }
+}
+
+/// Writes values of one type in brackets at the end, as far as there is memory.
+#[cycle(push)]
+fn push_elements(out: &mut String, values: &[ScalarValue], dtype: &DType) -> Mem<()>
+    ensures { OnOk result (string_bytes out.new ≡ string_bytes out.old ++ (codes "[" ++ (elements_text [] (raws_of (map raw_view values.now)) (type_view dtype.now) ++ codes "]"))) }
+{
+    out.push_str("[")?;
+    for i in 0..values.len() {
+        if i > 0 {
+            out.push_str(",")?;
+        }
+        push_value(out, &values[i], dtype)?;
+    }
+    Ok(out.push_str("]")?)
+}
+
+/// Writes the values of fields in braces at the end, each behind its quoted name, as far as there is memory.
+#[cycle(push)]
+fn push_members(out: &mut String, values: &[ScalarValue], fields: &StructFields) -> Mem<()>
+    ensures { OnOk result (string_bytes out.new ≡ string_bytes out.old ++ (codes "{" ++ (members_text [] (raws_of (map raw_view values.now)) fields.now ++ codes "}"))) }
+{
+    out.push_str("{")?;
+    for i in 0..values.len().min(fields.nfields()) {
+        let Some(name) = fields.field_name(i) else {
+            unreachable!();
+        };
+        let Some(dtype) = fields.field_by_index(i) else {
+            unreachable!();
+        };
+        if i > 0 {
+            out.push_str(",")?;
+        }
+        push_quoted(out, name.as_str())?;
+        out.push_str(":")?;
+        push_value(out, &values[i], dtype)?;
+    }
+    Ok(out.push_str("}")?)
+}
