@@ -7,3 +7,4 @@ pub mod RawLemmas
 pub mod PathLemmas
 pub mod ProjectionLemmas
 pub mod TextLemmas
+pub mod FieldsFrom

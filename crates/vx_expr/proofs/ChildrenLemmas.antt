@@ -1,5 +1,5 @@
 -- A node takes its own children back, and refuses exactly another number of them.
-use Rattle.std.proofs.Common.{◌≡◌, ◌≢◌, ℕ, ◌==◌, Bool, true, false, List, [], ◌∷◌, length, Option, Some, None, option_map, refl, ap}
+use Rattle.std.proofs.Common.{◌≡◌, ◌≢◌, ℕ, ◌==◌, Bool, true, false, List, [], ◌∷◌, length, Some, None, option_map, refl, ap}
 use Rattle.std.specs.Cmp.{unsigned_Decides}
 use Rattle.vx_expr.specs.Trees.{Tree, root, literal, get_item, binary, not_of, is_null_of, like, between, cast, list_contains, pack, merge, select, dynamic, trees_of, listed, children_of}
 use Rattle.vx_expr.specs.Children.{one_of, two_of, three_of, where_so, with_children_of}

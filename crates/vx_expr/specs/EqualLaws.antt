@@ -1,13 +1,12 @@
 -- The tests of equality answer true exactly where the two sides are one.
-use Rattle.std.specs.Prelude.{◌≡◌, ℕ, ◌==◌, Bool, true, false, ◌&&◌, refl, Decides}
+use Rattle.std.specs.Prelude.{◌≡◌, ◌==◌, true, ◌&&◌, refl, Decides}
 use Rattle.std.proofs.Common.{ap, subst}
 use Rattle.std.specs.Cmp.{IsEquivalence, decided, unsigned_Decides, first_so, second_so}
-use Rattle.std.specs.Str.{bytes_eq}
 use Rattle.std.proofs.lemmas.Slice.Eq.{bytes_eq-Decides}
 use Rattle.vx_dtype.specs.declared.CompareOperator.{CompareOperator}
 use Rattle.vx_dtype.specs.declared.StrictComparison.{StrictComparison}
 use Rattle.vx_dtype.specs.declared.BetweenOptions.{BetweenOptions}
-use Rattle.vx_dtype.specs.Equal.{names_eq, same_nullability, same_bool, ty_eq, typed_eq}
+use Rattle.vx_dtype.specs.Equal.{same_bool, ty_eq}
 use Rattle.vx_dtype.specs.EqualLaws.{names_decides, nullability_decides, bool_decides, ty_decides, typed_decides}
 use Rattle.vx_expr.specs.declared.operators.Operator.{Operator}
 use Rattle.vx_expr.specs.declared.selections.FieldSelection.{FieldSelection}

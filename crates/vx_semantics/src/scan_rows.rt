@@ -1,7 +1,7 @@
 // Scans that were worked out by hand.
 #![tactic(auto, unfolding(crate::proofs::Computing::all_definitions))]
 
-ghost use Rattle.std.specs.Prelude.{◌≡◌, pos, negsuc, true, [], ◌∷◌, codes, Ok, Err};
+ghost use Rattle.std.specs.Prelude.{◌≡◌, pos, negsuc, true, false, [], ◌∷◌, codes, Ok, Err};
 ghost use Rattle.vx_dtype.specs.declared.PType.TheVariants.{I8, I32, U8};
 ghost use Rattle.vx_dtype.specs.declared.Nullability.TheVariants.{NonNullable, Nullable};
 ghost use Rattle.vx_dtype.specs.declared.Stat.TheVariants.{Min, Max};
@@ -12,7 +12,8 @@ ghost use Rattle.vx_expr.specs.declared.FieldSelection.TheVariants.{Include, Exc
 ghost use Rattle.vx_expr.specs.Trees.{get_item, not_of, is_null_of, cast, list_contains, merge, select, no_trees, tree};
 ghost use Rattle.vx_semantics.specs.Typing.{typed_of, not_struct, nullable_select, unknown_field, duplicate_field};
 ghost use Rattle.vx_semantics.specs.Tables.{row_type};
-ghost use Rattle.vx_semantics.specs.Samples.{col, number, boolean, null_of, ◌⟨◌⟩◌, numbers, number_table, bounds, statistic, answer_of, breaks_in_order, sound, broken_sum, broken_cast, two_blocks, above_ten, two_structs, joined_twice, two_small, pack_one, pack_two, number_list, reads_in};
+ghost use Rattle.vx_semantics.specs.Scans.{kept_blocks, skipped_blocks, phase_breaks};
+ghost use Rattle.vx_semantics.specs.Samples.{col, number, boolean, null_of, ◌⟨◌⟩◌, numbers, rows_of_numbers, number_table, zones_of, bounds, statistic, answer_of, breaks_in_order, sound, broken_sum, broken_cast, two_blocks, above_ten, two_structs, joined_twice, two_small, pack_one, pack_two, number_list, reads_in};
 
 /// The rows above ten of two blocks without statistics: both blocks are read.
 pub fn keeps_rows_above_ten()
@@ -24,6 +25,19 @@ pub fn keeps_rows_above_ten()
 pub fn skips_a_block_by_its_maximum()
     ensures { answer_of (number_table I32 "x" ((pos 1 ∷ pos 10 ∷ []) ∷ (pos 11 ∷ []) ∷ [])) (statistic ("x" ∷ []) Min (bounds I32 (pos 0 ∷ pos 0 ∷ [])) ∷ statistic ("x" ∷ []) Max (bounds I32 (pos 10 ∷ pos 11 ∷ [])) ∷ []) [] (above_ten) (col "x")
         ≡ record { rows = numbers I32 (pos 11 ∷ []); skipped = 0 ∷ []; columns = codes "x" ∷ []; reads = reads_in "x" (1 ∷ []) } }
+{}
+
+/// The blocks that are kept and those that are skipped, by their numbers.
+pub fn sorts_blocks()
+    ensures kept { kept_blocks (zones_of (number_table I32 "x" ((pos 1 ∷ pos 10 ∷ []) ∷ (pos 11 ∷ []) ∷ [])) (statistic ("x" ∷ []) Max (bounds I32 (pos 10 ∷ pos 11 ∷ [])) ∷ [])) [] above_ten ≡ 1 ∷ [] }
+    ensures skipped { skipped_blocks (zones_of (number_table I32 "x" ((pos 1 ∷ pos 10 ∷ []) ∷ (pos 11 ∷ []) ∷ [])) (statistic ("x" ∷ []) Max (bounds I32 (pos 10 ∷ pos 11 ∷ [])) ∷ [])) [] above_ten ≡ 0 ∷ [] }
+{}
+
+/// A phase breaks by a sum or by a cast.
+pub fn phases_that_break()
+    ensures sum { phase_breaks (row_type (number_table I8 "x" []).columns) [] (record { expression = col "x" ⟨ Add ⟩ number I8 (pos 1); rows = rows_of_numbers I8 "x" (pos 1 ∷ pos 127 ∷ []) }) ≡ true }
+    ensures casting { phase_breaks (row_type (number_table I8 "x" []).columns) [] (record { expression = cast (col "x") (int_ty U8 NonNullable); rows = rows_of_numbers I8 "x" (pos 1 ∷ negsuc 0 ∷ []) }) ≡ true }
+    ensures none { phase_breaks (row_type (number_table I8 "x" []).columns) [] (record { expression = cast (col "x" ⟨ Add ⟩ number I8 (pos 1)) (int_ty U8 NonNullable); rows = rows_of_numbers I8 "x" (pos 1 ∷ pos 126 ∷ []) }) ≡ false }
 {}
 
 /// No blocks: no rows and no reads.

@@ -47,6 +47,7 @@ pub fn types_operators()
     ensures nullable_left { map (λ op. typed_of mixed (col "b" ⟨ op ⟩ col "a")) operators ≡ replicate 6 (Ok (bool_ty Nullable)) ++ (Err type_mismatch ∷ Err type_mismatch ∷ Ok (int_ty I32 Nullable) ∷ Ok (int_ty I32 Nullable) ∷ []) }
     ensures booleans { map (λ op. typed_of mixed (col "f" ⟨ op ⟩ col "f")) operators ≡ replicate 8 (Ok (bool_ty NonNullable)) ++ (Err type_mismatch ∷ Err type_mismatch ∷ []) }
     ensures nullable_booleans { map (λ op. typed_of mixed (col "f" ⟨ op ⟩ col "g")) operators ≡ replicate 8 (Ok (bool_ty Nullable)) ++ (Err type_mismatch ∷ Err type_mismatch ∷ []) }
+    ensures nullable_booleans_left { map (λ op. typed_of mixed (col "g" ⟨ op ⟩ col "f")) operators ≡ replicate 8 (Ok (bool_ty Nullable)) ++ (Err type_mismatch ∷ Err type_mismatch ∷ []) }
     ensures texts { map (λ op. typed_of mixed (col "t" ⟨ op ⟩ col "t")) operators ≡ replicate 6 (Ok (bool_ty NonNullable)) ++ replicate 4 (Err type_mismatch) }
     ensures boolean_and_number { map (λ op. typed_of mixed (col "f" ⟨ op ⟩ col "a")) operators ≡ replicate 10 (Err type_mismatch) }
     ensures number_and_boolean { map (λ op. typed_of mixed (col "a" ⟨ op ⟩ col "f")) operators ≡ replicate 10 (Err type_mismatch) }
