@@ -64,11 +64,11 @@ fn push_elements(out: &mut String, values: &[ScalarValue], dtype: &DType) -> Mem
     ensures { OnOk result (string_bytes out.new ≡ string_bytes out.old ++ (codes "[" ++ (elements_text [] (raws_of (map raw_view values.now)) (type_view dtype.now) ++ codes "]"))) }
 {
     out.push_str("[")?;
+    let mut separator = "";
     for i in 0..values.len() {
-        if i > 0 {
-            out.push_str(",")?;
-        }
+        out.push_str(separator)?;
         push_value(out, &values[i], dtype)?;
+        separator = ",";
     }
     Ok(out.push_str("]")?)
 }
@@ -79,6 +79,7 @@ fn push_members(out: &mut String, values: &[ScalarValue], fields: &StructFields)
     ensures { OnOk result (string_bytes out.new ≡ string_bytes out.old ++ (codes "{" ++ (members_text [] (raws_of (map raw_view values.now)) fields.now ++ codes "}"))) }
 {
     out.push_str("{")?;
+    let mut separator = "";
     for i in 0..values.len().min(fields.nfields()) {
         let Some(name) = fields.field_name(i) else {
             unreachable!();
@@ -86,12 +87,11 @@ fn push_members(out: &mut String, values: &[ScalarValue], fields: &StructFields)
         let Some(dtype) = fields.field_by_index(i) else {
             unreachable!();
         };
-        if i > 0 {
-            out.push_str(",")?;
-        }
+        out.push_str(separator)?;
         push_quoted(out, name.as_str())?;
         out.push_str(":")?;
         push_value(out, &values[i], dtype)?;
+        separator = ",";
     }
     Ok(out.push_str("}")?)
 }
