@@ -22,3 +22,33 @@ pub enum ZoneError {
     /// The type of a value isn't the statistic's, made nullable.
     WrongStatType,
 }
+
+impl From<AllocError> for ZoneError {
+    ghost use Rattle.vx_prune.specs.declared.errors.ZoneError.TheVariants.{NoMemory as OutOfMemory};
+
+    ghost from_gives = { λ _ e. e ≡ OutOfMemory };
+
+    fn from(_error: AllocError) -> ZoneError {
+        ZoneError::NoMemory
+    }
+}
+
+impl<T: Drop> From<AllocFailed<T>> for ZoneError {
+    ghost use Rattle.vx_prune.specs.declared.errors.ZoneError.TheVariants.{NoMemory as OutOfMemory};
+
+    ghost from_gives = { λ _ e. e ≡ OutOfMemory };
+
+    fn from(_error: AllocFailed<T>) -> ZoneError {
+        ZoneError::NoMemory
+    }
+}
+
+impl From<NoMemory> for ZoneError {
+    ghost use Rattle.vx_prune.specs.declared.errors.ZoneError.TheVariants.{NoMemory as OutOfMemory};
+
+    ghost from_gives = { λ _ e. e ≡ OutOfMemory };
+
+    fn from(_error: NoMemory) -> ZoneError {
+        ZoneError::NoMemory
+    }
+}
