@@ -1,0 +1,9 @@
+use Rattle.std.proofs.Common.{◌≡◌, map, drop}
+use Rattle.std.specs.List.{list_all, list_any}
+use Rattle.vx_prune.specs.ZoneViews.{stat_view}
+use Rattle.vx_prune.specs.Zoning.{has_its_type}
+use Rattle.vx_prune.proofs.zone_rules.have_their_types.Given as goal
+
+-- what is left to test
+abbrev pub invariant-loop-stat : goal.invariant-loop-stat
+invariant-loop-stat l = list_all (has_its_type l.fn.columns) (map stat_view l.fn.stats) ≡ list_all (has_its_type l.fn.columns) (map stat_view (drop l.stat-index l.fn.stats))

@@ -1,0 +1,4 @@
+pub mod Zoning
+pub mod ZoneViews
+pub mod ZoneCodes
+pub mod ZoneAnswers

@@ -1,0 +1,13 @@
+//! Statistics of a table's blocks, and the blocks that they rule out.
+#![tactic(auto)]
+
+mod duplicates;
+mod errors;
+mod leaves;
+#[cfg(test)]
+mod tests;
+mod zone_rules;
+mod zones;
+
+pub use errors::ZoneError;
+pub use zones::{Scalars, ZoneMap, ZoneStat};

@@ -1,0 +1,177 @@
+// The rules that make columns, lengths and statistics zones.
+ghost use Rattle.std.specs.Prelude.{◌≡◌, true, false, length, map, is_some, option_map, IfOk};
+ghost use Rattle.std.specs.List.{list_all, list_any};
+ghost use Rattle.vx_dtype.specs.Equal.{ty_eq};
+ghost use Rattle.vx_dtype.specs.declared.Nullability.TheVariants.{Nullable};
+ghost use Rattle.vx_dtype.specs.TypeRules.{with_nullability};
+ghost use Rattle.vx_dtype.specs.TypeViews.{type_view};
+ghost use Rattle.vx_prune.specs.Zoning.{broken_rule, are_shallow, type_of_statistic, same_statistic, distinct_statistics, counts_blocks, has_its_type};
+ghost use Rattle.vx_prune.specs.ZoneViews.{stat_view};
+
+use crate::duplicates::{no_field_twice, type_at_place};
+use crate::errors::ZoneError;
+use crate::leaves::leaf_type;
+use crate::zones::ZoneStat;
+use vx_dtype::{DType, Mem, Nullability, PType, Scalar, Stat, StructFields};
+
+/// How deep a column's type may be.
+const MOST_DEEP: usize = 64;
+
+/// The first rule that columns, lengths and statistics break, and None where they are zones.
+#[tactic(auto, unfolding(crate::specs::Zoning::broken_rule, vx_dtype::specs::TypeRules::no_name_twice))]
+pub(crate) fn broken_rule(
+    columns: &StructFields,
+    lengths: &[u32],
+    stats: &[ZoneStat],
+) -> Mem<Option<ZoneError>>
+    ensures { IfOk result (λ rule. rule ≡ broken_rule (record { columns = columns.now; lengths = lengths.now; stats = map stat_view stats.now })) }
+{
+    if !no_field_twice(columns) {
+        return Ok(Some(ZoneError::DuplicateName));
+    }
+    if !are_shallow(columns) {
+        return Ok(Some(ZoneError::DeepType));
+    }
+    if !lead_to_fields(columns, stats) {
+        return Ok(Some(ZoneError::BadStatPath));
+    }
+    if !are_distinct(stats) {
+        return Ok(Some(ZoneError::DuplicateStat));
+    }
+    if !count_blocks(lengths, stats) {
+        return Ok(Some(ZoneError::WrongStatCount));
+    }
+    if !have_their_types(columns, stats)? {
+        return Ok(Some(ZoneError::WrongStatType));
+    }
+    Ok(None)
+}
+
+/// Whether no column's type is deeper than 64.
+fn are_shallow(columns: &StructFields) -> bool
+    ensures { result ≡ are_shallow columns.now }
+{
+    for i in 0..columns.nfields() {
+        if type_at_place(columns, i).depth() > MOST_DEEP {
+            return false;
+        }
+    }
+    true
+}
+
+/// Whether each statistic is one of a plain field that its path leads to.
+fn lead_to_fields(columns: &StructFields, stats: &[ZoneStat]) -> bool
+    ensures { result ≡ list_all (λ z. is_some (type_of_statistic columns.now z)) (map stat_view stats.now) }
+{
+    for stat in stats {
+        if !leads_to_field(columns, stat) {
+            return false;
+        }
+    }
+    true
+}
+
+/// Whether a statistic is one of a plain field that its path leads to.
+fn leads_to_field(columns: &StructFields, stat: &ZoneStat) -> bool
+    ensures { result ≡ is_some (type_of_statistic columns.now (stat_view stat.now)) }
+{
+    let leaf = leaf_type(columns, &stat.path);
+    match stat.stat {
+        Stat::Min => leaf.is_some(),
+        Stat::Max => leaf.is_some(),
+        Stat::NullCount => leaf.is_some(),
+        Stat::NaNCount => false,
+    }
+}
+
+/// Whether no two statistics are of one path and one kind.
+fn are_distinct(stats: &[ZoneStat]) -> bool
+    ensures { result ≡ distinct_statistics (map stat_view stats.now) }
+{
+    for i in 0..stats.len() {
+        if has_statistic(&stats[i], &stats[i + 1..]) {
+            return false;
+        }
+    }
+    true
+}
+
+/// Whether one of the others is of the same path and kind.
+fn has_statistic(stat: &ZoneStat, others: &[ZoneStat]) -> bool
+    ensures { result ≡ list_any (same_statistic (stat_view stat.now)) (map stat_view others.now) }
+{
+    for other in others {
+        if same_statistic(stat, other) {
+            return true;
+        }
+    }
+    false
+}
+
+/// Whether two statistics are of one path and one kind.
+fn same_statistic(stat: &ZoneStat, other: &ZoneStat) -> bool
+    ensures { result ≡ same_statistic (stat_view stat.now) (stat_view other.now) }
+{
+    stat.path == other.path && stat.stat == other.stat
+}
+
+/// Whether each statistic has one value per block.
+fn count_blocks(lengths: &[u32], stats: &[ZoneStat]) -> bool
+    ensures { result ≡ list_all (counts_blocks lengths.now) (map stat_view stats.now) }
+{
+    for stat in stats {
+        if stat.values.as_slice().len() != lengths.len() {
+            return false;
+        }
+    }
+    true
+}
+
+/// Whether each value of each statistic has the statistic's type, made nullable.
+fn have_their_types(columns: &StructFields, stats: &[ZoneStat]) -> Mem<bool>
+    ensures { IfOk result (λ b. b ≡ list_all (has_its_type columns.now) (map stat_view stats.now)) }
+{
+    for stat in stats {
+        if !has_its_type(columns, stat)? {
+            return Ok(false);
+        }
+    }
+    Ok(true)
+}
+
+/// Whether each value of a statistic has the statistic's type, made nullable.
+fn has_its_type(columns: &StructFields, stat: &ZoneStat) -> Mem<bool>
+    ensures { IfOk result (λ b. b ≡ has_its_type columns.now (stat_view stat.now)) }
+{
+    match type_of_values(columns, stat)? {
+        Some(dtype) => Ok(all_have(stat.values.as_slice(), &dtype)),
+        None => Ok(false),
+    }
+}
+
+/// The type of a statistic's values: the statistic's, made nullable.
+fn type_of_values(columns: &StructFields, stat: &ZoneStat) -> Mem<Option<DType>>
+    ensures { IfOk result (λ dtype. option_map type_view dtype ≡ option_map (λ t. with_nullability t Nullable) (type_of_statistic columns.now (stat_view stat.now))) }
+{
+    match leaf_type(columns, &stat.path) {
+        Some(leaf) => match stat.stat {
+            Stat::Min => Ok(Some(leaf.with_nullability(Nullability::Nullable)?)),
+            Stat::Max => Ok(Some(leaf.with_nullability(Nullability::Nullable)?)),
+            Stat::NullCount => Ok(Some(DType::Primitive(PType::U64, Nullability::Nullable))),
+            Stat::NaNCount => Ok(None),
+        },
+        None => Ok(None),
+    }
+}
+
+/// Whether each value is of this type.
+fn all_have(values: &[Scalar], dtype: &DType) -> bool
+    ensures { result ≡ list_all (λ s. ty_eq s.ty (type_view dtype.now)) values.now }
+{
+    for value in values {
+        if value.dtype() != dtype {
+            return false;
+        }
+    }
+    true
+}
