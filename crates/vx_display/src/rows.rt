@@ -5,6 +5,8 @@ ghost use Rattle.vx_dtype.specs.Fits.{fits};
 ghost use Rattle.vx_dtype.specs.TypeViews.{type_view};
 ghost use Rattle.vx_dtype.specs.RawViews.{raw_view, raws_of};
 ghost use Rattle.vx_dtype.specs.Texts.{quoted_text};
+ghost use Rattle.vx_dtype.specs.Values.{valued};
+ghost use Rattle.vx_display.specs.ValueTexts.{value_text};
 ghost use Rattle.vx_display.specs.RowTexts.{row_text_of, elements_text, members_text};
 
 use std::alloc::Global;
@@ -13,10 +15,10 @@ use vx_dtype::{DType, Mem, NoMemory, Quoted, ScalarValue, StructFields};
 
 /// A value of a type as a text in the form of JSON, without spaces: `null`, `true`, a decimal number, a text within quotes, `[v,v]`,
 /// `{"name":v,"name":v}` in the order of the type's fields.
-#[tactic(auto, unfolding(crate::specs::RowTexts::row_text_of))]
+#[tactic(auto, using(crate::proofs::ValueLemmas::row_text_of_valued))]
 pub fn row_text(alloc: Global, dtype: &DType, value: &ScalarValue) -> Mem<String>
     requires { fits (raw_view value.now) (type_view dtype.now) ≡ true }
-    ensures { IfOk result (λ text. string_bytes text ≡ row_text_of (raw_view value.now) (type_view dtype.now)) }
+    ensures { IfOk result (λ text. string_bytes text ≡ value_text (valued (raw_view value.now) (type_view dtype.now))) }
 {
     let mut text = String::new(alloc);
     push_value(&mut text, value, dtype)?;
