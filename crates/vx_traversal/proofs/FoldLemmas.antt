@@ -58,21 +58,27 @@ FoldsInTurn-each {S} {N} {C} {R} {E} A B c GoesUp (n ∷ ns) h results s r t (q,
 
 module _ {S N C R E : Type 0} (children : N → List N) (down : DownStep S N C R E) (up : UpStep S N C R E) (height : N → ℕ) (lower : (n c : N) → Contains (children n) c → height c < height n) where
   after_down : (A B : FoldStep S N C R E) → ((s : S) (c : C) (n : N) (q : Walk (FoldUp R) E) (u : S) → A s c n q u → B s c n q u) →
-      (n : N) (p : Walk (FoldDownContext C R) E) (s : S) (r : Walk (FoldUp R) E) (t : S) → AfterDown children down up A n p s r t → AfterDown children down up B n p s r t
-  after_down A B f n (Err e) s r t w = w
-  after_down A B f n (Ok (deep.Skip x)) s r t w = w
-  after_down A B f n (Ok (deep.Stop x)) s r t w = w
-  after_down A B f n (Ok (deep.Continue c)) s r t w = FoldsInTurn-each A B c (λ u results. up u n c results) (children n) (λ m is s' q' u'. f s' c m q' u') [] s r t w
+      (c : C) (n : N) (p : Walk (FoldDownContext C R) E) (s : S) (r : Walk (FoldUp R) E) (t : S) → AfterDown children down up A c n p s r t → AfterDown children down up B c n p s r t
+  after_down A B f c n (Err e) s r t w = w
+  after_down A B f c n (Ok (deep.Skip x)) s r t w = w
+  after_down A B f c n (Ok (deep.Stop x)) s r t w = w
+  after_down A B f c n (Ok (deep.Continue inner)) s r t w = FoldsInTurn-each A B inner (λ u results. up u n c results) (children n) (λ m is s' q' u'. f s' inner m q' u') [] s r t w
 
   -- a fold below a number is one below each larger number
   pub FoldsBelow-more : (j k : ℕ) → j ≤ k → (s : S) (c : C) (n : N) (r : Walk (FoldUp R) E) (t : S) → FoldsBelow children down up j s c n r t → FoldsBelow children down up k s c n r t
   FoldsBelow-more zero k le s c n r t w = absurd w
   FoldsBelow-more (suc j) zero le s c n r t w = absurd (omega arith)
-  FoldsBelow-more (suc j) (suc k) le s c n r t (q, u, step, rest) = (q, u, step, after_down (FoldsBelow children down up j) (FoldsBelow children down up k) (FoldsBelow-more j k (omega arith)) n q u r t rest)
+  FoldsBelow-more (suc j) (suc k) le s c n r t (q, u, step, rest) = (q, u, step, after_down (FoldsBelow children down up j) (FoldsBelow children down up k) (FoldsBelow-more j k (omega arith)) c n q u r t rest)
 
-  -- down with Continue, and the children in turn under its context
-  pub FoldsUnder-through : (s : S) (c : C) (n : N) (y : FoldDownContext C R) (inner : C) (u : S) (r : Walk (FoldUp R) E) (t : S) → down s c n (Ok y) u → y ≡ deep.Continue inner →
-      FoldsInTurn (FoldsUnder children down up height) inner (λ v results. up v n inner results) [] u (children n) r t → FoldsUnder children down up height s c n r t
-  FoldsUnder-through s c n y inner u r t step is turns =
-      let P : FoldDownContext C R → Type 0 = λ z. AfterDown children down up (FoldsBelow children down up (height n)) n (Ok z) u r t in
-      (Ok y, u, step, subst P (sym is) (FoldsInTurn-each (FoldsUnder children down up height) (FoldsBelow children down up (height n)) inner (λ v results. up v n inner results) (children n) (λ m is s' q' u' w. FoldsBelow-more (suc (height m)) (height n) (let low : height m < height n = lower n m is in omega arith) s' inner m q' u' w) [] u r t turns))
+  -- down, and what follows its answer
+  pub FoldsUnder-after : (s : S) (c : C) (n : N) (y : FoldDownContext C R) (u : S) (r : Walk (FoldUp R) E) (t : S) → down s c n (Ok y) u →
+      AfterDown children down up (FoldsUnder children down up height) c n (Ok y) u r t → FoldsUnder children down up height s c n r t
+  FoldsUnder-after s c n (deep.Skip x) u r t step ends = (Ok (deep.Skip x), u, step, ends)
+  FoldsUnder-after s c n (deep.Stop x) u r t step ends = (Ok (deep.Stop x), u, step, ends)
+  FoldsUnder-after s c n (deep.Continue inner) u r t step turns = (
+    Ok (deep.Continue inner),
+    u,
+    step,
+    FoldsInTurn-each (FoldsUnder children down up height) (FoldsBelow children down up (height n)) inner (λ v results. up v n c results) (children n)
+        (λ m is s' q' u' w. FoldsBelow-more (suc (height m)) (height n) (let low : height m < height n = lower n m is in omega arith) s' inner m q' u' w) [] u r t turns,
+  )

@@ -5,3 +5,5 @@ pub mod FoldLemmas
 pub mod ContainerLemmas
 pub mod ReferenceLemmas
 pub mod CallLemmas
+pub mod EntryLemmas
+pub mod OneLemmas

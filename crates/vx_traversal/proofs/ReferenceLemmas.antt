@@ -12,7 +12,7 @@ use Rattle.vx_expr.specs.Selections.{listed_names}
 use Rattle.vx_expr.specs.Trees.{Tree, root, literal, get_item, binary, not_of, is_null_of, like, between, cast, list_contains, pack, merge, select, dynamic, Trees, no_trees, tree, listed, children_of}
 use Rattle.vx_traversal.specs.declared.order.TraversalOrder.{TraversalOrder}
 use Rattle.vx_traversal.specs.declared.order.TraversalOrder.TheVariants.{Skip, Stop, Continue}
-use Rattle.vx_traversal.specs.Visits.{Step, InTurn, AfterChildren, VisitsBelow}
+use Rattle.vx_traversal.specs.Visits.{Step, NoStep, InTurn, AfterChildren, VisitsBelow}
 use Rattle.vx_traversal.specs.References.{own_names, reference_names, names_in, AddsNames, Collects, HasExactly}
 use Rattle.vx_traversal.proofs.Steps.{drop-next}
 
@@ -81,12 +81,9 @@ skip_goes : Skip ≡ Continue → ⊥
 skip_goes e = cc
 
 module _ {E : Type 0} where
-  -- the steps of the collector
+  -- the step of the collector on the way down; on the way up it does nothing
   abbrev pub CollectsDown : Step (List Bytes) Tree E
   CollectsDown before node answer after = Collects (own_names node) before answer after
-
-  abbrev pub CollectsUp : Step (List Bytes) Tree E
-  CollectsUp before node answer after = Collects [] before answer after
 
   abbrev pub CollectsAll : Step (List Bytes) Tree E
   CollectsAll before node answer after = Collects (reference_names node) before answer after
@@ -114,20 +111,20 @@ module _ {E : Type 0} where
       then_collects (reference_names n) (flat_map reference_names ns) s u r t (each s n (Ok Continue) u step).1 (in_turn Each each ns u r t rest)
 
   after_children : (n : Tree) (xs s : List Bytes) (q : Result TraversalOrder E) (u : List Bytes) (r : Result TraversalOrder E) (t : List Bytes) →
-      Collects xs s q u → AfterChildren children_of CollectsDown CollectsUp n q u r t → Collects xs s r t
+      Collects xs s q u → AfterChildren children_of CollectsDown NoStep n q u r t → Collects xs s r t
   after_children n xs s (Err e) u r t turns (is, same) = faults xs s e r t is
   after_children n xs s (Ok Stop) u r t turns rest = absurd (stop_goes turns.0)
   after_children n xs s (Ok Skip) u r t turns rest = absurd (skip_goes turns.0)
-  after_children n xs s (Ok Continue) u r t turns rest = same_collects (xs ++ []) xs s r t (append_nil xs) (then_collects xs [] s u r t turns.1 rest)
+  after_children n xs s (Ok Continue) u r t turns (is, same) = subst (λ (q : Result TraversalOrder E). Collects xs s q t) (sym is) (refl, subst (λ held. AddsNames xs s held) (sym same) turns.1)
 
   -- the visit of an expression collects the names of the whole expression
-  pub visit-collects : (k : ℕ) (s : List Bytes) (n : Tree) (r : Result TraversalOrder E) (t : List Bytes) → VisitsBelow children_of CollectsDown CollectsUp k s n r t → CollectsAll s n r t
+  pub visit-collects : (k : ℕ) (s : List Bytes) (n : Tree) (r : Result TraversalOrder E) (t : List Bytes) → VisitsBelow children_of CollectsDown NoStep k s n r t → CollectsAll s n r t
   visit-collects zero s n r t w = absurd w
   visit-collects (suc k) s n r t (Err e, u, step, (is, same)) = faults (reference_names n) s e r t is
   visit-collects (suc k) s n r t (Ok Stop, u, step, rest) = absurd (stop_goes step.0)
   visit-collects (suc k) s n r t (Ok Skip, u, step, rest) = absurd (skip_goes step.0)
   visit-collects (suc k) s n r t (Ok Continue, u, step, (q, v, turns, rest)) =
-      let below : Collects (flat_map reference_names (children_of n)) u q v = in_turn (VisitsBelow children_of CollectsDown CollectsUp k) (visit-collects k) (children_of n) u q v turns in
+      let below : Collects (flat_map reference_names (children_of n)) u q v = in_turn (VisitsBelow children_of CollectsDown NoStep k) (visit-collects k) (children_of n) u q v turns in
       let all : Collects (own_names n ++ flat_map reference_names (children_of n)) s q v = then_collects (own_names n) (flat_map reference_names (children_of n)) s u q v step.1 below in
       after_children n (reference_names n) s q v r t (same_collects (own_names n ++ flat_map reference_names (children_of n)) (reference_names n) s q v (names_of_node n) all) rest
 
@@ -140,7 +137,7 @@ pub has-exactly : {S : Type 0} (set : HashSet Bytes S) (names before after : Lis
 has-exactly set names before after empty is adds name = ap (has_name name) is ∙ (adds name ∙ ap (λ held. has_name name held || has_name name names) empty)
 
 -- a visit that ends well has added the names of the whole expression
-pub visit-adds : {E : Type 0} (k : ℕ) (s : List Bytes) (n : Tree) (r : Result TraversalOrder E) (order : TraversalOrder) (t : List Bytes) → r ≡ Ok order → VisitsBelow children_of CollectsDown CollectsUp k s n r t → AddsNames (reference_names n) s t
+pub visit-adds : {E : Type 0} (k : ℕ) (s : List Bytes) (n : Tree) (r : Result TraversalOrder E) (order : TraversalOrder) (t : List Bytes) → r ≡ Ok order → VisitsBelow children_of CollectsDown NoStep k s n r t → AddsNames (reference_names n) s t
 visit-adds {E} k s n r order t is visit =
     let all : Collects {E = E} (reference_names n) s (Ok order) t = subst (λ (q : Result TraversalOrder E). Collects (reference_names n) s q t) is (visit-collects k s n r t visit) in
     all.1

@@ -39,17 +39,17 @@ module _ {S N C R E : Type 0} where
   FoldsInTurn Each c GoesUp results s (n ∷ ns) r t = (q : Walk (FoldUp R) E) × (u : S) × Each s c n q u × WithResult (λ x. FoldsInTurn Each c GoesUp (results ++ x ∷ []) u ns r t) q u r t
 
   module _ (children : N → List N) (down : DownStep S N C R E) (up : UpStep S N C R E) where
-    -- after down: Skip gives the node's result, Stop ends the whole fold, Continue folds the children under the context that it holds, and then up gets it too
-    abbrev pub AfterDown : FoldStep S N C R E → N → Walk (FoldDownContext C R) E → S → Walk (FoldUp R) E → S → Type 0
-    AfterDown Child n (Err e) s r t = (r ≡ Err e) × (t ≡ s)
-    AfterDown Child n (Ok (deep.Skip x)) s r t = (r ≡ Ok (Continue x)) × (t ≡ s)
-    AfterDown Child n (Ok (deep.Stop x)) s r t = (r ≡ Ok (Stop x)) × (t ≡ s)
-    AfterDown Child n (Ok (deep.Continue c)) s r t = FoldsInTurn Child c (λ u results. up u n c results) [] s (children n) r t
+    -- after down under a context: Skip gives the node's result, Stop ends the whole fold, Continue folds the children under the context that it holds, and then up gets down's own
+    abbrev pub AfterDown : FoldStep S N C R E → C → N → Walk (FoldDownContext C R) E → S → Walk (FoldUp R) E → S → Type 0
+    AfterDown Child c n (Err e) s r t = (r ≡ Err e) × (t ≡ s)
+    AfterDown Child c n (Ok (deep.Skip x)) s r t = (r ≡ Ok (Continue x)) × (t ≡ s)
+    AfterDown Child c n (Ok (deep.Stop x)) s r t = (r ≡ Ok (Stop x)) × (t ≡ s)
+    AfterDown Child c n (Ok (deep.Continue inner)) s r t = FoldsInTurn Child inner (λ u results. up u n c results) [] s (children n) r t
 
     -- the fold of a node whose height is below the number
     abbrev pub FoldsBelow : ℕ → FoldStep S N C R E
     FoldsBelow zero s c n r t = ⊥
-    FoldsBelow (suc k) s c n r t = (q : Walk (FoldDownContext C R) E) × (u : S) × down s c n q u × AfterDown (FoldsBelow k) n q u r t
+    FoldsBelow (suc k) s c n r t = (q : Walk (FoldDownContext C R) E) × (u : S) × down s c n q u × AfterDown (FoldsBelow k) c n q u r t
 
     -- the fold of a node under a context: down, the children in turn, up
     abbrev pub FoldsUnder : (N → ℕ) → FoldStep S N C R E

@@ -8,3 +8,5 @@ pub mod ExpressionLaws
 pub mod References
 pub mod Numbers
 pub mod Zeros
+pub mod Entries
+pub mod Ones

@@ -37,6 +37,10 @@ abbrev mutual
   highest_tree no_trees = 0
   highest_tree (tree_before t ts) = max (number_height t) (highest_tree ts)
 
+-- the tree with another number at its top
+abbrev pub renumbered : ℕ → NumberTree → NumberTree
+renumbered m (number n ts) = number m ts
+
 -- the number with other trees below it
 abbrev pub number_with : NumberTree → List NumberTree → NumberTree
 number_with t ts = number (number_at t) (trees_of_list ts)

@@ -1,5 +1,5 @@
 //! Containers of a node's children.
-ghost use Rattle.std.specs.Prelude.{◌≡◌, ◌++◌, [], ◌∷◌, List, MatchOption, Result, map};
+ghost use Rattle.std.specs.Prelude.{◌≡◌, ◌++◌, ◌||◌, [], ◌∷◌, List, MatchOption, Result, map};
 ghost use Rattle.std.specs.List.{flat_map};
 ghost use Rattle.std.proofs.Math.ListN.{drop};
 ghost use Rattle.std.specs.Fn.{CalledAt};
@@ -231,11 +231,18 @@ impl<'a, T: 'a, C: NodeContainer<'a, T> + 'a> NodeContainer<'a, T> for (C, C) {
         let (first, second) = self;
         let first = first.map_elements_after::<M, F>(alloc, last, f)?;
         let second = second.map_elements_after::<M, F>(alloc, first.order, f)?;
-        Ok(Transformed {
-            value: (first.value, second.value),
-            order: second.order,
-            changed: first.changed | second.changed,
-        })
+        Ok(paired(first, second))
+    }
+}
+
+// The pair of two mapped parts: its order is the second's, and it is changed where one of them is.
+fn paired<C>(first: Transformed<C>, second: Transformed<C>) -> Transformed<(C, C)>
+    ensures { result ≡ record { value = (first.value, second.value); order = second.order; changed = first.changed || second.changed } }
+{
+    Transformed {
+        value: (first.value, second.value),
+        order: second.order,
+        changed: first.changed | second.changed,
     }
 }
 

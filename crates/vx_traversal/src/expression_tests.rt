@@ -13,6 +13,7 @@ use crate::rewriter::NodeRewriter;
 use crate::transform::Transformed;
 use crate::visitor::pre_order_visit_down;
 use std::alloc::Global;
+use std::rc::Rc;
 use std::test::Fail;
 use vx_dtype::{FieldName, FieldNames, Mem, NoMemory, Scalar, ScalarValue};
 use vx_expr::{
@@ -293,6 +294,11 @@ fn ample(rt: HostRuntime) -> Result<(), Fail> {
         |expr: ExprRef| -> Walk<Transformed<ExprRef>, NoMemory> { Ok(Transformed::no(expr)) },
     )?;
     assert!(rt; mapped.value == both(alloc)?);
+    let shared = Rc::new(alloc, both(alloc)?)?;
+    let order = shared.apply_elements(|_: &ExprRef| -> Mem<TraversalOrder> {
+        Ok(TraversalOrder::Skip)
+    })?;
+    assert!(rt; order == TraversalOrder::Skip);
     let rebuilt = RootExpr::new_expr(alloc)?.with_node_children(alloc, Vec::new(alloc))?;
     assert!(rt; rebuilt == RootExpr::new_expr(alloc)?);
     Ok(())

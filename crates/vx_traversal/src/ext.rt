@@ -80,7 +80,7 @@ pub trait NodeExt: Node {
     /// Folds the tree under a context: down on the node first. Skip gives the node's result, with no
     /// children and no up; Stop ends the whole fold, also from within a child; after Continue the
     /// children are folded in order under the context that it holds, and up gets their results in
-    /// that order and the same context. A fault of the folder ends the fold.
+    /// that order and the context that the node's own down got. A fault of the folder ends the fold.
     final fn fold_context<F: NodeFolderContext<NodeTy = Self>>(
         self,
         alloc: Global,

@@ -23,7 +23,7 @@ pub enum FoldDown<R> {
 /// What a folder with a context answers before a node's children.
 #[derive(Debug, Drop)]
 pub enum FoldDownContext<C, R> {
-    /// The children are folded under this context, and the node's up gets it too.
+    /// The children are folded under this context.
     Continue(C),
     /// The whole fold ends with this result.
     Stop(R),
@@ -77,7 +77,8 @@ pub trait NodeFolderContext {
     ) -> Walk<FoldDownContext<Self::Context, Self::Result>, Self::Error>
         ensures { down self.old ctx.now node.now result self.new };
 
-    /// Called on a node after its children, under its own context and with their results in order.
+    /// Called on a node after its children, under the context that its down got and with their
+    /// results in order.
     fn visit_up(
         &mut self,
         node: Self::NodeTy,

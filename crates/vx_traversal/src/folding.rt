@@ -1,9 +1,9 @@
 //! The one recursion of all folds, with a context or without.
-ghost use Rattle.std.specs.Prelude.{◌≡◌, List, [], Result};
+ghost use Rattle.std.specs.Prelude.{◌≡◌, List, [], Ok, Result};
 ghost use Rattle.vx_traversal.specs.declared.errors.WalkError.{WalkError};
 ghost use Rattle.vx_traversal.specs.declared.fold.FoldDownContext.{FoldDownContext};
 ghost use Rattle.vx_traversal.specs.declared.fold.FoldUp.{FoldUp};
-ghost use Rattle.vx_traversal.specs.Folds.{DownAlone, FoldsInTurn, FoldsUnder, UpAlone};
+ghost use Rattle.vx_traversal.specs.Folds.{AfterDown, DownAlone, FoldsInTurn, FoldsUnder, UpAlone};
 ghost use Rattle.vx_traversal.specs.Rewrites.{UnlessNoMemory};
 
 use crate::errors::Walk;
@@ -126,8 +126,23 @@ pub(crate) fn fold_node<M, F: Folding<M>>(
 ) -> Walk<FoldUp<F::Result>, F::Error>
     ensures { UnlessNoMemory result (FoldsUnder F.NodeTy.children F.goes_down F.goes_up F.NodeTy.height folder.old ctx.now node result folder.new) }
 {
-    match folder.go_down(ctx, &node)? {
-        FoldDownContext::Continue(inner) => fold_children(node, alloc, &inner, folder),
+    let answer = folder.go_down(ctx, &node)?;
+    fold_after_down(node, alloc, ctx, answer, folder)
+}
+
+// What follows the answer of a node's down under this context.
+#[cycle(fold)]
+fn fold_after_down<M, F: Folding<M>>(
+    node: F::NodeTy,
+    alloc: Global,
+    ctx: &F::Context,
+    answer: FoldDownContext<F::Context, F::Result>,
+    folder: &mut F,
+) -> Walk<FoldUp<F::Result>, F::Error>
+    ensures { UnlessNoMemory result (AfterDown F.NodeTy.children F.goes_down F.goes_up (FoldsUnder F.NodeTy.children F.goes_down F.goes_up F.NodeTy.height) ctx.now node (Ok answer) folder.old result folder.new) }
+{
+    match answer {
+        FoldDownContext::Continue(inner) => fold_children(node, alloc, ctx, &inner, folder),
         FoldDownContext::Skip(given) => Ok(FoldUp::Continue(given)),
         FoldDownContext::Stop(given) => Ok(FoldUp::Stop(given)),
     }
@@ -138,14 +153,15 @@ fn fold_children<M, F: Folding<M>>(
     node: F::NodeTy,
     alloc: Global,
     ctx: &F::Context,
+    inner: &F::Context,
     folder: &mut F,
 ) -> Walk<FoldUp<F::Result>, F::Error>
-    ensures { UnlessNoMemory result (FoldsInTurn (FoldsUnder F.NodeTy.children F.goes_down F.goes_up F.NodeTy.height) ctx.now (λ state results. F.goes_up state node ctx.now results) [] folder.old (F.NodeTy.children node) result folder.new) }
+    ensures { UnlessNoMemory result (FoldsInTurn (FoldsUnder F.NodeTy.children F.goes_down F.goes_up F.NodeTy.height) inner.now (λ state results. F.goes_up state node ctx.now results) [] folder.old (F.NodeTy.children node) result folder.new) }
 {
     let mut results = Vec::new(alloc);
     for i in 0..node.children_count() {
         let child = clone_child(&node, i)?;
-        match fold_node(child, alloc, ctx, folder)? {
+        match fold_node(child, alloc, inner, folder)? {
             FoldUp::Stop(given) => return Ok(FoldUp::Stop(given)),
             FoldUp::Continue(given) => results.push(given)?,
         }

@@ -3,6 +3,8 @@
 #![tactic(auto)]
 
 mod containers;
+#[cfg(test)]
+mod entries;
 mod errors;
 #[cfg(test)]
 mod expression_tests;
@@ -13,10 +15,14 @@ mod folding;
 mod nodes;
 #[cfg(test)]
 mod numbers;
+#[cfg(test)]
+mod ones;
 mod order;
 mod references;
 mod rewriter;
 mod rewriting;
+#[cfg(test)]
+mod signal_tests;
 #[cfg(test)]
 mod tests;
 mod transform;

@@ -34,7 +34,7 @@ impl Model for Numbers {
 }
 
 impl Numbers {
-    ghost use Rattle.vx_traversal.specs.Numbers.{number, trees_of_list, number_at};
+    ghost use Rattle.vx_traversal.specs.Numbers.{number, trees_of_list, number_at, renumbered};
 
     /// The number with these trees below it.
     pub(crate) fn new(alloc: Global, value: u64, below: Vec<Numbers>) -> Mem<Numbers>
@@ -51,6 +51,16 @@ impl Numbers {
         ensures { result ≡ number_at self.now }
     {
         self.value
+    }
+
+    /// The tree with this number at its top.
+    pub(crate) fn renumbered(self, value: u64) -> Numbers
+        ensures { result ≡ renumbered value self }
+    {
+        Numbers {
+            value,
+            below: self.below,
+        }
     }
 }
 

@@ -1,6 +1,7 @@
 //! The names of fields that an expression refers to.
 ghost use Rattle.std.specs.Prelude.{◌≡◌, [], ◌∷◌, IfOk, OnOk};
 ghost use Rattle.vx_expr.specs.Trees.{Tree};
+ghost use Rattle.vx_traversal.specs.Visits.{NoStep};
 ghost use Rattle.vx_traversal.specs.References.{own_names, reference_names, AddsNames, Collects, HasExactly};
 
 use crate::ext::NodeExt;
@@ -14,7 +15,7 @@ use vx_expr::{Expr, ExprRef};
 
 /// A visitor that collects the names of field accesses and of selections. It is seen as the list
 /// of the names that it holds.
-#[derive(Drop)]
+#[derive(Debug, Drop)]
 pub struct ReferenceCollector {
     fields: HashSet<FieldName>,
 }
@@ -89,7 +90,7 @@ impl<'a> NodeVisitor<'a> for ReferenceCollector {
 
     ghost down = { λ before node answer after. Collects (own_names node) before answer after };
 
-    ghost up = { λ before node answer after. Collects [] before answer after };
+    ghost up = { NoStep };
 
     fn visit_down(&mut self, node: &'a ExprRef) -> Result<TraversalOrder, NoMemory> {
         add_own_names(&mut self.fields, node)?;

@@ -232,7 +232,7 @@ impl NodeFolderContext for Depth {
     ) -> Walk<FoldUp<u64>, NoMemory>
         ensures { ⊤ }
     {
-        let mut deepest = *ctx;
+        let mut deepest = ctx.wrapping_add(1);
         for child in children {
             if child > deepest {
                 deepest = child;
@@ -240,6 +240,73 @@ impl NodeFolderContext for Depth {
         }
         Ok(FoldUp::Continue(deepest))
     }
+}
+
+// Each context holds the numbers from the top on as digits. A number without others below it has
+// the context that it is handed as its result, and another the sum of what is below it; Stop at 5.
+#[derive(Drop)]
+struct Trail;
+
+impl NodeFolderContext for Trail {
+    type NodeTy = Numbers;
+
+    type Result = u64;
+
+    type Context = u64;
+
+    type Error = NoMemory;
+
+    ghost down = { λ _ _ _ _ _. ⊤ };
+
+    ghost up = { λ _ _ _ _ _ _. ⊤ };
+
+    fn visit_down(
+        &mut self,
+        ctx: &u64,
+        node: &Numbers,
+    ) -> Walk<FoldDownContext<u64, u64>, NoMemory> {
+        if node.value() == 5 {
+            return Ok(FoldDownContext::Stop(*ctx));
+        }
+        if node.children_count() == 0 {
+            return Ok(FoldDownContext::Skip(*ctx));
+        }
+        Ok(FoldDownContext::Continue(ctx.wrapping_mul(10).wrapping_add(node.value())))
+    }
+
+    fn visit_up(
+        &mut self,
+        _node: Numbers,
+        _ctx: &u64,
+        children: Vec<u64>,
+    ) -> Walk<FoldUp<u64>, NoMemory>
+        ensures { ⊤ }
+    {
+        let mut sum = 0u64;
+        for child in children {
+            sum = sum.wrapping_add(child);
+        }
+        Ok(FoldUp::Continue(sum))
+    }
+}
+
+// `1(2(low), 3)`.
+fn branch(alloc: Global, low: u64) -> Mem<Numbers> {
+    let mut lowest = Vec::new(alloc);
+    lowest.push(leaf(alloc, low)?)?;
+    let mut below = Vec::new(alloc);
+    below.push(Numbers::new(alloc, 2, lowest)?)?;
+    below.push(leaf(alloc, 3)?)?;
+    Numbers::new(alloc, 1, below)
+}
+
+#[test]
+fn a_child_gets_the_context_of_its_parent(rt: HostRuntime) -> Result<(), Fail> {
+    for (low, sum) in [(4, 13), (5, 12)] {
+        let folded = branch(rt.alloc(), low)?.fold_context(rt.alloc(), &0, &mut Trail)?;
+        assert_eq!(rt; folded.value(), sum);
+    }
+    Ok(())
 }
 
 // A marked copy, with Stop at 3.
@@ -281,6 +348,77 @@ fn containers(rt: HostRuntime) -> Result<(), Fail> {
     Ok(())
 }
 
+// The number raised by ten, with Stop at 3 and Skip at 2.
+fn raise(node: Numbers) -> Walk<Transformed<Numbers>, NoMemory> {
+    let value = node.value();
+    let order = match value {
+        2 => TraversalOrder::Skip,
+        3 => TraversalOrder::Stop,
+        _ => TraversalOrder::Continue,
+    };
+    Ok(Transformed {
+        value: node.renumbered(value.wrapping_add(10)),
+        order,
+        changed: true,
+    })
+}
+
+// The number as it is, with Stop at 3.
+fn keep(node: Numbers) -> Walk<Transformed<Numbers>, NoMemory> {
+    let order = if node.value() == 3 {
+        TraversalOrder::Stop
+    } else {
+        TraversalOrder::Continue
+    };
+    Ok(Transformed {
+        value: node,
+        order,
+        changed: false,
+    })
+}
+
+// The pair of the list of one number and the list of the others.
+fn lists(alloc: Global, first: u64, others: &[u64]) -> Mem<(Vec<Numbers>, Vec<Numbers>)> {
+    let mut left = Vec::new(alloc);
+    left.push(leaf(alloc, first)?)?;
+    let mut right = Vec::new(alloc);
+    for other in others {
+        right.push(leaf(alloc, *other)?)?;
+    }
+    Ok((left, right))
+}
+
+// The numbers that a container hands over.
+fn handed(alloc: Global, numbers: &(Vec<Numbers>, Vec<Numbers>)) -> Mem<Vec<u64>> {
+    let mut seen = Vec::new(alloc);
+    numbers.apply_elements(|node: &Numbers| -> Mem<TraversalOrder> {
+        seen.push(node.value())?;
+        Ok(TraversalOrder::Continue)
+    })?;
+    Ok(seen)
+}
+
+#[test]
+fn mapped_elements_keep_their_order(rt: HostRuntime) -> Result<(), Fail> {
+    let alloc = rt.alloc();
+    let stopped = lists(alloc, 1, &[3, 4])?.map_elements(alloc, raise)?;
+    assert_eq!(rt;
+        handed(alloc, &stopped.value)?.as_slice(),
+        [11, 13, 4].as_slice()
+    );
+    assert!(rt; stopped.order == TraversalOrder::Stop);
+    let nothing_after = lists(alloc, 2, &[])?.map_elements(alloc, raise)?;
+    assert_eq!(rt;
+        handed(alloc, &nothing_after.value)?.as_slice(),
+        [12].as_slice()
+    );
+    assert!(rt; nothing_after.order == TraversalOrder::Skip);
+    let kept = grove(alloc)?.map_children(alloc, keep)?;
+    assert!(rt; kept.order == TraversalOrder::Stop);
+    assert!(rt; !kept.changed);
+    Ok(())
+}
+
 #[test]
 fn ample(rt: HostRuntime) -> Result<(), Fail> {
     let alloc = rt.alloc();
@@ -290,6 +428,11 @@ fn ample(rt: HostRuntime) -> Result<(), Fail> {
     );
     let shared = Rc::new(alloc, leaf(alloc, 7)?)?;
     assert!(rt; shared.map_elements(alloc, mark)?.changed);
+    assert_eq!(rt; sums(alloc, 2)?.fold(alloc, &mut Sum)?.value(), 6);
+    let mut rewriter = StopsBelow { ups: 0 };
+    assert!(rt; !grove(alloc)?.rewrite(alloc, &mut rewriter)?.changed);
+    let bare = Numbers::new(alloc, 5, Vec::new(alloc))?;
+    assert_eq!(rt; bare.with_node_children(alloc, Vec::new(alloc))?.value(), 5);
     assert_eq!(rt; grove(alloc)?.iter_children(alloc, |list| list.len())?, 2);
     assert!(rt; grove(alloc)?.map_children(alloc, mark)?.order == TraversalOrder::Stop);
     assert!(rt; grove(alloc)?.transform_up(alloc, mark)?.changed);

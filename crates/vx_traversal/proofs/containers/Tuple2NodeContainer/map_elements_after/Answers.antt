@@ -1,4 +1,4 @@
-use Rattle.std.proofs.Common.{◌≡◌, ◌++◌, rules, Err}
+use Rattle.std.proofs.Common.{◌≡◌, ◌++◌, rules, Ok, Err, sym, subst}
 use Rattle.vx_traversal.specs.declared.transform.Transformed.{Transformed}
 use Rattle.vx_traversal.specs.Containers.{MapsElements}
 use Rattle.vx_traversal.proofs.RewriteLemmas.{unless-err}
@@ -24,4 +24,6 @@ returns-in_err-second-clause-mapped g c =
     c.in_err-second.ensures.mapped
 
 pub returns-clause-mapped : goal.returns-clause-mapped
-returns-clause-mapped g c = MapsPair-mapped g.F.ElementMapper.maps g.C.NodeContainer.elements c.args.last c.args.f.now c.args.self c.in_ok-first.first c.map_elements_after.new.f c.in_ok-second.second c.map_elements_after-2.new.f c.in_ok-first.ensures.mapped c.in_ok-second.ensures.mapped
+returns-clause-mapped g c =
+    let P : Transformed (g.row.C.Denot × g.row.C.Denot) → Type 0 = λ made. MapsElements (λ it. g.C.NodeContainer.elements it.0 ++ g.C.NodeContainer.elements it.1) g.F.ElementMapper.maps c.args.last c.args.f.now c.args.self (Ok made) c.map_elements_after-2.new.f in
+    subst P (sym c.paired.ensures) (MapsPair-mapped g.F.ElementMapper.maps g.C.NodeContainer.elements c.args.last c.args.f.now c.args.self c.in_ok-first.first c.map_elements_after.new.f c.in_ok-second.second c.map_elements_after-2.new.f c.in_ok-first.ensures.mapped c.in_ok-second.ensures.mapped)
