@@ -15,6 +15,6 @@ abbrev pub held_after : List ExprEncoding → ExprEncoding → Bool → Bool
 held_after [] e before = before
 held_after (first ∷ others) e before = held_after others e (same_kind first e || before)
 
--- the kind of this name, where the registry holds it
-abbrev pub held_named : ExprRegistry → Bytes → Option ExprEncoding
-held_named r id = option_and_then (λ e. if registered r e then Some e else None) (kind_named id)
+-- the kind of this name, where it is one of those that are held
+abbrev pub held_named : (ExprEncoding → Bool) → Bytes → Option ExprEncoding
+held_named holds id = option_and_then (λ e. if holds e then Some e else None) (kind_named id)

@@ -1,52 +1,48 @@
-// Why bytes aren't read, or a tree isn't written.
+// Why a tree builds nothing.
 ghost use Rattle.std.specs.Prelude.{◌≡◌};
 
 use std::alloc::{AllocError, AllocFailed};
 use vx_dtype::NoMemory;
 
-/// Why bytes aren't read as a tree, or a tree isn't written.
+/// Why a wire tree builds no expression.
 #[derive(PartialEq, Eq, Debug, Drop)]
-pub enum WireError {
-    /// There was no memory for the answer.
+pub enum BuildError {
+    /// There was no memory for the expression.
     NoMemory,
-    /// The bytes are no node, and meet no limit.
-    BadWire,
-    /// 256 nodes are open where one more begins.
-    TooDeep,
-    /// 4,096 nodes are begun where one more begins.
-    TooManyNodes,
-    /// A text, metadata or a list has 2^32 or more.
-    TooLong,
-    /// The expression has no wire form.
-    NotSerializable,
+    /// No kind of this name is registered.
+    UnknownExpr,
+    /// The metadata is no spelling of the kind's.
+    BadMetadata,
+    /// The node has more or fewer children than its kind takes.
+    WrongChildren,
 }
 
-impl From<AllocError> for WireError {
-    ghost use Rattle.vx_wire.specs.declared.errors.WireError.TheVariants.{NoMemory as OutOfMemory};
+impl From<AllocError> for BuildError {
+    ghost use Rattle.vx_wire.specs.declared.errors.BuildError.TheVariants.{NoMemory as OutOfMemory};
 
     ghost from_gives = { λ _ e. e ≡ OutOfMemory };
 
-    fn from(_error: AllocError) -> WireError {
-        WireError::NoMemory
+    fn from(_error: AllocError) -> BuildError {
+        BuildError::NoMemory
     }
 }
 
-impl<T: Drop> From<AllocFailed<T>> for WireError {
-    ghost use Rattle.vx_wire.specs.declared.errors.WireError.TheVariants.{NoMemory as OutOfMemory};
+impl<T: Drop> From<AllocFailed<T>> for BuildError {
+    ghost use Rattle.vx_wire.specs.declared.errors.BuildError.TheVariants.{NoMemory as OutOfMemory};
 
     ghost from_gives = { λ _ e. e ≡ OutOfMemory };
 
-    fn from(_error: AllocFailed<T>) -> WireError {
-        WireError::NoMemory
+    fn from(_error: AllocFailed<T>) -> BuildError {
+        BuildError::NoMemory
     }
 }
 
-impl From<NoMemory> for WireError {
-    ghost use Rattle.vx_wire.specs.declared.errors.WireError.TheVariants.{NoMemory as OutOfMemory};
+impl From<NoMemory> for BuildError {
+    ghost use Rattle.vx_wire.specs.declared.errors.BuildError.TheVariants.{NoMemory as OutOfMemory};
 
     ghost from_gives = { λ _ e. e ≡ OutOfMemory };
 
-    fn from(_error: NoMemory) -> WireError {
-        WireError::NoMemory
+    fn from(_error: NoMemory) -> BuildError {
+        BuildError::NoMemory
     }
 }

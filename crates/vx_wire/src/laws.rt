@@ -1,27 +1,18 @@
-// Laws of the wire form.
-ghost use Rattle.std.specs.Prelude.{◌≡◌, ◌++◌, Some};
+// Laws of the kinds' names, and of what wire trees build.
+ghost use Rattle.std.specs.Prelude.{◌≡◌, ◌≢◌, Bool, Some};
 ghost use Rattle.vx_dtype.specs.Types.{Bytes};
-ghost use Rattle.vx_wire.specs.Nodes.{Node, node_bytes, IsSpellable, Spells};
 ghost use Rattle.vx_expr.specs.Trees.{Tree};
 ghost use Rattle.vx_expr.specs.Children.{id_of};
-ghost use Rattle.vx_wire.specs.Encodings.{encoding_id, encoding_of, kind_named};
+ghost use Rattle.vx_wire_text.specs.Nodes.{Node, node_bytes, IsShort};
+ghost use Rattle.vx_wire_text.specs.Openings.{IsTooDeep, IsTooMany};
+ghost use Rattle.vx_wire_text.specs.ReadAnswers.{IsRead};
+ghost use Rattle.vx_wire.specs.Building.{IsBuilt, IsUnbuilt};
+ghost use Rattle.vx_wire.specs.Encodings.{encoding_id, encoding_of, kind_named, is_default_kind};
+ghost use Rattle.vx_wire.specs.Forms.{wire_of, Everywhere};
+ghost use Rattle.vx_wire.specs.Metadata.{HasForm};
 ghost use Rattle.vx_wire.specs.declared.encodings.ExprEncoding.{ExprEncoding};
-ghost use Rattle.vx_wire.specs.Openings.{IsTooDeep, IsTooMany};
-
-/// Bytes spell at most one tree.
-pub fn one_tree()
-    ensures { (bytes : Bytes) (a b : Node) → Spells bytes a → Spells bytes b → a ≡ b }
-{}
-
-/// No text of a node is a proper prefix of another one: where two texts of nodes begin the same bytes, they are the same text.
-pub fn no_text_begins_another()
-    ensures { (a b : Node) (x y : Bytes) → IsSpellable a → IsSpellable b → node_bytes a ++ x ≡ node_bytes b ++ y → (a ≡ b) × (x ≡ y) }
-{}
-
-/// Bytes meet at most one of the two limits first.
-pub fn one_limit()
-    ensures { (bytes : Bytes) → IsTooDeep bytes → ¬ (IsTooMany bytes) }
-{}
+ghost use Rattle.vx_wire.specs.declared.errors.BuildError.{BuildError};
+ghost use Rattle.vx_wire.specs.declared.errors.BuildError.TheVariants.{NoMemory};
 
 /// Each kind is the one of its name, and the kind of a name has that name.
 pub fn ids_name_kinds()
@@ -32,4 +23,21 @@ pub fn ids_name_kinds()
 /// The kind of an expression has the name of its node.
 pub fn encodings_have_ids()
     ensures { (e : Tree) → encoding_id (encoding_of e) ≡ id_of e }
+{}
+
+/// A wire tree builds one expression at most.
+pub fn one_expression()
+    ensures { (holds : ExprEncoding → Bool) (wire : Node) (a b : Tree) → IsBuilt holds wire a → IsBuilt holds wire b → a ≡ b }
+{}
+
+/// A wire tree that builds an expression has no refusal but want of memory.
+pub fn built_is_not_refused()
+    ensures { (holds : ExprEncoding → Bool) (wire : Node) (e : Tree) (why : BuildError) → IsBuilt holds wire e → why ≢ NoMemory → ¬ (IsUnbuilt holds wire why) }
+{}
+
+/// Where each node of an expression has a form, and `write_tree` writes its wire tree, the bytes are read as that tree if they meet
+/// no limit, and the default registry builds the expression of it again.
+pub fn written_is_read_and_built_again()
+    ensures read { (e : Tree) → IsShort (wire_of e) → ¬ (IsTooDeep (node_bytes (wire_of e))) → ¬ (IsTooMany (node_bytes (wire_of e))) → IsRead (node_bytes (wire_of e)) (wire_of e) }
+    ensures built { (e : Tree) → Everywhere HasForm e → IsBuilt is_default_kind (wire_of e) e }
 {}

@@ -1,28 +1,30 @@
-//! The wire form of expressions: bytes to trees and back.
+//! The wire form of expressions: trees to expressions and back.
 #![tactic(auto)]
 
+mod building;
 mod encodings;
 mod errors;
-mod fields;
+mod kinds;
 mod laws;
-mod places;
-mod reading;
+mod metadata;
 mod registries;
-mod trees;
-mod type_writing;
-mod types;
-mod writing;
+mod serializing;
+mod spelling;
 
+pub use building::deserialize_expr_proto;
 pub use encodings::{ExprEncoding, ExprEncodingRef, encoding};
-pub use errors::WireError;
-pub use laws::{encodings_have_ids, ids_name_kinds, no_text_begins_another, one_limit, one_tree};
-pub use places::{read_number, read_text};
-pub use reading::read_tree;
+pub use errors::BuildError;
+pub use laws::{
+    built_is_not_refused, encodings_have_ids, ids_name_kinds, one_expression,
+    written_is_read_and_built_again,
+};
 pub use registries::{ExprRegistry, ExprRegistryExt};
-pub use trees::WireTree;
-pub use type_writing::write_type;
-pub use types::read_type;
-pub use writing::{write_number, write_text, write_tree};
+pub use serializing::ExprSerializeProtoExt;
+pub use vx_wire_text::{
+    WireError, WireTree, has_short_names, has_short_texts, no_text_begins_another, one_limit,
+    one_tree, read_number, read_text, read_tree, read_type, read_value, write_number, write_text,
+    write_tree, write_type, write_value,
+};
 
 #[cfg(test)]
 mod tests;

@@ -39,7 +39,7 @@ impl ExprRegistry {
 
     /// The held kind of this name.
     pub fn get(&self, id: &str) -> Option<ExprEncoding>
-        ensures { result ≡ held_named self.now id.now }
+        ensures { result ≡ held_named (registered self.now) id.now }
     {
         let kind = kind_of_name(id)?;
         if self.held[kind.place()] {

@@ -1,0 +1,10 @@
+use Rattle.std.proofs.Common.{◌≡◌, [], length, arith}
+use Rattle.std.proofs.lemmas.Grind.{common_steps}
+use Rattle.vx_expr.specs.Trees.{root, list_contains}
+use Rattle.vx_wire.proofs.BuildingLemmas.{wrong_children, not_two}
+use Rattle.vx_wire.proofs.kinds.build_list_contains.Goals as goal
+
+pub returns-in_default-clause-refused : goal.returns-in_default-clause-refused
+returns-in_default-clause-refused c =
+    let bytes : c.args.metadata.now ≡ [] = grind (arith, common_steps) in
+    wrong_children (list_contains root root) c.args.metadata.now (length c.args.children.items) tt bytes (not_two c.args.children.items c.in_default.ensures)

@@ -1,6 +1,0 @@
-use Rattle.vx_wire.specs.OpenViews.{stack_of}
-use Rattle.vx_wire.proofs.ReadLemmas.{Reached}
-use Rattle.vx_wire.proofs.reading.read_tree.Given as goal
-
-abbrev pub invariant-loop-begun : goal.invariant-loop-begun
-invariant-loop-begun l = Reached l.bytes l.begun (stack_of l.open.items) l.rest

@@ -1,0 +1,34 @@
+// Expressions built from wire trees.
+ghost use Rattle.std.specs.Prelude.{IfOk, IfErr};
+ghost use Rattle.vx_wire_text.specs.NodeViews.{tree_view};
+ghost use Rattle.vx_wire.specs.Registries.{registered};
+ghost use Rattle.vx_wire.specs.Building.{IsBuilt, IsUnbuilt};
+
+use crate::errors::BuildError;
+use crate::registries::ExprRegistry;
+use std::alloc::Global;
+use vx_expr::ExprRef;
+use vx_wire_text::WireTree;
+
+/// The expression that a wire tree builds, where the registry holds the kind of each node.
+///
+/// Refuses with the refusal of the first node in post-order that has one: `UnknownExpr` where the registry holds no kind of the
+/// node's name, else `BadMetadata` where the metadata is no spelling of the kind's, else `WrongChildren` where the kind takes
+/// more or fewer children.
+pub fn deserialize_expr_proto(
+    alloc: Global,
+    tree: &WireTree,
+    registry: &ExprRegistry,
+) -> Result<ExprRef, BuildError>
+    ensures built { IfOk result (λ e. IsBuilt (registered registry.now) (tree_view tree.now) e) }
+    ensures refused { IfErr result (λ why. IsUnbuilt (registered registry.now) (tree_view tree.now) why) }
+{
+    let mut children: Vec<ExprRef> = Vec::new(alloc);
+    for child in &tree.children {
+        children.push(deserialize_expr_proto(alloc, child, registry)?)?;
+    }
+    let Some(kind) = registry.get(tree.id.as_str()) else {
+        return Err(BuildError::UnknownExpr);
+    };
+    kind.build(alloc, &tree.metadata, children)
+}

@@ -1,0 +1,17 @@
+pub mod NumberLemmas
+pub mod HeadLemmas
+pub mod RowLemmas
+pub mod PlaceLemmas
+pub mod OrderLemmas
+pub mod TreeLemmas
+pub mod StackLemmas
+pub mod ReadLemmas
+pub mod WriteLemmas
+pub mod TypeLemmas
+pub mod FieldLoops
+pub mod PlaceFields
+pub mod TypeWriting
+pub mod LengthLemmas
+pub mod ValueWriting
+pub mod ValueLoops
+pub mod ValueLemmas

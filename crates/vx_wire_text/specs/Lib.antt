@@ -1,0 +1,13 @@
+pub mod Numbers
+pub mod Nodes
+pub mod Openings
+pub mod Reading
+pub mod NodeViews
+pub mod OpenViews
+pub mod ReadAnswers
+pub mod WriteAnswers
+pub mod Fields
+pub mod TypeForms
+pub mod TypeReading
+pub mod ValueForms
+pub mod ValueReading

@@ -1,0 +1,52 @@
+// Why bytes aren't read, or a tree isn't written.
+ghost use Rattle.std.specs.Prelude.{◌≡◌};
+
+use std::alloc::{AllocError, AllocFailed};
+use vx_dtype::NoMemory;
+
+/// Why bytes aren't read as a tree, or a tree isn't written.
+#[derive(PartialEq, Eq, Debug, Drop)]
+pub enum WireError {
+    /// There was no memory for the answer.
+    NoMemory,
+    /// The bytes are no node, and meet no limit.
+    BadWire,
+    /// 256 nodes are open where one more begins.
+    TooDeep,
+    /// 4,096 nodes are begun where one more begins.
+    TooManyNodes,
+    /// A text, metadata or a list has 2^32 or more.
+    TooLong,
+    /// The expression has no wire form.
+    NotSerializable,
+}
+
+impl From<AllocError> for WireError {
+    ghost use Rattle.vx_wire_text.specs.declared.errors.WireError.TheVariants.{NoMemory as OutOfMemory};
+
+    ghost from_gives = { λ _ e. e ≡ OutOfMemory };
+
+    fn from(_error: AllocError) -> WireError {
+        WireError::NoMemory
+    }
+}
+
+impl<T: Drop> From<AllocFailed<T>> for WireError {
+    ghost use Rattle.vx_wire_text.specs.declared.errors.WireError.TheVariants.{NoMemory as OutOfMemory};
+
+    ghost from_gives = { λ _ e. e ≡ OutOfMemory };
+
+    fn from(_error: AllocFailed<T>) -> WireError {
+        WireError::NoMemory
+    }
+}
+
+impl From<NoMemory> for WireError {
+    ghost use Rattle.vx_wire_text.specs.declared.errors.WireError.TheVariants.{NoMemory as OutOfMemory};
+
+    ghost from_gives = { λ _ e. e ≡ OutOfMemory };
+
+    fn from(_error: NoMemory) -> WireError {
+        WireError::NoMemory
+    }
+}
