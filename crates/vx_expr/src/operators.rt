@@ -3,7 +3,7 @@ ghost use Rattle.std.specs.Prelude.{◌≡◌, pos, Some};
 ghost use Rattle.std.specs.Ordering.{nat_cmp};
 ghost use Rattle.vx_expr.specs.Operators.{operator_number, operator_of, comparison_of, inverse_of, logical_inverse_of, swapped};
 ghost use Rattle.vx_expr.specs.OperatorTexts.{operator_text, operator_numbered};
-ghost use Rattle.vx_expr.specs.Answers.{Answers};
+ghost use Rattle.vx_expr.specs.Answers.{Exactly};
 ghost use Rattle.vx_expr.specs.declared.errors.ExprError.TheVariants.{UnknownOperator, NotComparison};
 
 use crate::errors::ExprError;
@@ -133,7 +133,7 @@ impl From<CompareOperator> for Operator {
 impl TryFrom<i32> for Operator {
     type Error = ExprError;
 
-    ghost try_from_gives = { λ number answer. Answers UnknownOperator (operator_numbered number) answer };
+    ghost try_from_gives = { λ number answer. Exactly UnknownOperator (operator_numbered number) answer };
 
     fn try_from(number: i32) -> Result<Operator, ExprError> {
         match number {
@@ -155,7 +155,7 @@ impl TryFrom<i32> for Operator {
 impl TryFrom<Operator> for CompareOperator {
     type Error = ExprError;
 
-    ghost try_from_gives = { λ operator answer. Answers NotComparison (comparison_of operator) answer };
+    ghost try_from_gives = { λ operator answer. Exactly NotComparison (comparison_of operator) answer };
 
     fn try_from(operator: Operator) -> Result<CompareOperator, ExprError> {
         operator
