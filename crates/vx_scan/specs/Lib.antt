@@ -1,0 +1,6 @@
+pub mod Counts
+pub mod Blocks
+pub mod Stores
+pub mod StoreViews
+pub mod StoreCodes
+pub mod StoreAnswers

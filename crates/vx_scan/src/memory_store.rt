@@ -1,0 +1,157 @@
+// A store over columns in memory, for tests and for callers that have them all.
+ghost use Rattle.std.specs.Prelude.{◌≡◌, ◌-◌, ◌^◌, ◌<◌, ◌≤◌, true, false, cond, [], ◌∷◌, ◌++◌, length, map, Some, option_map, IfOk, IsErr, IsErrOf, All};
+ghost use Rattle.std.specs.List.{slice_get};
+ghost use Rattle.vx_dtype.specs.TypeRules.{has_name, field_names, field_type};
+ghost use Rattle.vx_scan.specs.Counts.{one_more, is_listed};
+ghost use Rattle.vx_scan.specs.Blocks.{table_of};
+ghost use Rattle.vx_scan.specs.Stores.{AgreesWith, AreHeld};
+ghost use Rattle.vx_scan.specs.StoreViews.{block_view, entry_view};
+ghost use Rattle.vx_scan.specs.StoreAnswers.{Answers};
+
+use crate::errors::{StoreError, TableError};
+use crate::stores::{ColumnStore, ReadEntry};
+use crate::tables::{have_lengths, have_types, held_column};
+use std::alloc::Global;
+use std::marker::Model;
+use vx_column::ColumnRef;
+use vx_dtype::FieldName;
+use vx_prune::ZoneMap;
+
+/// The columns of a table in memory as a store that tells it, and that fails at the reads whose numbers are listed.
+#[derive(Drop)]
+pub struct MemoryStore {
+    zones: ZoneMap,
+    blocks: Vec<Vec<ColumnRef>>,
+    fail: Vec<u64>,
+    calls: u64,
+    log: Vec<ReadEntry>,
+    failed: Option<ReadEntry>,
+    faults: u64,
+}
+
+impl Model for MemoryStore {
+    ghost use Rattle.std.specs.Prelude.{◌≡◌, true, map, option_map};
+    ghost use Rattle.vx_scan.specs.StoreViews.{StoreState};
+    ghost use Rattle.vx_scan.specs.StoreCodes.{coded_store};
+
+    ghost Value = { StoreState };
+
+    ghost coded = { coded_store };
+
+    ghost use Rattle.vx_scan.specs.StoreViews.{block_view, entry_view};
+    ghost use Rattle.vx_scan.specs.Blocks.{have_lengths, have_types};
+
+    ghost view = { λ s. record { zones = s.zones; blocks = map block_view s.blocks.items; listed = s.fail.items; calls = s.calls; reads = map entry_view s.log.items; failed = option_map entry_view s.failed; faults = s.faults } };
+
+    ghost invariant = { λ s. (have_lengths s.zones (map block_view s.blocks.items) ≡ true) × (have_types s.zones (map block_view s.blocks.items) ≡ true) };
+}
+
+impl MemoryStore {
+    /// A store of these blocks of columns that fails at the reads whose numbers, from 1, are listed. WrongLength exactly
+    /// where the number of blocks, of a block's columns or of a column's rows differs from the zones'; else WrongType
+    /// exactly where a column's type differs.
+    pub fn try_new(
+        alloc: Global,
+        zones: ZoneMap,
+        blocks: Vec<Vec<ColumnRef>>,
+        fail: Vec<u64>,
+    ) -> Result<MemoryStore, TableError>
+        requires countable { All (λ n. n < 2 ^ 64 - 1) fail.items }
+        ensures { Answers zones (map block_view blocks.items) fail.items result }
+    {
+        if !have_lengths(&zones, blocks.as_slice()) {
+            return Err(TableError::WrongLength);
+        }
+        if !have_types(&zones, blocks.as_slice()) {
+            return Err(TableError::WrongType);
+        }
+        Ok(MemoryStore {
+            zones,
+            blocks,
+            fail,
+            calls: 0,
+            log: Vec::new(alloc),
+            failed: None,
+            faults: 0,
+        })
+    }
+
+    /// The reads that succeeded, in order.
+    pub fn log(&self) -> &[ReadEntry]
+        ensures { map entry_view result.now ≡ self.now.reads }
+    {
+        self.log.as_slice()
+    }
+
+    /// The last read that failed.
+    pub fn failed(&self) -> Option<&ReadEntry>
+        ensures { option_map (λ e. entry_view e.now) result ≡ self.now.failed }
+    {
+        self.failed.as_ref()
+    }
+
+    /// How many reads failed; at 2^64 - 1 the count stays.
+    pub fn faults(&self) -> u64
+        ensures { result ≡ self.now.faults }
+    {
+        self.faults
+    }
+}
+
+impl ColumnStore for MemoryStore {
+    ghost held = { λ s. Some (table_of s.zones s.blocks) };
+
+    ghost zoned = { λ s. s.zones };
+
+    ghost log = { λ s. s.reads };
+
+    ghost faults = { λ s. s.faults };
+
+    ghost failed = { λ s. s.failed };
+
+    fn zones(&self) -> &ZoneMap
+        ensures zones { result.now ≡ self.now.zones }
+        ensures agrees { AgreesWith self.now.zones (Some (table_of self.now.zones self.now.blocks)) }
+    {
+        &self.zones
+    }
+
+    fn read(&mut self, block: u32, name: &FieldName) -> Result<ColumnRef, StoreError>
+        requires block { block < length self.old.zones.lengths }
+        requires column { has_name name.now (field_names self.old.zones.columns) ≡ true }
+        ensures same_table { Some (table_of self.new.zones self.new.blocks) ≡ Some (table_of self.old.zones self.old.blocks) }
+        ensures same_zones { self.new.zones ≡ self.old.zones }
+        ensures later { self.old.faults ≤ self.new.faults }
+        ensures dtype { IfOk result (λ c. field_type name.now self.old.zones.columns ≡ Some c.ty) }
+        ensures len { IfOk result (λ c. slice_get self.old.zones.lengths block ≡ Some (length c.rows)) }
+        ensures rows { IfOk result (λ c. AreHeld (Some (table_of self.old.zones self.old.blocks)) block name.now c.rows) }
+        ensures logged { IfOk result (λ _. self.new.reads ≡ self.old.reads ++ (block, name.now) ∷ []) }
+        ensures unfailed { IfOk result (λ _. self.new.failed ≡ self.old.failed) }
+        ensures unlogged { IsErr result → self.new.reads ≡ self.old.reads }
+        ensures risen { IsErrOf result StoreError.Failed → one_more self.old.faults ≤ self.new.faults }
+        ensures recorded { IsErrOf result StoreError.Failed → self.new.failed ≡ Some (block, name.now) }
+        ensures unrecorded { IsErrOf result StoreError.NoMemory → self.new.failed ≡ self.old.failed }
+        ensures listed { IfOk result (λ _. is_listed (one_more self.old.calls) self.old.listed ≡ false) }
+        ensures failure { IsErrOf result StoreError.Failed → is_listed (one_more self.old.calls) self.old.listed ≡ true }
+        ensures count { self.new.faults ≡ cond (is_listed (one_more self.old.calls) self.old.listed) (one_more self.old.faults) self.old.faults }
+        ensures calls { self.new.calls ≡ one_more self.old.calls }
+        ensures same_columns { self.new.blocks ≡ self.old.blocks }
+        ensures same_listed { self.new.listed ≡ self.old.listed }
+    {
+        self.calls = self.calls.saturating_add(1);
+        if self.fail.contains(&self.calls) {
+            self.faults = self.faults.saturating_add(1);
+            self.failed = Some(ReadEntry {
+                block,
+                name: name.clone()?,
+            });
+            return Err(StoreError::Failed);
+        }
+        let column = held_column(&self.zones, self.blocks.as_slice(), block, name).clone()?;
+        self.log.push(ReadEntry {
+            block,
+            name: name.clone()?,
+        })?;
+        Ok(column)
+    }
+}

@@ -1,0 +1,132 @@
+// Blocks of columns as a table: whether they agree with its zones, and the column of a read.
+ghost use Rattle.std.specs.Prelude.{◌≡◌, ◌<◌, true, Some, length, map, option_map, option_copied};
+ghost use Rattle.std.specs.List.{slice_get};
+ghost use Rattle.vx_dtype.specs.StructTypes.{field_types};
+ghost use Rattle.vx_dtype.specs.TypeRules.{has_name, field_names, field_type};
+ghost use Rattle.vx_dtype.specs.Structs.{field_of};
+ghost use Rattle.vx_scan.specs.Blocks.{block_long, blocks_long, is_type, block_typed, have_lengths, have_types, table_of, column_named};
+ghost use Rattle.vx_scan.specs.StoreViews.{block_view};
+
+use vx_column::ColumnRef;
+use vx_dtype::{FieldName, StructFields};
+use vx_prune::ZoneMap;
+
+/// The columns of zones.
+pub(crate) fn columns_of(zones: &ZoneMap) -> &StructFields
+    ensures { result.now ≡ zones.now.columns }
+{
+    zones.dtype().as_struct_fields_opt().unwrap()
+}
+
+/// Whether the number of blocks, of each block's columns and of each column's rows are those of the zones.
+pub(crate) fn have_lengths(zones: &ZoneMap, blocks: &[Vec<ColumnRef>]) -> bool
+    ensures { result ≡ have_lengths zones.now (map block_view blocks.now) }
+{
+    blocks_long(columns_of(zones).nfields(), zones.lengths(), blocks)
+}
+
+/// Whether there are as many blocks as numbers of rows, each with so many columns of so many rows.
+fn blocks_long(width: usize, lengths: &[u32], blocks: &[Vec<ColumnRef>]) -> bool
+    ensures { result ≡ blocks_long width lengths.now (map block_view blocks.now) }
+{
+    if blocks.len() != lengths.len() {
+        return false;
+    }
+    for i in 0..lengths.len() {
+        if !block_long(width, lengths[i], blocks[i].as_slice()) {
+            return false;
+        }
+    }
+    true
+}
+
+/// Whether a block has so many columns, each of so many rows.
+fn block_long(width: usize, rows: u32, columns: &[ColumnRef]) -> bool
+    ensures { result ≡ block_long width rows columns.now }
+{
+    if columns.len() != width {
+        return false;
+    }
+    for column in columns {
+        if column.len() != rows as usize {
+            return false;
+        }
+    }
+    true
+}
+
+/// Whether each column of each block is of the zones' type.
+pub(crate) fn have_types(zones: &ZoneMap, blocks: &[Vec<ColumnRef>]) -> bool
+    ensures { result ≡ have_types zones.now (map block_view blocks.now) }
+{
+    for block in blocks {
+        if !block_typed(columns_of(zones), block.as_slice()) {
+            return false;
+        }
+    }
+    true
+}
+
+/// Whether each column is of the type at its place.
+#[tactic(auto, using(crate::proofs::BlockLemmas::typed_more, crate::proofs::BlockLemmas::typed_end))]
+fn block_typed(fields: &StructFields, columns: &[ColumnRef]) -> bool
+    ensures { result ≡ block_typed (field_types fields.now) columns.now }
+{
+    for i in 0..columns.len() {
+        if !has_type_at(fields, i, &columns[i]) {
+            return false;
+        }
+    }
+    true
+}
+
+/// Whether a column is of the type of the field at this place, counted from 0.
+fn has_type_at(fields: &StructFields, i: usize, column: &ColumnRef) -> bool
+    ensures { result ≡ is_type (slice_get (field_types fields.now) i) column.now.ty }
+{
+    match fields.field_by_index(i) {
+        Some(dtype) => column.dtype() == dtype,
+        None => false,
+    }
+}
+
+/// The column of a block and a name that exist.
+pub(crate) fn held_column<'a>(
+    zones: &ZoneMap,
+    blocks: &'a [Vec<ColumnRef>],
+    block: u32,
+    name: &FieldName,
+) -> &'a ColumnRef
+    requires block { block < length zones.now.lengths }
+    requires column { has_name name.now (field_names zones.now.columns) ≡ true }
+    requires lengths { have_lengths zones.now (map block_view blocks.now) ≡ true }
+    requires types { have_types zones.now (map block_view blocks.now) ≡ true }
+    ensures dtype { field_type name.now zones.now.columns ≡ Some result.now.ty }
+    ensures len { slice_get zones.now.lengths block ≡ Some (length result.now.rows) }
+    ensures rows { option_map (map (field_of name.now)) (slice_get (table_of zones.now (map block_view blocks.now)).blocks block) ≡ Some result.now.rows }
+{
+    let columns = blocks[block as usize].as_slice();
+    column_named(columns_of(zones), columns, name).unwrap()
+}
+
+/// The column of the first field of this name.
+fn column_named<'a>(
+    fields: &StructFields,
+    columns: &'a [ColumnRef],
+    name: &FieldName,
+) -> Option<&'a ColumnRef>
+    requires { length columns.now ≡ length (field_names fields.now) }
+    ensures { option_copied result ≡ column_named name.now fields.now columns.now }
+{
+    match fields.names().position(name) {
+        Some(place) => column_at(columns, place),
+        None => None,
+    }
+}
+
+/// The column at this place, counted from 0.
+fn column_at(columns: &[ColumnRef], place: usize) -> Option<&ColumnRef>
+    ensures { option_copied result ≡ slice_get columns.now place }
+{
+    columns.get(place)
+}
