@@ -25,7 +25,7 @@ Doings = (List ℕ × ℕ) × (List Read × (Option Read × ℕ))
 abbrev pub coded_store : Coded StoreState
 coded_store =
     code_by (Contents × Doings)
-      (coded× (coded× coded_zones (coded_list (coded_list coded_column))) (coded× (coded× (coded_list coded_ℕ) coded_ℕ) (coded× (coded_list coded_read) (coded× (coded_option coded_read) coded_ℕ))))
-      (λ s. ((s.zones, s.blocks), ((s.listed, s.calls), (s.reads, (s.failed, s.faults)))))
-      (λ p. record { zones = p.0.0; blocks = p.0.1; listed = p.1.0.0; calls = p.1.0.1; reads = p.1.1.0; failed = p.1.1.1.0; faults = p.1.1.1.1 })
-      (λ _. refl)
+    (coded× (coded× coded_zones (coded_list (coded_list coded_column))) (coded× (coded× (coded_list coded_ℕ) coded_ℕ) (coded× (coded_list coded_read) (coded× (coded_option coded_read) coded_ℕ))))
+    (λ s. ((s.zones, s.blocks), ((s.listed, s.calls), (s.reads, (s.failed, s.faults)))))
+    (λ p. record { zones = p.0.0; blocks = p.0.1; listed = p.1.0.0; calls = p.1.0.1; reads = p.1.1.0; failed = p.1.1.1.0; faults = p.1.1.1.1 })
+    (λ _. refl)
