@@ -7,7 +7,7 @@ use Rattle.vx_dtype.specs.TypeRules.{field_names}
 use Rattle.vx_dtype.specs.StructTypes.{field_types}
 use Rattle.vx_dtype.specs.Equal.{ty_eq}
 use Rattle.vx_dtype.specs.Values.{Val, struct_val, Members, no_members, member}
-use Rattle.vx_column.specs.Columns.{Column, zip_rows}
+use Rattle.vx_column.specs.Columns.{Column, zip_rows, rows_fit}
 use Rattle.vx_semantics.specs.Tables.{Table, Zones}
 use Rattle.vx_scan.specs.declared.errors.TableError.{TableError}
 use Rattle.vx_scan.specs.declared.errors.TableError.TheVariants as errors
@@ -32,6 +32,10 @@ abbrev pub block_typed : List Ty → List Column → Bool
 block_typed ts [] = true
 block_typed [] (c ∷ cs) = false
 block_typed (t ∷ ts) (c ∷ cs) = ty_eq c.ty t && block_typed ts cs
+
+-- whether each column holds values of its type
+abbrev pub block_fits : List Column → Bool
+block_fits cs = list_all (λ c. rows_fit c.ty c.rows) cs
 
 -- whether the number of blocks, of each block's columns and of each column's rows are those of the zones
 abbrev pub have_lengths : Zones → List (List Column) → Bool

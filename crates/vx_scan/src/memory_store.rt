@@ -11,7 +11,7 @@ ghost use Rattle.vx_scan.specs.StoreAnswers.{Answers};
 use crate::errors::{StoreError, TableError};
 use crate::stores::{ColumnStore, ReadEntry};
 use crate::tables::{have_lengths, have_types, held_column};
-use std::alloc::Global;
+use std::alloc::{AllocError, Global};
 use std::marker::Model;
 use vx_column::ColumnRef;
 use vx_dtype::FieldName;
@@ -31,6 +31,7 @@ pub struct MemoryStore {
 
 impl Model for MemoryStore {
     ghost use Rattle.std.specs.Prelude.{◌≡◌, true, map, option_map};
+    ghost use Rattle.std.specs.List.{list_all};
     ghost use Rattle.vx_scan.specs.StoreViews.{StoreState};
     ghost use Rattle.vx_scan.specs.StoreCodes.{coded_store};
 
@@ -39,11 +40,11 @@ impl Model for MemoryStore {
     ghost coded = { coded_store };
 
     ghost use Rattle.vx_scan.specs.StoreViews.{block_view, entry_view};
-    ghost use Rattle.vx_scan.specs.Blocks.{have_lengths, have_types};
+    ghost use Rattle.vx_scan.specs.Blocks.{have_lengths, have_types, block_fits};
 
     ghost view = { λ s. record { zones = s.zones; blocks = map block_view s.blocks.items; listed = s.fail.items; calls = s.calls; reads = map entry_view s.log.items; failed = option_map entry_view s.failed; faults = s.faults } };
 
-    ghost invariant = { λ s. (have_lengths s.zones (map block_view s.blocks.items) ≡ true) × (have_types s.zones (map block_view s.blocks.items) ≡ true) };
+    ghost invariant = { λ s. (have_lengths s.zones (map block_view s.blocks.items) ≡ true) × (have_types s.zones (map block_view s.blocks.items) ≡ true) × (list_all block_fits (map block_view s.blocks.items) ≡ true) };
 }
 
 impl MemoryStore {
@@ -141,17 +142,21 @@ impl ColumnStore for MemoryStore {
         self.calls = self.calls.saturating_add(1);
         if self.fail.contains(&self.calls) {
             self.faults = self.faults.saturating_add(1);
-            self.failed = Some(ReadEntry {
-                block,
-                name: name.clone()?,
-            });
+            self.failed = Some(entry(block, name)?);
             return Err(StoreError::Failed);
         }
         let column = held_column(&self.zones, self.blocks.as_slice(), block, name).clone()?;
-        self.log.push(ReadEntry {
-            block,
-            name: name.clone()?,
-        })?;
+        self.log.push(entry(block, name)?)?;
         Ok(column)
     }
+}
+
+/// The read of a block and a name.
+fn entry(block: u32, name: &FieldName) -> Result<ReadEntry, AllocError>
+    ensures { IfOk result (λ e. entry_view e ≡ (block, name.now)) }
+{
+    Ok(ReadEntry {
+        block,
+        name: name.clone()?,
+    })
 }

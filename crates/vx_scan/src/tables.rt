@@ -1,10 +1,11 @@
 // Blocks of columns as a table: whether they agree with its zones, and the column of a read.
 ghost use Rattle.std.specs.Prelude.{◌≡◌, ◌<◌, true, Some, length, map, option_map, option_copied};
-ghost use Rattle.std.specs.List.{slice_get};
+ghost use Rattle.std.specs.List.{slice_get, list_all};
 ghost use Rattle.vx_dtype.specs.StructTypes.{field_types};
 ghost use Rattle.vx_dtype.specs.TypeRules.{has_name, field_names, field_type};
 ghost use Rattle.vx_dtype.specs.Structs.{field_of};
-ghost use Rattle.vx_scan.specs.Blocks.{block_long, blocks_long, is_type, block_typed, have_lengths, have_types, table_of, column_named};
+ghost use Rattle.vx_column.specs.Columns.{rows_fit};
+ghost use Rattle.vx_scan.specs.Blocks.{block_long, blocks_long, is_type, block_typed, block_fits, have_lengths, have_types, table_of, column_named};
 ghost use Rattle.vx_scan.specs.StoreViews.{block_view};
 
 use vx_column::ColumnRef;
@@ -57,7 +58,8 @@ fn block_long(width: usize, rows: u32, columns: &[ColumnRef]) -> bool
 
 /// Whether each column of each block is of the zones' type.
 pub(crate) fn have_types(zones: &ZoneMap, blocks: &[Vec<ColumnRef>]) -> bool
-    ensures { result ≡ have_types zones.now (map block_view blocks.now) }
+    ensures types { result ≡ have_types zones.now (map block_view blocks.now) }
+    ensures fit { result ≡ true → list_all block_fits (map block_view blocks.now) ≡ true }
 {
     for block in blocks {
         if !block_typed(columns_of(zones), block.as_slice()) {
@@ -70,7 +72,8 @@ pub(crate) fn have_types(zones: &ZoneMap, blocks: &[Vec<ColumnRef>]) -> bool
 /// Whether each column is of the type at its place.
 #[tactic(auto, using(crate::proofs::BlockLemmas::typed_more, crate::proofs::BlockLemmas::typed_end))]
 fn block_typed(fields: &StructFields, columns: &[ColumnRef]) -> bool
-    ensures { result ≡ block_typed (field_types fields.now) columns.now }
+    ensures types { result ≡ block_typed (field_types fields.now) columns.now }
+    ensures fit { result ≡ true → block_fits columns.now ≡ true }
 {
     for i in 0..columns.len() {
         if !has_type_at(fields, i, &columns[i]) {
@@ -82,10 +85,12 @@ fn block_typed(fields: &StructFields, columns: &[ColumnRef]) -> bool
 
 /// Whether a column is of the type of the field at this place, counted from 0.
 fn has_type_at(fields: &StructFields, i: usize, column: &ColumnRef) -> bool
-    ensures { result ≡ is_type (slice_get (field_types fields.now) i) column.now.ty }
+    ensures types { result ≡ is_type (slice_get (field_types fields.now) i) column.now.ty }
+    ensures fit { rows_fit column.now.ty column.now.rows ≡ true }
 {
+    let own = column.dtype();
     match fields.field_by_index(i) {
-        Some(dtype) => column.dtype() == dtype,
+        Some(dtype) => own == dtype,
         None => false,
     }
 }
