@@ -178,74 +178,54 @@ fn integer(p: PType) -> DType {
     DType::Primitive(p, Nullable)
 }
 
+/// What a least number of this path is refused for.
+fn least(rt: &impl Abort, alloc: Global, path: &[&str]) -> Result<Option<ZoneError>, Fail> {
+    one(rt, alloc, path, Stat::Min, integer(PType::I32), 2)
+}
+
+/// What a statistic of the number is refused for, with so many values of this type.
+fn of_number(
+    rt: &impl Abort,
+    alloc: Global,
+    stat: Stat,
+    dtype: DType,
+    count: usize,
+) -> Result<Option<ZoneError>, Fail> {
+    one(rt, alloc, &["a"], stat, dtype, count)
+}
+
 #[test]
 fn paths_lead_to_plain_fields(rt: HostRuntime) -> Result<(), Fail> {
     let alloc = rt.alloc();
     let bad = Some(ZoneError::BadStatPath);
-    let number = PType::I32;
+    assert_eq!(rt; least(&rt, alloc, &["a"])?, None);
+    assert_eq!(rt; least(&rt, alloc, &[])?, bad);
+    assert_eq!(rt; least(&rt, alloc, &["b"])?, bad);
+    assert_eq!(rt; least(&rt, alloc, &["a", "b"])?, bad);
+    assert_eq!(rt; least(&rt, alloc, &["home", "town"])?, bad);
+    assert_eq!(rt; least(&rt, alloc, &["home", "tags"])?, bad);
+    assert_eq!(rt; least(&rt, alloc, &["home", "tags", "a"])?, bad);
+    Ok(())
+}
+
+#[test]
+fn nested_paths_lead_to_fields(rt: HostRuntime) -> Result<(), Fail> {
+    let alloc = rt.alloc();
+    let count = integer(PType::U64);
+    let city = ["home", "town", "city"];
     let text = DType::Utf8(Nullable);
+    assert_eq!(rt; one(&rt, alloc, city.as_slice(), Stat::Max, text, 2)?, None);
+    let zip = ["home", "town", "zip"];
+    let wide = integer(PType::U32);
+    assert_eq!(rt; one(&rt, alloc, zip.as_slice(), Stat::Max, wide, 2)?, None);
+    let tags = ["home", "tags"];
+    let bad = Some(ZoneError::BadStatPath);
     assert_eq!(rt;
-        one(&rt, alloc, &["a"], Stat::Min, integer(number), 2)?,
-        None
-    );
-    assert_eq!(rt;
-        one(&rt, alloc, &["home", "town", "city"], Stat::Max, text, 2)?,
-        None
-    );
-    assert_eq!(rt;
-        one(
-            &rt,
-            alloc,
-            &["home", "town", "zip"],
-            Stat::Max,
-            integer(PType::U32),
-            2
-        )?,
-        None
-    );
-    assert_eq!(rt; one(&rt, alloc, &[], Stat::Min, integer(number), 2)?, bad);
-    assert_eq!(rt;
-        one(&rt, alloc, &["b"], Stat::Min, integer(number), 2)?,
+        one(&rt, alloc, tags.as_slice(), Stat::NullCount, count, 2)?,
         bad
     );
-    assert_eq!(rt;
-        one(&rt, alloc, &["home", "town"], Stat::Min, integer(number), 2)?,
-        bad
-    );
-    assert_eq!(rt;
-        one(&rt, alloc, &["home", "tags"], Stat::Min, integer(number), 2)?,
-        bad
-    );
-    assert_eq!(rt;
-        one(
-            &rt,
-            alloc,
-            &["home", "tags", "a"],
-            Stat::Min,
-            integer(number),
-            2
-        )?,
-        bad
-    );
-    assert_eq!(rt;
-        one(&rt, alloc, &["a", "b"], Stat::Min, integer(number), 2)?,
-        bad
-    );
-    assert_eq!(rt;
-        one(
-            &rt,
-            alloc,
-            &["home", "tags"],
-            Stat::NullCount,
-            integer(PType::U64),
-            2
-        )?,
-        bad
-    );
-    assert_eq!(rt;
-        one(&rt, alloc, &["a"], Stat::NaNCount, integer(PType::U64), 2)?,
-        bad
-    );
+    let numbers = of_number(&rt, alloc, Stat::NaNCount, integer(PType::U64), 2)?;
+    assert_eq!(rt; numbers, Some(ZoneError::BadStatPath));
     Ok(())
 }
 
@@ -254,48 +234,34 @@ fn values_are_counted_and_typed(rt: HostRuntime) -> Result<(), Fail> {
     let alloc = rt.alloc();
     let count = Some(ZoneError::WrongStatCount);
     let typed = Some(ZoneError::WrongStatType);
-    let number = PType::I32;
+    let (small, number, signed) = (PType::U8, PType::I32, PType::I64);
+    let wide = PType::U64;
+    let firm = DType::Primitive(number, NonNullable);
     assert_eq!(rt;
-        one(&rt, alloc, &["a"], Stat::Max, integer(number), 1)?,
+        of_number(&rt, alloc, Stat::Max, integer(number), 1)?,
         count
     );
     assert_eq!(rt;
-        one(&rt, alloc, &["a"], Stat::Max, integer(number), 3)?,
+        of_number(&rt, alloc, Stat::Max, integer(number), 3)?,
         count
     );
+    assert_eq!(rt; of_number(&rt, alloc, Stat::Max, integer(small), 3)?, count);
     assert_eq!(rt;
-        one(&rt, alloc, &["a"], Stat::Max, integer(PType::U8), 3)?,
-        count
+        of_number(&rt, alloc, Stat::Max, integer(signed), 2)?,
+        typed
     );
+    assert_eq!(rt; of_number(&rt, alloc, Stat::Max, integer(wide), 2)?, typed);
+    assert_eq!(rt; of_number(&rt, alloc, Stat::Max, firm, 2)?, typed);
     assert_eq!(rt;
-        one(&rt, alloc, &["a"], Stat::Max, integer(PType::I64), 2)?,
+        of_number(&rt, alloc, Stat::NullCount, integer(number), 2)?,
         typed
     );
     assert_eq!(rt;
-        one(&rt, alloc, &["a"], Stat::Max, integer(PType::U64), 2)?,
+        of_number(&rt, alloc, Stat::NullCount, integer(signed), 2)?,
         typed
     );
     assert_eq!(rt;
-        one(
-            &rt,
-            alloc,
-            &["a"],
-            Stat::Max,
-            DType::Primitive(number, NonNullable),
-            2
-        )?,
-        typed
-    );
-    assert_eq!(rt;
-        one(&rt, alloc, &["a"], Stat::NullCount, integer(number), 2)?,
-        typed
-    );
-    assert_eq!(rt;
-        one(&rt, alloc, &["a"], Stat::NullCount, integer(PType::I64), 2)?,
-        typed
-    );
-    assert_eq!(rt;
-        one(&rt, alloc, &["a"], Stat::NullCount, integer(PType::U64), 2)?,
+        of_number(&rt, alloc, Stat::NullCount, integer(wide), 2)?,
         None
     );
     Ok(())

@@ -1,5 +1,5 @@
 -- Blocks by their numbers: how long and of which types each is, and the rows of the table there.
-use Rattle.std.proofs.Common.{◌≡◌, ◌≢◌, refl, ap, ◌∙◌, sym, ℕ, zero, suc, ◌+◌, ◌<◌, ◌≤◌, Bool, true, false, ◌&&◌, nat_eq, Option, Some, None, List, [], ◌∷◌, map, length, drop, get_or, option_map, add-one, arith}
+use Rattle.std.proofs.Common.{◌≡◌, ◌≢◌, refl, ap, ◌∙◌, sym, ℕ, zero, suc, ◌+◌, ◌<◌, ◌≤◌, Bool, true, false, ◌&&◌, nat_eq, Some, List, [], ◌∷◌, map, length, drop, get_or, option_map, add-one, arith}
 use Rattle.std.specs.Cmp.{first_so, second_so}
 use Rattle.std.specs.List.{list_all, slice_get}
 use Rattle.std.proofs.lemmas.List.{drop_all}
@@ -7,11 +7,9 @@ use Rattle.std.proofs.lemmas.Option.{slice_get-get_or, slice_get_read, slice_get
 use Rattle.vx_dtype.specs.Types.{Bytes, Ty, Fields}
 use Rattle.vx_dtype.specs.TypeRules.{field_names, field_type}
 use Rattle.vx_dtype.specs.StructTypes.{field_types}
-use Rattle.vx_dtype.specs.Equal.{ty_eq}
-use Rattle.vx_dtype.specs.Values.{Val}
 use Rattle.vx_dtype.specs.Structs.{field_of}
 use Rattle.vx_column.specs.Columns.{Column, zip_rows}
-use Rattle.vx_semantics.specs.Tables.{Table, Zones}
+use Rattle.vx_semantics.specs.Tables.{Zones}
 use Rattle.vx_scan.specs.Blocks.{block_long, blocks_long, is_type, block_typed, have_lengths, have_types, block_rows, table_of, column_named}
 use Rattle.vx_scan.specs.StoreViews.{block_view}
 use Rattle.std.specs.declared.vec.Vec.{Vec}

@@ -1,5 +1,5 @@
 -- The rows of a block are of the row type, where its columns hold values of theirs.
-use Rattle.std.proofs.Common.{◌≡◌, ◌+◌, ◌<◌, drop, get_or, refl, ap, ◌∙◌, sym, ℕ, zero, suc, Bool, true, false, ◌&&◌, nat_eq, List, [], ◌∷◌, map, length, replicate, arith}
+use Rattle.std.proofs.Common.{◌≡◌, ◌+◌, ◌<◌, drop, get_or, refl, ap, ◌∙◌, sym, ℕ, zero, suc, true, ◌&&◌, nat_eq, List, [], ◌∷◌, map, length, replicate, arith}
 use Rattle.std.proofs.lemmas.List.{drop_more}
 use Rattle.std.specs.Cmp.{first_so, second_so}
 use Rattle.std.specs.Cmp.Derive.{both_true}
@@ -16,7 +16,7 @@ use Rattle.vx_dtype.specs.Values.{Val, struct_val, Members, no_members, member}
 use Rattle.vx_dtype.specs.Fits.{val_fits, members_fit}
 use Rattle.vx_column.specs.Columns.{Column, zip_rows, rows_fit}
 use Rattle.vx_scan.specs.Blocks.{block_long, blocks_long, block_typed, block_fits, block_members, block_rows}
-use Rattle.vx_scan.proofs.MemberLemmas.{equal_numbers, members_count}
+use Rattle.vx_scan.proofs.MemberLemmas.{equal_numbers}
 
 -- rows without members are of no fields
 none_fit : (n : ℕ) → rows_fit (struct_ty no_fields NonNullable) (map struct_val (replicate n no_members)) ≡ true

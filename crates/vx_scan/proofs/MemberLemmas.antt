@@ -1,10 +1,10 @@
 -- The rows of a block: how many there are, and the member of a name in each.
-use Rattle.std.proofs.Common.{◌≡◌, refl, ap, ◌∙◌, ℕ, zero, suc, Bool, true, false, ◌&&◌, cond, nat_eq, List, [], ◌∷◌, map, length, replicate, unwrap_or, Some, arith}
+use Rattle.std.proofs.Common.{◌≡◌, refl, ap, ◌∙◌, ℕ, zero, suc, true, false, cond, nat_eq, List, [], ◌∷◌, map, length, replicate, unwrap_or, Some, arith}
 use Rattle.std.specs.Cmp.{first_so, second_so}
 use Rattle.std.specs.List.{list_all}
 use Rattle.std.specs.Str.{bytes_eq}
 use Rattle.std.proofs.lemmas.Bool.Decides.{nat_tests}
-use Rattle.vx_dtype.specs.Types.{Bytes, Ty, Fields, no_fields, field}
+use Rattle.vx_dtype.specs.Types.{Bytes, Fields, no_fields, field}
 use Rattle.vx_dtype.specs.Values.{Val, struct_val, fault, Members, no_members, member}
 use Rattle.vx_dtype.specs.Structs.{member_named, field_of}
 use Rattle.vx_column.specs.Columns.{Column, zip_rows}

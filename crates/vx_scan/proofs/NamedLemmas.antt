@@ -1,5 +1,5 @@
 -- The column of a name: where it is, its type, its length, and its values in the rows of the block.
-use Rattle.std.proofs.Common.{◌≡◌, refl, ap, ◌∙◌, sym, ℕ, zero, suc, ◌+◌, ◌<◌, ◌≤◌, Bool, true, false, not, ◌&&◌, ◌||◌, cond, nat_eq, nat_lt, Option, Some, None, IsSome, Bor, option_copied, subst, List, [], ◌∷◌, map, length, arith}
+use Rattle.std.proofs.Common.{◌≡◌, refl, ap, ◌∙◌, sym, ℕ, suc, ◌+◌, Bool, true, false, not, ◌||◌, cond, nat_eq, nat_lt, Option, Some, None, IsSome, Bor, option_copied, subst, List, [], ◌∷◌, map, length, arith}
 use Rattle.std.specs.Cmp.{first_so, second_so}
 use Rattle.std.specs.List.{list_all, slice_get, position, position_or_len}
 use Rattle.std.specs.Str.{bytes_eq}
@@ -9,7 +9,7 @@ use Rattle.vx_dtype.specs.TypeRules.{has_name, field_names, field_type}
 use Rattle.vx_dtype.specs.StructTypes.{field_types}
 use Rattle.vx_dtype.specs.Equal.{ty_eq}
 use Rattle.vx_dtype.specs.EqualLaws.{ty_decides}
-use Rattle.vx_dtype.specs.Values.{Val, struct_val, Members, member}
+use Rattle.vx_dtype.specs.Values.{struct_val, Members, member}
 use Rattle.vx_dtype.specs.Structs.{field_of}
 use Rattle.vx_column.specs.Columns.{Column, zip_rows}
 use Rattle.vx_scan.specs.Blocks.{block_typed, block_members, block_rows, column_named}

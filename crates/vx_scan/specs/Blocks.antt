@@ -2,7 +2,7 @@
 use Rattle.std.specs.Prelude.{ℕ, nat_eq, Bool, true, false, cond, not, ◌&&◌, List, [], ◌∷◌, map, length, replicate, Option, Some, None}
 use Rattle.std.specs.List.{list_all}
 use Rattle.std.specs.Str.{bytes_eq}
-use Rattle.vx_dtype.specs.Types.{Bytes, Ty, Fields, no_fields, field}
+use Rattle.vx_dtype.specs.Types.{Bytes, Ty, Fields, field}
 use Rattle.vx_dtype.specs.TypeRules.{field_names}
 use Rattle.vx_dtype.specs.StructTypes.{field_types}
 use Rattle.vx_dtype.specs.Equal.{ty_eq}

@@ -1,7 +1,6 @@
 -- A code of stores in memory: by it the checker tells those that are seen apart.
 use Rattle.std.proofs.Common.{ℕ, refl, List, Option}
 use Rattle.std.specs.Coded.{Coded, code_by, coded_ℕ, coded_list, coded_option, coded×}
-use Rattle.vx_dtype.specs.Types.{Bytes}
 use Rattle.vx_dtype.specs.Codes.{coded_bytes}
 use Rattle.vx_column.specs.Columns.{Column}
 use Rattle.vx_column.specs.ValCodes.{coded_column}

@@ -1,5 +1,4 @@
 use Rattle.std.proofs.Common.{◌≡◌, map, drop}
-use Rattle.std.specs.List.{list_all, list_any}
 use Rattle.vx_prune.specs.ZoneViews.{stat_view}
 use Rattle.vx_prune.specs.Zoning.{distinct_statistics}
 use Rattle.vx_prune.proofs.zone_rules.are_distinct.Given as goal

@@ -1,7 +1,7 @@
 use Rattle.std.proofs.Common.{◌≡◌, sym, ◌∙◌, false, true, nat_le, arith}
 use Rattle.vx_dtype.specs.TypeRules.{depth_of}
 use Rattle.vx_dtype.specs.TypeViews.{type_view}
-use Rattle.vx_prune.specs.Zoning.{are_shallow, most_deep}
+use Rattle.vx_prune.specs.Zoning.{most_deep}
 use Rattle.vx_prune.proofs.DepthLemmas.{too_deep, deep_enough, shallow_step, shallow_end}
 use Rattle.vx_prune.proofs.zone_rules.are_shallow.Goals as goal
 

@@ -1,5 +1,5 @@
 use Rattle.std.proofs.Common.{◌≡◌, map, drop}
-use Rattle.std.specs.List.{list_all, list_any}
+use Rattle.std.specs.List.{list_all}
 use Rattle.vx_prune.specs.ZoneViews.{stat_view}
 use Rattle.vx_prune.specs.Zoning.{counts_blocks}
 use Rattle.vx_prune.proofs.zone_rules.count_blocks.Given as goal

@@ -1,5 +1,5 @@
 use Rattle.std.proofs.Common.{◌≡◌, map, drop}
-use Rattle.std.specs.List.{list_all, list_any}
+use Rattle.std.specs.List.{list_any}
 use Rattle.vx_prune.specs.ZoneViews.{stat_view}
 use Rattle.vx_prune.specs.Zoning.{same_statistic}
 use Rattle.vx_prune.proofs.zone_rules.has_statistic.Given as goal

@@ -1,8 +1,8 @@
-use Rattle.std.proofs.Common.{◌≡◌, ◌∙◌, sym, ap, ◌+◌, Bool, true, false, ◌&&◌, drop, get_or}
+use Rattle.std.proofs.Common.{◌≡◌, ◌∙◌, sym, ap, true, false, get_or}
 use Rattle.std.specs.List.{slice_get}
 use Rattle.vx_column.specs.Columns.{Column}
 use Rattle.vx_dtype.specs.StructTypes.{field_types}
-use Rattle.vx_scan.specs.Blocks.{is_type, block_typed}
+use Rattle.vx_scan.specs.Blocks.{is_type}
 use Rattle.vx_scan.proofs.BlockLemmas.{typed_more}
 use Rattle.vx_scan.proofs.FitLemmas.{fits_more}
 use Rattle.vx_scan.proofs.tables.block_typed.Goals as goal

@@ -1,4 +1,4 @@
-use Rattle.std.proofs.Common.{◌≡◌, sym}
+use Rattle.std.proofs.Common.{sym}
 use Rattle.vx_scan.proofs.BlockLemmas.{blocks_uneven}
 use Rattle.vx_scan.proofs.tables.blocks_long.Goals as goal
 

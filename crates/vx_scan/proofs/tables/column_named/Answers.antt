@@ -1,7 +1,6 @@
-use Rattle.std.proofs.Common.{◌≡◌, ◌∙◌, sym, ap, length}
+use Rattle.std.proofs.Common.{◌∙◌, sym, ap}
 use Rattle.std.specs.List.{position}
 use Rattle.std.specs.Str.{bytes_eq}
-use Rattle.vx_dtype.specs.TypeRules.{field_names}
 use Rattle.vx_scan.proofs.NamedLemmas.{named_at, named_nowhere}
 use Rattle.vx_scan.proofs.tables.column_named.Goals as goal
 

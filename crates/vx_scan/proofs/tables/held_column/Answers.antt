@@ -1,5 +1,4 @@
-use Rattle.std.proofs.Common.{◌≡◌, ◌∙◌, sym, ap, ◌<◌, map, length, IsSome, Some, option_copied, arith, subst}
-use Rattle.std.specs.List.{slice_get}
+use Rattle.std.proofs.Common.{◌∙◌, sym, ap, ◌<◌, map, length, option_copied, arith}
 use Rattle.vx_dtype.specs.Types.{Fields}
 use Rattle.vx_dtype.specs.TypeRules.{field_names}
 use Rattle.vx_scan.specs.Blocks.{column_named}
