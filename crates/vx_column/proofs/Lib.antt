@@ -7,3 +7,6 @@ mod SumLemmas
 mod ListLemmas
 mod CastLemmas
 mod FieldLemmas
+mod EqualLemmas
+mod StructLemmas
+mod ProjectionLemmas

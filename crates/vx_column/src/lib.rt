@@ -5,12 +5,15 @@ mod casts;
 mod columns;
 mod comparisons;
 mod duplicates;
+mod equality;
 mod errors;
 mod fields;
 mod logic;
 mod making;
 mod masks;
+mod projections;
 mod rows;
+mod structs;
 mod sums;
 #[cfg(test)]
 mod tests;
