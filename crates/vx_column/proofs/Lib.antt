@@ -10,3 +10,4 @@ mod FieldLemmas
 mod EqualLemmas
 mod StructLemmas
 mod ProjectionLemmas
+mod PatternLemmas

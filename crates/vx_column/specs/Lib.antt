@@ -6,3 +6,4 @@ pub mod Totals
 pub mod ColumnEqual
 pub mod ColumnEqualLaws
 pub mod StructColumns
+pub mod Patterns
