@@ -18,7 +18,7 @@ pub(crate) enum Part {
     Just(char),
 }
 
-/// Whether a text matches a pattern, with or without regard to the case of ASCII letters. Without `%` in the pattern it takes time in proportion to the text at most, with one to the text times the pattern.
+/// Whether a text matches a pattern, with or without regard to the case of ASCII letters. It takes time in proportion to both where the pattern has no `%`, and to the text times the pattern at most where it has one.
 pub(crate) fn text_matches(alloc: Global, text: &str, pattern: &str, fold_case: bool) -> Mem<bool>
     ensures { IfOk result (λ b. b ≡ text_matches fold_case text.now pattern.now) }
 {
