@@ -7,3 +7,7 @@ mod SumLemmas
 mod ListLemmas
 mod CastLemmas
 mod FieldLemmas
+mod EqualLemmas
+mod StructLemmas
+mod ProjectionLemmas
+mod PatternLemmas

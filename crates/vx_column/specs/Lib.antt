@@ -3,3 +3,7 @@ pub mod ValCodes
 pub mod RawParts
 pub mod Answers
 pub mod Totals
+pub mod ColumnEqual
+pub mod ColumnEqualLaws
+pub mod StructColumns
+pub mod Patterns

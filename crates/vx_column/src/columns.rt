@@ -19,7 +19,7 @@ use std::rc::Rc;
 use vx_dtype::{DType, Mem, Scalar, ScalarValue};
 
 /// A column, shared by its clones. It is seen as its type and the list of its row values: each value is one of the type, and no struct in the type has two fields of one name.
-#[derive(Drop)]
+#[derive(Debug, Drop)]
 pub struct ColumnRef {
     dtype: DType,
     rows: Rc<Vec<ScalarValue>>,

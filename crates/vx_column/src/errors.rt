@@ -2,7 +2,7 @@
 ghost use Rattle.std.specs.Prelude.{◌≡◌};
 
 use std::alloc::{AllocError, AllocFailed};
-use vx_dtype::NoMemory;
+use vx_dtype::{FieldsError, NoMemory};
 
 /// Why a column isn't made.
 #[derive(PartialEq, Eq, Debug, Drop)]
@@ -50,5 +50,18 @@ impl From<NoMemory> for ColumnError {
 
     fn from(_error: NoMemory) -> ColumnError {
         ColumnError::NoMemory
+    }
+}
+
+impl From<FieldsError> for ColumnError {
+    ghost use Rattle.vx_column.specs.StructColumns.{fields_refusal};
+
+    ghost from_gives = { λ refusal e. e ≡ fields_refusal refusal };
+
+    fn from(error: FieldsError) -> ColumnError {
+        match error {
+            FieldsError::NoMemory => ColumnError::NoMemory,
+            FieldsError::UnknownField => ColumnError::UnknownField,
+        }
     }
 }

@@ -1,0 +1,148 @@
+-- Equality and hash between what the code holds and the values at rows.
+use Rattle.std.proofs.Common.{◌≡◌, ℕ, refl, ap, ◌∙◌, sym, Bool, true, false, ◌&&◌, List, [], ◌∷◌, ◌++◌, map, length, suc}
+use Rattle.std.specs.List.{flat_map, fold}
+use Rattle.std.proofs.lemmas.Grind.{fold-append}
+use Rattle.std.specs.Prelude.{Decides}
+use Rattle.std.specs.Hash as fed
+use Rattle.std.specs.Cmp.Lexicographic.{pointwise}
+use Rattle.std.proofs.lemmas.Slice.Eq.{slice_eq-Decides}
+use Rattle.vx_dtype.specs.Types.{Ty, bool_ty, int_ty, text_ty, list_ty, struct_ty, Fields, no_fields, field}
+use Rattle.vx_dtype.specs.Values.{Raw, raw_null, raw_bool, raw_int, raw_text, raw_list, raw_struct, Raws, no_raws, raw, valued, all_valued, members_valued}
+use Rattle.vx_dtype.specs.Fits.{fits, all_fit, fields_fit}
+use Rattle.vx_dtype.specs.Equal.{raw_eq}
+use Rattle.vx_dtype.specs.EqualLaws.{raw_decides}
+use Rattle.vx_dtype.specs.Feeds.{raw_feed, raws_feed, ty_feed}
+use Rattle.vx_dtype.specs.RawViews.{raw_view}
+use Rattle.vx_dtype.specs.declared.values.ScalarValue.{ScalarValue}
+use Rattle.vx_column.specs.Columns.{Column, column, values_fit, seen_rows}
+use Rattle.vx_column.specs.ColumnEqual.{column_feed, val_feed, vals_feed, members_feed}
+use Rattle.vx_column.proofs.FitLemmas.{both_of}
+
+mutual
+  unfolding fits valued
+
+  -- raw values of one type that stand for the same are the same
+  pub valued-same : (t : Ty) (x y : Raw) → fits x t ≡ true → fits y t ≡ true → valued x t ≡ valued y t → x ≡ y
+  valued-same t raw_null raw_null a b e = refl
+  valued-same (bool_ty n) (raw_bool i) (raw_bool j) a b e = cc
+  valued-same (int_ty p n) (raw_int i) (raw_int j) a b e = cc
+  valued-same (text_ty n) (raw_text i) (raw_text j) a b e = cc
+  valued-same (list_ty t n) (raw_list xs) (raw_list ys) a b e =
+      let inner : all_valued xs t ≡ all_valued ys t = cc in
+      ap raw_list (all_valued-same t xs ys a b inner)
+  valued-same (struct_ty fs n) (raw_struct xs) (raw_struct ys) a b e =
+      let inner : members_valued xs fs ≡ members_valued ys fs = cc in
+      ap raw_struct (members_valued-same fs xs ys a b inner)
+  valued-same (bool_ty n) _ _ a b e = cc
+  valued-same (int_ty p n) _ _ a b e = cc
+  valued-same (text_ty n) _ _ a b e = cc
+  valued-same (list_ty t n) _ _ a b e = cc
+  valued-same (struct_ty fs n) _ _ a b e = cc
+
+  pub all_valued-same : (t : Ty) (xs ys : Raws) → all_fit xs t ≡ true → all_fit ys t ≡ true → all_valued xs t ≡ all_valued ys t → xs ≡ ys
+  all_valued-same t no_raws no_raws a b e = refl
+  all_valued-same t (raw x xs) (raw y ys) a b e =
+      let h = both_of (fits x t) (all_fit xs t) a in
+      let k = both_of (fits y t) (all_fit ys t) b in
+      let here : valued x t ≡ valued y t = cc in
+      let rest : all_valued xs t ≡ all_valued ys t = cc in
+      λ i. raw (valued-same t x y h.0 k.0 here i) (all_valued-same t xs ys h.1 k.1 rest i)
+  all_valued-same t _ _ a b e = cc
+
+  pub members_valued-same : (fs : Fields) (xs ys : Raws) → fields_fit xs fs ≡ true → fields_fit ys fs ≡ true → members_valued xs fs ≡ members_valued ys fs → xs ≡ ys
+  members_valued-same no_fields no_raws no_raws a b e = refl
+  members_valued-same (field f t fs) (raw x xs) (raw y ys) a b e =
+      let h = both_of (fits x t) (fields_fit xs fs) a in
+      let k = both_of (fits y t) (fields_fit ys fs) b in
+      let here : valued x t ≡ valued y t = cc in
+      let rest : members_valued xs fs ≡ members_valued ys fs = cc in
+      λ i. raw (valued-same t x y h.0 k.0 here i) (members_valued-same fs xs ys h.1 k.1 rest i)
+  members_valued-same _ _ _ a b e = cc
+
+-- so are rows of them
+pub seen_rows-same : (t : Ty) (xs ys : List ScalarValue) → values_fit t xs ≡ true → values_fit t ys ≡ true → seen_rows t xs ≡ seen_rows t ys → map raw_view xs ≡ map raw_view ys
+seen_rows-same t [] [] a b e = refl
+seen_rows-same t [] (y ∷ ys) a b e = absurd cc
+seen_rows-same t (x ∷ xs) [] a b e = absurd cc
+seen_rows-same t (x ∷ xs) (y ∷ ys) a b e =
+    let h = both_of (fits (raw_view x) t) (values_fit t xs) a in
+    let k = both_of (fits (raw_view y) t) (values_fit t ys) b in
+    let here : valued (raw_view x) t ≡ valued (raw_view y) t = cc in
+    let rest : seen_rows t xs ≡ seen_rows t ys = cc in
+    λ i. valued-same t (raw_view x) (raw_view y) h.0 k.0 here i ∷ seen_rows-same t xs ys h.1 k.1 rest i
+
+mutual
+  unfolding fits valued raw_feed val_feed
+
+  -- what a hash takes in of a raw value is what it takes in of the value that it stands for
+  pub val_feed-valued : (t : Ty) (x : Raw) → fits x t ≡ true → val_feed (valued x t) ≡ raw_feed x
+  val_feed-valued t raw_null a = refl
+  val_feed-valued (bool_ty n) (raw_bool i) a = refl
+  val_feed-valued (int_ty p n) (raw_int i) a = refl
+  val_feed-valued (text_ty n) (raw_text i) a = refl
+  val_feed-valued (list_ty t n) (raw_list xs) a = ap (λ w. fed.u8 4 ++ w) (vals_feed-valued t xs a)
+  val_feed-valued (struct_ty fs n) (raw_struct xs) a = ap (λ w. fed.u8 5 ++ w) (members_feed-valued fs xs a)
+  val_feed-valued _ _ a = cc
+
+  pub vals_feed-valued : (t : Ty) (xs : Raws) → all_fit xs t ≡ true → vals_feed (all_valued xs t) ≡ raws_feed xs
+  vals_feed-valued t no_raws a = refl
+  vals_feed-valued t (raw x xs) a =
+      let h = both_of _ _ a in
+      λ i. fed.u8 1 ++ val_feed-valued t x h.0 i ++ vals_feed-valued t xs h.1 i
+
+  pub members_feed-valued : (fs : Fields) (xs : Raws) → fields_fit xs fs ≡ true → members_feed (members_valued xs fs) ≡ raws_feed xs
+  members_feed-valued no_fields no_raws a = refl
+  members_feed-valued (field f t fs) (raw x xs) a =
+      let h = both_of _ _ a in
+      λ i. fed.u8 1 ++ val_feed-valued t x h.0 i ++ members_feed-valued fs xs h.1 i
+  members_feed-valued _ _ a = cc
+
+-- as many rows as values
+length_seen : (t : Ty) (xs : List ScalarValue) → length (seen_rows t xs) ≡ length xs
+length_seen t [] = refl
+length_seen t (x ∷ xs) = ap (λ n. suc n) (length_seen t xs)
+
+-- what a hash takes in of rows
+pub feed_flat : (t : Ty) (xs : List ScalarValue) → values_fit t xs ≡ true → flat_map val_feed (seen_rows t xs) ≡ flat_map (λ x. raw_feed (raw_view x)) xs
+feed_flat t [] a = refl
+feed_flat t (x ∷ xs) a =
+    let h = both_of _ _ a in
+    λ i. val_feed-valued t (raw_view x) h.0 i ++ feed_flat t xs h.1 i
+
+pub feed_rows : (t : Ty) (xs : List ScalarValue) → values_fit t xs ≡ true → fed.slice val_feed (seen_rows t xs) ≡ fed.slice (λ x. raw_feed (raw_view x)) xs
+feed_rows t xs a = λ i. fed.usize (length_seen t xs i) ++ feed_flat t xs a i
+
+-- the test on what the code holds, place by place
+pub pointwise_view : (xs ys : List ScalarValue) → pointwise (λ x y. raw_eq (raw_view x) (raw_view y)) xs ys ≡ pointwise raw_eq (map raw_view xs) (map raw_view ys)
+pointwise_view [] [] = refl
+pointwise_view [] (y ∷ ys) = refl
+pointwise_view (x ∷ xs) [] = refl
+pointwise_view (x ∷ xs) (y ∷ ys) = ap (λ b. raw_eq (raw_view x) (raw_view y) && b) (pointwise_view xs ys)
+
+-- columns of one type are the same where what the code holds is
+pub rows_answer : (c d : Column) (xs ys : List ScalarValue) (b : Bool) → c.ty ≡ d.ty → seen_rows c.ty xs ≡ c.rows → seen_rows d.ty ys ≡ d.rows → values_fit c.ty xs ≡ true → values_fit d.ty ys ≡ true → b ≡ pointwise (λ x y. raw_eq (raw_view x) (raw_view y)) xs ys → Decides b (c ≡ d)
+rows_answer c d xs ys b t p q f g e =
+    let raws = slice_eq-Decides raw_decides (map raw_view xs) (map raw_view ys) b (e ∙ pointwise_view xs ys) in
+    let fit : values_fit c.ty ys ≡ true = ap (λ u. values_fit u ys) t ∙ g in
+    let seen : seen_rows c.ty ys ≡ d.rows = ap (λ u. seen_rows u ys) t ∙ q in (
+      λ h. (λ i. column (t i) ((sym p ∙ ap (λ zs. map (λ z. valued z c.ty) zs) (raws.0 h) ∙ seen) i)),
+      λ h. raws.1 (seen_rows-same c.ty xs ys f fit (p ∙ ap (λ k. k.rows) h ∙ sym seen)),
+    )
+
+-- columns of two types are not the same
+pub types_answer : (c d : Column) (b : Bool) → Decides b (c.ty ≡ d.ty) → b ≡ false → Decides b (c ≡ d)
+types_answer c d b h e = (λ k. absurd cc, λ k. h.1 (ap (λ z. z.ty) k))
+
+-- two tests that decide the same are the same
+pub decide_same : (P : Type 0) (b c : Bool) → Decides b P → Decides c P → b ≡ c
+decide_same P true c h k = sym (k.1 (h.0 refl))
+decide_same P false true h k = h.1 (k.0 refl)
+decide_same P false false h k = refl
+
+-- a hash that has taken in a column's type and then what the code holds has taken in the column
+pub hash_answer : {B : Type 0} (write : B → List ℕ → B) (s a b : B) (c : Column) (t : Ty) (xs : List ScalarValue) → t ≡ c.ty → seen_rows c.ty xs ≡ c.rows → values_fit c.ty xs ≡ true → a ≡ fold write s (ty_feed t) → b ≡ fold write a (fed.slice (λ x. raw_feed (raw_view x)) xs) → b ≡ fold write s (column_feed c)
+hash_answer write s a b c t xs p q f e d =
+    let rows : fed.slice (λ x. raw_feed (raw_view x)) xs ≡ fed.slice val_feed c.rows = sym (feed_rows c.ty xs f) ∙ ap (fed.slice val_feed) q in
+    let told : b ≡ fold write (fold write s (ty_feed t)) (fed.slice (λ x. raw_feed (raw_view x)) xs) = d ∙ ap (λ z. fold write z (fed.slice (λ x. raw_feed (raw_view x)) xs)) e in
+    let joined : b ≡ fold write s (ty_feed t ++ fed.slice (λ x. raw_feed (raw_view x)) xs) = told ∙ sym (fold-append write s (ty_feed t) (fed.slice (λ x. raw_feed (raw_view x)) xs)) in
+    joined ∙ (λ i. fold write s (ty_feed (p i) ++ rows i))
