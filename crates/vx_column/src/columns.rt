@@ -2,7 +2,6 @@
 ghost use Rattle.std.specs.Prelude.{◌≡◌, ◌<◌, ℕ, true, not, length, map, slice_index_or, IfOk};
 ghost use Rattle.vx_dtype.specs.Values.{bool_val, value_of};
 ghost use Rattle.vx_dtype.specs.Logic.{is_null3};
-ghost use Rattle.vx_dtype.specs.Fits.{fits};
 ghost use Rattle.vx_dtype.specs.RawViews.{raw_view};
 ghost use Rattle.vx_column.specs.Answers.{Answers, column_of_raws};
 ghost use Rattle.vx_dtype.specs.TypeRules.{no_name_twice};
@@ -74,7 +73,7 @@ impl ColumnRef {
     ) -> Result<ColumnRef, ColumnError>
         ensures { Answers result (column_of_raws (type_view dtype) (map raw_view values.items)) }
     {
-        if !all_fit(&dtype, values.as_slice())? {
+        if !all_fit(&dtype, values.as_slice()) {
             return Err(ColumnError::WrongValue);
         }
         if !no_name_twice(&dtype) {
@@ -121,23 +120,16 @@ impl ColumnRef {
     }
 }
 
-/// Whether a value is one of a type.
-fn fits(dtype: &DType, value: &ScalarValue) -> Mem<bool>
-    ensures { IfOk result (λ b. b ≡ fits (raw_view value.now) (type_view dtype.now)) }
-{
-    Ok(Scalar::try_new(dtype.clone()?, value.clone()?).is_ok())
-}
-
 /// Whether each value is one of a type.
-fn all_fit(dtype: &DType, values: &[ScalarValue]) -> Mem<bool>
-    ensures { IfOk result (λ b. b ≡ values_fit (type_view dtype.now) values.now) }
+fn all_fit(dtype: &DType, values: &[ScalarValue]) -> bool
+    ensures { result ≡ values_fit (type_view dtype.now) values.now }
 {
     for value in values {
-        if !fits(dtype, value)? {
-            return Ok(false);
+        if !value.fits(dtype) {
+            return false;
         }
     }
-    Ok(true)
+    true
 }
 
 impl Clone for ColumnRef {
