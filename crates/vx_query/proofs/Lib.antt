@@ -1,2 +1,7 @@
 mod Taking
 mod Adding
+mod ObjectLemmas
+mod ItemLemmas
+mod ColumnLemmas
+mod TextLemmas
+pub mod ShapeLemmas

@@ -1,21 +1,33 @@
-//! The ends of the program: where its bytes come from, and where they go.
+//! The ends of the program, where its bytes come from and where they go; the scan that an input asks; and the text of a
+//! report.
 #![tactic(auto)]
 
+mod asked;
+mod items;
 mod memory_sink;
 mod memory_source;
+mod objects;
+mod parts;
 mod reading;
+mod reports;
 mod sinks;
 mod sources;
 mod standard;
 mod writing;
 
+pub use asked::{AskedScan, asked_blocks_agree, decode_request};
 pub use memory_sink::MemorySink;
 pub use memory_source::MemorySource;
 pub use reading::{InputError, read_up_to};
+pub use reports::report_text;
 pub use sinks::{Sink, WriteFailed};
 pub use sources::{ReadFailed, Source};
 pub use standard::{StdinSource, StdoutSink};
 pub use writing::write_whole;
 
+#[cfg(test)]
+mod report_tests;
+#[cfg(test)]
+mod request_tests;
 #[cfg(test)]
 mod tests;

@@ -87,5 +87,10 @@ fn ample(rt: HostRuntime) -> Result<(), Fail> {
         read_up_to(alloc, 2, &mut source)?.as_slice(),
         b"ab".as_slice()
     );
+    let text = b"{\"columns\":[],\"blocks\":[],\"stats\":[],\"filter\":\"\",\"projection\":\"0a\"}";
+    let found = decode_request(alloc, text.as_slice())?;
+    assert!(rt; found.is_some_and(|scan| scan.projection() == [10].as_slice()));
+    let report = report_text(alloc, &[], &[], &[], 0)?;
+    assert_eq!(rt; report.as_str(), "rows 0\nskipped -\ncolumns -\nreads 0\n");
     Ok(())
 }

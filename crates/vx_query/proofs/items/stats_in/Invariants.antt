@@ -1,0 +1,11 @@
+use Rattle.std.proofs.Common.{◌≡◌, map, drop}
+use Rattle.serde_json.specs.View.{view, items_view}
+use Rattle.vx_query.specs.Objects.{list_read, each_item}
+use Rattle.vx_query.specs.Requests.{stat_in}
+use Rattle.vx_prune.specs.ZoneViews.{stat_view}
+use Rattle.vx_query.proofs.ItemLemmas.{found_before}
+use Rattle.vx_query.proofs.items.stats_in.Given as goal
+
+-- what was read so far stands before what is left to read
+abbrev pub invariant-loop-item : goal.invariant-loop-item
+invariant-loop-item l = list_read stat_in (view l.fn.value) ≡ found_before (map stat_view l.stats.items) (each_item stat_in (items_view (drop l.item-index l.item-items)))

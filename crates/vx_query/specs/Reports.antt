@@ -1,0 +1,22 @@
+-- The text of a report.
+use Rattle.std.specs.Prelude.{ℕ, List, [], ◌∷◌, ◌++◌, length, map, codes, decimal}
+use Rattle.std.specs.List.{flat_map, join_by}
+use Rattle.vx_dtype.specs.Texts.{quoted_text}
+use Rattle.vx_dtype.specs.Types.{Bytes}
+
+-- a text as a line
+abbrev pub line : Bytes → Bytes
+line text = text ++ codes "\n"
+
+-- texts with a space between, or `-` where there are none
+abbrev pub spaced : List Bytes → Bytes
+spaced [] = codes "-"
+spaced (t ∷ ts) = join_by (λ u. u) (codes " ") (t ∷ ts)
+
+-- the report of the texts of rows, the numbers of the blocks that were skipped, the names of the columns that were read, and the number of reads
+abbrev pub report_text : List Bytes → List ℕ → List Bytes → ℕ → Bytes
+report_text rows skipped names reads =
+    codes "rows " ++ (decimal (length rows) ++ (codes "\n" ++ (flat_map line rows
+    ++ (codes "skipped " ++ (spaced (map decimal skipped) ++ (codes "\n"
+    ++ (codes "columns " ++ (spaced (map quoted_text names) ++ (codes "\n"
+    ++ (codes "reads " ++ (decimal reads ++ codes "\n")))))))))))
