@@ -4,3 +4,10 @@ pub mod Stores
 pub mod StoreViews
 pub mod StoreCodes
 pub mod StoreAnswers
+pub mod FirstForm
+pub mod Scanning
+pub mod Planning
+pub mod Bounds
+pub mod Progress
+pub mod RowCodes
+pub mod ReportViews

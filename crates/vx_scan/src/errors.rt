@@ -24,6 +24,18 @@ pub enum TableError {
     WrongType,
 }
 
+/// Why a scan gives no report.
+#[derive(PartialEq, Eq, Debug, Drop)]
+pub enum ScanError {
+    /// There was no memory.
+    NoMemory,
+    /// Exactly where the store's zones or the two byte texts aren't of the form that is answered, or one of the kinds isn't
+    /// registered.
+    NotBuilt,
+    /// A read failed: only where the store counted a fault in this call.
+    StoreFault,
+}
+
 impl From<AllocError> for StoreError {
     ghost use Rattle.vx_scan.specs.declared.errors.StoreError.TheVariants.{NoMemory as OutOfMemory};
 
@@ -51,5 +63,35 @@ impl From<NoMemory> for StoreError {
 
     fn from(_error: NoMemory) -> StoreError {
         StoreError::NoMemory
+    }
+}
+
+impl From<AllocError> for ScanError {
+    ghost use Rattle.vx_scan.specs.declared.errors.ScanError.TheVariants.{NoMemory as OutOfMemory};
+
+    ghost from_gives = { λ _ e. e ≡ OutOfMemory };
+
+    fn from(_error: AllocError) -> ScanError {
+        ScanError::NoMemory
+    }
+}
+
+impl<T: Drop> From<AllocFailed<T>> for ScanError {
+    ghost use Rattle.vx_scan.specs.declared.errors.ScanError.TheVariants.{NoMemory as OutOfMemory};
+
+    ghost from_gives = { λ _ e. e ≡ OutOfMemory };
+
+    fn from(_error: AllocFailed<T>) -> ScanError {
+        ScanError::NoMemory
+    }
+}
+
+impl From<NoMemory> for ScanError {
+    ghost use Rattle.vx_scan.specs.declared.errors.ScanError.TheVariants.{NoMemory as OutOfMemory};
+
+    ghost from_gives = { λ _ e. e ≡ OutOfMemory };
+
+    fn from(_error: NoMemory) -> ScanError {
+        ScanError::NoMemory
     }
 }

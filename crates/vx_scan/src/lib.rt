@@ -1,13 +1,23 @@
 //! Scans of a table, and the stores that hold its columns.
 #![tactic(auto)]
 
+mod block_scans;
+mod bounds;
 mod errors;
+mod matches;
 mod memory_store;
+mod plans;
+mod reports;
+#[cfg(test)]
+mod scan_tests;
+mod scans;
 mod stores;
 mod tables;
 #[cfg(test)]
 mod tests;
 
-pub use errors::{StoreError, TableError};
+pub use errors::{ScanError, StoreError, TableError};
 pub use memory_store::MemoryStore;
+pub use reports::{BlockNumbers, RowValues, ScanReport};
+pub use scans::scan;
 pub use stores::{ColumnStore, ReadEntry};

@@ -2,7 +2,7 @@
 ghost use Rattle.std.specs.Prelude.{◌≡◌, ◌-◌, ◌^◌, ◌<◌, ◌≤◌, true, false, cond, [], ◌∷◌, ◌++◌, length, map, Some, option_map, IfOk, IsErr, IsErrOf, All};
 ghost use Rattle.std.specs.List.{slice_get};
 ghost use Rattle.vx_dtype.specs.TypeRules.{has_name, field_names, field_type};
-ghost use Rattle.vx_scan.specs.Counts.{one_more, is_listed};
+ghost use Rattle.vx_scan.specs.Counts.{one_more, is_nothing, is_listed};
 ghost use Rattle.vx_scan.specs.Blocks.{table_of};
 ghost use Rattle.vx_scan.specs.Stores.{AgreesWith, AreHeld};
 ghost use Rattle.vx_scan.specs.StoreViews.{block_view, entry_view};
@@ -110,6 +110,8 @@ impl ColumnStore for MemoryStore {
 
     ghost failed = { λ s. s.failed };
 
+    ghost faultless = { λ s. is_nothing s.listed };
+
     fn zones(&self) -> &ZoneMap
         ensures zones { result.now ≡ self.now.zones }
         ensures agrees { AgreesWith self.now.zones (Some (table_of self.now.zones self.now.blocks)) }
@@ -122,7 +124,9 @@ impl ColumnStore for MemoryStore {
         requires column { has_name name.now (field_names self.old.zones.columns) ≡ true }
         ensures same_table { Some (table_of self.new.zones self.new.blocks) ≡ Some (table_of self.old.zones self.old.blocks) }
         ensures same_zones { self.new.zones ≡ self.old.zones }
+        ensures same_faultless { is_nothing self.new.listed ≡ is_nothing self.old.listed }
         ensures later { self.old.faults ≤ self.new.faults }
+        ensures quiet { is_nothing self.old.listed ≡ true → self.new.faults ≡ self.old.faults }
         ensures dtype { IfOk result (λ c. field_type name.now self.old.zones.columns ≡ Some c.ty) }
         ensures len { IfOk result (λ c. slice_get self.old.zones.lengths block ≡ Some (length c.rows)) }
         ensures rows { IfOk result (λ c. AreHeld (Some (table_of self.old.zones self.old.blocks)) block name.now c.rows) }

@@ -1,5 +1,5 @@
 // Where the columns of a scan come from.
-ghost use Rattle.std.specs.Prelude.{◌≡◌, ℕ, ◌<◌, ◌≤◌, true, List, [], ◌∷◌, ◌++◌, length, Option, Some, IfOk, IsErr, IsErrOf};
+ghost use Rattle.std.specs.Prelude.{◌≡◌, ℕ, ◌<◌, ◌≤◌, true, Bool, List, [], ◌∷◌, ◌++◌, length, Option, Some, IfOk, IsErr, IsErrOf};
 ghost use Rattle.std.specs.List.{slice_get};
 ghost use Rattle.vx_dtype.specs.TypeRules.{has_name, field_names, field_type};
 ghost use Rattle.vx_semantics.specs.Tables.{Table, Zones};
@@ -18,9 +18,9 @@ pub struct ReadEntry {
     pub name: FieldName,
 }
 
-/// A store of the columns of a table in blocks. It has five meanings: the table, where it tells it; the zones; the reads
-/// so far, in order; the number of its faults, which never falls; and the last read that failed. A count of faults of
-/// 2^64 - 1 counts as risen.
+/// A store of the columns of a table in blocks. It has six meanings: the table, where it tells it; the zones; the reads
+/// so far, in order; the number of its faults, which never falls; the last read that failed; and whether it is known to
+/// count no fault. A count of faults of 2^64 - 1 counts as risen.
 pub trait ColumnStore {
     ghost held: { Self → Option Table };
 
@@ -31,6 +31,8 @@ pub trait ColumnStore {
     ghost faults: { Self → ℕ };
 
     ghost failed: { Self → Option Read };
+
+    ghost faultless: { Self → Bool };
 
     /// The statistics of the table, with its columns and the number of rows of each block.
     fn zones(&self) -> &ZoneMap
@@ -44,7 +46,9 @@ pub trait ColumnStore {
         requires column { has_name name.now (field_names (zoned self.old).columns) ≡ true }
         ensures same_table { held self.new ≡ held self.old }
         ensures same_zones { zoned self.new ≡ zoned self.old }
+        ensures same_faultless { faultless self.new ≡ faultless self.old }
         ensures later { faults self.old ≤ faults self.new }
+        ensures quiet { faultless self.old ≡ true → faults self.new ≡ faults self.old }
         ensures dtype { IfOk result (λ c. field_type name.now (zoned self.old).columns ≡ Some c.ty) }
         ensures len { IfOk result (λ c. slice_get (zoned self.old).lengths block ≡ Some (length c.rows)) }
         ensures rows { IfOk result (λ c. AreHeld (held self.old) block name.now c.rows) }
