@@ -11,7 +11,8 @@ use Rattle.vx_dtype.specs.TypeRules.{field_names}
 use Rattle.vx_dtype.specs.Types.{Bytes}
 use Rattle.vx_query.specs.Objects.{◌>>=◌}
 use Rattle.vx_query.specs.Requests.{Asked, Request, Block, i64_ty, i64_columns, column_of, block_columns, is_rectangle, is_sound, bytes_in, most_bytes, request_in, asked_by, asked_in}
-use Rattle.vx_query.specs.Shapes.{block_long, blocks_long, block_typed, agree}
+use Rattle.vx_scan.specs.Blocks.{block_long, blocks_long, block_typed}
+use Rattle.vx_query.specs.Shapes.{agree}
 
 and_left : (a b : Bool) → a && b ≡ true → a ≡ true
 and_left true b h = refl
