@@ -5,3 +5,6 @@ mod ItemLemmas
 mod ColumnLemmas
 mod TextLemmas
 pub mod ShapeLemmas
+mod AnswerLemmas
+mod OutcomeLemmas
+mod CauseLemmas

@@ -14,11 +14,11 @@ use Rattle.vx_query.specs.Requests.{Asked, Request, Block, i64_ty, i64_columns, 
 use Rattle.vx_scan.specs.Blocks.{block_long, blocks_long, block_typed}
 use Rattle.vx_query.specs.Shapes.{agree}
 
-and_left : (a b : Bool) → a && b ≡ true → a ≡ true
+pub and_left : (a b : Bool) → a && b ≡ true → a ≡ true
 and_left true b h = refl
 and_left false b h = absurd (true≢false (sym h))
 
-and_right : (a b : Bool) → a && b ≡ true → b ≡ true
+pub and_right : (a b : Bool) → a && b ≡ true → b ≡ true
 and_right true b h = h
 and_right false b h = absurd (true≢false (sym h))
 

@@ -5,3 +5,7 @@ pub mod Reports
 pub mod RequestViews
 pub mod Requests
 pub mod Shapes
+pub mod Running
+pub mod RunViews
+pub mod RefusalViews
+pub mod Causes

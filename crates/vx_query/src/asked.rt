@@ -29,10 +29,10 @@ const MOST_ROWS: u64 = 1048576;
 /// projection.
 #[derive(Drop)]
 pub struct AskedScan {
-    zones: ZoneMap,
-    blocks: Vec<Vec<ColumnRef>>,
-    filter: Vec<u8>,
-    projection: Vec<u8>,
+    pub(crate) zones: ZoneMap,
+    pub(crate) blocks: Vec<Vec<ColumnRef>>,
+    pub(crate) filter: Vec<u8>,
+    pub(crate) projection: Vec<u8>,
 }
 
 impl AskedScan {

@@ -2,24 +2,31 @@
 //! report.
 #![tactic(auto)]
 
+mod answers;
 mod asked;
+mod causes;
+mod forms;
 mod items;
 mod memory_sink;
 mod memory_source;
 mod objects;
 mod parts;
 mod reading;
+mod refusals;
 mod reports;
+mod running;
 mod sinks;
 mod sources;
 mod standard;
 mod writing;
 
 pub use asked::{AskedScan, asked_blocks_agree, decode_request};
+pub use causes::statuses_have_their_causes;
 pub use memory_sink::MemorySink;
 pub use memory_source::MemorySource;
 pub use reading::{InputError, read_up_to};
 pub use reports::report_text;
+pub use running::run;
 pub use sinks::{Sink, WriteFailed};
 pub use sources::{ReadFailed, Source};
 pub use standard::{StdinSource, StdoutSink};
@@ -29,5 +36,7 @@ pub use writing::write_whole;
 mod report_tests;
 #[cfg(test)]
 mod request_tests;
+#[cfg(test)]
+mod run_tests;
 #[cfg(test)]
 mod tests;

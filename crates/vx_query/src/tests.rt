@@ -92,5 +92,11 @@ fn ample(rt: HostRuntime) -> Result<(), Fail> {
     assert!(rt; found.is_some_and(|scan| scan.projection() == [10].as_slice()));
     let report = report_text(alloc, &[], &[], &[], 0)?;
     assert_eq!(rt; report.as_str(), "rows 0\nskipped -\ncolumns -\nreads 0\n");
+    let mut asking = MemorySource::new(text.to_vec(alloc)?, 64, Vec::new(alloc));
+    let mut line = MemorySink::new(alloc, 100, 100, Vec::new(alloc))?;
+    let words = [String::from_str(alloc, "scan")?];
+    let status = run(alloc, &words, &mut asking, &mut line, &mut None);
+    assert_eq!(rt; status, 3);
+    assert_eq!(rt; line.written(), b"error: NotBuilt\n".as_slice());
     Ok(())
 }

@@ -1,0 +1,126 @@
+-- What the status of a run tells.
+use Rattle.std.proofs.Common.{◌≡◌, ◌∙◌, sym, ap, refl, subst, ℕ, ◌+◌, ◌≤◌, Bool, true, false, cond, nat_le, length, Option, Some, None, is_some, arith, true≢false}
+use Rattle.std.proofs.lemmas.Bool.{leb-true}
+use Rattle.std.proofs.lemmas.List.{take_all}
+use Rattle.std.specs.Str.{is_utf8}
+use Rattle.vx_dtype.specs.Types.{Bytes}
+use Rattle.vx_scan.specs.Scanning.{Seen}
+use Rattle.vx_query.specs.Ends.{TookUpTo}
+use Rattle.vx_query.specs.Requests.{Asked, asked_in, most_bytes}
+use Rattle.vx_query.specs.Running.{End, Form, scan_form, help_form, version_form, Outcome, misused, helped, versioned, out_of_memory, unread, unanswered, answered, Writing, whole, cut, IsOutcome, IsWriting, IsRun, status_of, text_of, used_by}
+use Rattle.vx_query.specs.Causes.{HasRisen, IsReported, IsUnasked, TellsScan}
+use Rattle.vx_query.proofs.ShapeLemmas.{and_left}
+
+not_none : {X : Type 0} {x : X} → Some x ≡ None → ⊥
+not_none e = true≢false (ap is_some e)
+
+-- whether a form is that of scans, where there is one
+abbrev is_scan : Option Form → Bool
+is_scan None = false
+is_scan (Some scan_form) = true
+is_scan (Some help_form) = false
+is_scan (Some version_form) = false
+
+-- the report that status 0 means
+pub reported : (i i' o o' : End) (used : Option Seen) → IsRun (Some scan_form) i i' o o' used 0 → IsReported i i' o o' used
+reported i i' o o' used run = by run.outcome run.writing run.comes run.written run.held
+  where
+    by : (outcome : Outcome) (writing : Writing) → IsOutcome (Some scan_form) i i' outcome → IsWriting o o' (text_of outcome) (status_of outcome) 0 writing
+        → used ≡ used_by outcome → IsReported i i' o o' used
+    by outcome cut comes written held = absurd (omega (arith, written.0))
+    by misused whole comes written held = absurd (not_none comes.0)
+    by helped whole comes written held = absurd (true≢false (ap is_scan comes.0))
+    by versioned whole comes written held = absurd (true≢false (ap is_scan comes.0))
+    by out_of_memory whole comes written held = absurd (omega (arith, written.0))
+    by unread whole comes written held = absurd (omega (arith, written.0))
+    by (unanswered input) whole comes written held = absurd (omega (arith, written.0))
+    by (answered input a f p) whole comes written held =
+        record { input = input; asked = a; filter = f; projection = p; taken = comes.1.0; asks = comes.1.1; written = written.1.0; held = held }
+
+-- words of no form
+pub unformed : (form : Option Form) (i i' o o' : End) (used : Option Seen) → IsRun form i i' o o' used 2 → form ≡ None
+unformed form i i' o o' used run = by run.outcome run.writing run.comes run.written
+  where
+    by : (outcome : Outcome) (writing : Writing) → IsOutcome form i i' outcome → IsWriting o o' (text_of outcome) (status_of outcome) 2 writing → form ≡ None
+    by outcome cut comes written = absurd (omega (arith, written.0))
+    by misused whole comes written = comes.0
+    by helped whole comes written = absurd (omega (arith, written.0))
+    by versioned whole comes written = absurd (omega (arith, written.0))
+    by out_of_memory whole comes written = absurd (omega (arith, written.0))
+    by unread whole comes written = absurd (omega (arith, written.0))
+    by (unanswered input) whole comes written = absurd (omega (arith, written.0))
+    by (answered input a f p) whole comes written = absurd (omega (arith, written.0))
+
+-- an input that asks nothing
+pub unasked : (form : Option Form) (i i' o o' : End) (used : Option Seen) → IsRun form i i' o o' used 3 → IsUnasked i i'
+unasked form i i' o o' used run = by run.outcome run.writing run.comes run.written
+  where
+    by : (outcome : Outcome) (writing : Writing) → IsOutcome form i i' outcome → IsWriting o o' (text_of outcome) (status_of outcome) 3 writing → IsUnasked i i'
+    by outcome cut comes written = absurd (omega (arith, written.0))
+    by misused whole comes written = absurd (omega (arith, written.0))
+    by helped whole comes written = absurd (omega (arith, written.0))
+    by versioned whole comes written = absurd (omega (arith, written.0))
+    by out_of_memory whole comes written = absurd (omega (arith, written.0))
+    by unread whole comes written = absurd (omega (arith, written.0))
+    by (unanswered input) whole comes written = record { input = input; taken = comes.1.0; nothing = comes.1.1 }
+    by (answered input a f p) whole comes written = absurd (omega (arith, written.0))
+
+-- a source that failed
+pub source_risen : (form : Option Form) (i i' o o' : End) (used : Option Seen) → IsRun form i i' o o' used 6 → HasRisen i i'
+source_risen form i i' o o' used run = by run.outcome run.writing run.comes run.written
+  where
+    by : (outcome : Outcome) (writing : Writing) → IsOutcome form i i' outcome → IsWriting o o' (text_of outcome) (status_of outcome) 6 writing → HasRisen i i'
+    by outcome cut comes written = absurd (omega (arith, written.0))
+    by misused whole comes written = absurd (omega (arith, written.0))
+    by helped whole comes written = absurd (omega (arith, written.0))
+    by versioned whole comes written = absurd (omega (arith, written.0))
+    by out_of_memory whole comes written = absurd (omega (arith, written.0))
+    by unread whole comes written = comes.1
+    by (unanswered input) whole comes written = absurd (omega (arith, written.0))
+    by (answered input a f p) whole comes written = absurd (omega (arith, written.0))
+
+-- a sink that failed
+pub sink_risen : (form : Option Form) (i i' o o' : End) (used : Option Seen) → IsRun form i i' o o' used 7 → HasRisen o o'
+sink_risen form i i' o o' used run = by run.outcome run.writing run.written
+  where
+    by : (outcome : Outcome) (writing : Writing) → IsWriting o o' (text_of outcome) (status_of outcome) 7 writing → HasRisen o o'
+    by outcome cut written = written.1.1
+    by misused whole written = absurd (omega (arith, written.0))
+    by helped whole written = absurd (omega (arith, written.0))
+    by versioned whole written = absurd (omega (arith, written.0))
+    by out_of_memory whole written = absurd (omega (arith, written.0))
+    by unread whole written = absurd (omega (arith, written.0))
+    by (unanswered input) whole written = absurd (omega (arith, written.0))
+    by (answered input a f p) whole written = absurd (omega (arith, written.0))
+
+-- what is answered under a condition shows it
+asks_where : (b : Bool) (o : Option Asked) (a : Asked) → cond b o None ≡ Some a → b ≡ true
+asks_where true o a e = refl
+asks_where false o a e = absurd (not_none (sym e))
+
+-- an input that asks a scan is no longer than the most
+asks_within : (input : Bytes) (a : Asked) → asked_in input ≡ Some a → length input ≤ most_bytes
+unfolding asked_in
+asks_within input a e = leb-true (length input) most_bytes (and_left (nat_le (length input) most_bytes) (is_utf8 input) (asks_where _ _ a e))
+
+-- such an input is taken whole
+taken_whole : (before after : End) (all input : Bytes) → before.bytes ≡ Some all → length all ≤ most_bytes → TookUpTo (most_bytes + 1) before.bytes after.bytes input → input ≡ all
+taken_whole before after all input told within took =
+    let own = subst (λ b. TookUpTo (most_bytes + 1) b after.bytes input) told took in
+    own.0 ∙ take_all (most_bytes + 1) all (omega (arith, within))
+
+-- a run over a source whose bytes ask a scan, where no fault is counted
+pub completed : (i i' o o' : End) (used : Option Seen) (status : ℕ) → TellsScan i → IsRun (Some scan_form) i i' o o' used status → ¬ (HasRisen i i') → ¬ (HasRisen o o') → ¬ (status ≡ 8) → status ≡ 0
+completed i i' o o' used status tells run still quiet memory = by run.outcome run.writing run.comes run.written
+  where
+    by : (outcome : Outcome) (writing : Writing) → IsOutcome (Some scan_form) i i' outcome → IsWriting o o' (text_of outcome) (status_of outcome) status writing → status ≡ 0
+    by outcome cut comes written = absurd (quiet written.1.1)
+    by misused whole comes written = absurd (not_none comes.0)
+    by helped whole comes written = absurd (true≢false (ap is_scan comes.0))
+    by versioned whole comes written = absurd (true≢false (ap is_scan comes.0))
+    by out_of_memory whole comes written = absurd (memory written.0)
+    by unread whole comes written = absurd (still comes.1)
+    by (unanswered input) whole comes written =
+        let same : input ≡ tells.input = taken_whole i i' tells.input input tells.told (asks_within tells.input tells.asked tells.asks.asked) comes.1.0.bytes in
+        absurd (comes.1.1 tells.asked (ap asked_in same ∙ tells.asks.asked) tells.filter tells.projection tells.asks.spelled)
+    by (answered input a f p) whole comes written = written.0

@@ -1,0 +1,52 @@
+-- How the program comes to an end.
+use Rattle.std.proofs.Common.{◌≡◌, sym, ap, refl, ℕ, ◌+◌, ◌≤◌, Option, Some, None, Result, Ok, Err, subst}
+use Rattle.std.specs.Prelude.{IfErr}
+use Rattle.std.specs.Result.{IsErrAnd}
+use Rattle.vx_dtype.specs.Types.{Bytes}
+use Rattle.vx_expr.specs.Trees.{Tree}
+use Rattle.vx_scan.specs.Scanning.{Seen}
+use Rattle.vx_query.specs.Ends.{TookUpTo, one_more}
+use Rattle.vx_query.specs.Requests.{Asked, most_bytes}
+use Rattle.vx_query.specs.Running.{End, Form, scan_form, Outcome, out_of_memory, unread, unanswered, answered, Writing, IsOutcome, IsTaken, IsWriting, IsRun, AsksScan, AsksNothing, asked_report, scanned_store, status_of, text_of, used_by}
+use Rattle.vx_query.specs.RefusalViews.{refusal_status, refusal_text, input_refusal}
+use Rattle.vx_query.specs.declared.reading.InputError.{InputError}
+use Rattle.vx_query.specs.declared.reading.InputError.TheVariants as inputs
+use Rattle.vx_query.specs.declared.refusals.Refusal.{Refusal}
+use Rattle.vx_query.specs.declared.refusals.Refusal.TheVariants.{NoMemory, ReadFault, NotBuilt}
+
+-- an outcome that a refusal stands for
+abbrev pub IsRefused : End → End → Refusal → Type 0
+IsRefused before after r =
+    (o : Outcome) × IsOutcome (Some scan_form) before after o × (status_of o ≡ refusal_status r) × (text_of o ≡ refusal_text r) × (used_by o ≡ None)
+
+-- an input that isn't read
+pub refused_unread : (before after : End) (e : InputError) → before.faults ≤ after.faults → (e ≡ inputs.ReadFault → one_more before.faults ≤ after.faults) → IsRefused before after (input_refusal e)
+refused_unread before after inputs.NoMemory later cause = (out_of_memory, (refl, later), refl, refl, refl)
+refused_unread before after inputs.ReadFault later cause = (unread, (refl, cause refl), refl, refl, refl)
+
+-- an input that is taken and has no report
+pub refused_taken : (before after : End) (input : Bytes) (r : Refusal) → IsTaken before after input → (r ≡ NotBuilt → AsksNothing input) → ¬ (r ≡ ReadFault) → IsRefused before after r
+refused_taken before after input NoMemory taken nothing read = (out_of_memory, (refl, taken.later), refl, refl, refl)
+refused_taken before after input ReadFault taken nothing read = absurd (read refl)
+refused_taken before after input NotBuilt taken nothing read = (unanswered input, (refl, (taken, nothing refl)), refl, refl, refl)
+
+-- what is answered where an input is refused
+pub refused_by : {T : Type 0} (before after : End) (r : Refusal) (result : Result T Refusal) → IsErrAnd result (λ x. x ≡ r) → IsRefused before after r
+    → IfErr result (IsRefused before after)
+refused_by before after r (Ok x) h k = absurd h
+refused_by before after r (Err x) h k = subst (IsRefused before after) (sym h) k
+
+-- what is taken is the input
+pub taken_as : (before after : End) (bytes input : Bytes) → input ≡ bytes → TookUpTo (most_bytes + 1) before.bytes after.bytes bytes → before.faults ≤ after.faults → IsTaken before after input
+taken_as before after bytes input e took later = record { bytes = subst (TookUpTo (most_bytes + 1) before.bytes after.bytes) (sym e) took; later = later }
+
+-- an input that is answered by a report
+pub told_taken : (before after : End) (input text : Bytes) (seen : Seen) → IsTaken before after input
+    → (a : Asked) × (f : Tree) × (p : Tree) × AsksScan input a f p × (text ≡ asked_report a f p) × (seen ≡ scanned_store a f p)
+    → (o : Outcome) × IsOutcome (Some scan_form) before after o × (status_of o ≡ 0) × (text_of o ≡ text) × (Some seen ≡ used_by o)
+told_taken before after input text seen taken (a, f, p, asks, told, held) = (answered input a f p, (refl, (taken, asks)), refl, sym told, ap Some held)
+
+-- a run of an outcome
+pub run_of : (form : Option Form) (i i' o o' : End) (used : Option Seen) (status : ℕ) (outcome : Outcome) → IsOutcome form i i' outcome → used ≡ used_by outcome
+    → (writing : Writing) × IsWriting o o' (text_of outcome) (status_of outcome) status writing → IsRun form i i' o o' used status
+run_of form i i' o o' used status outcome comes held (writing, written) = record { outcome = outcome; comes = comes; writing = writing; written = written; held = held }

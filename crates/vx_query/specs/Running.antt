@@ -1,0 +1,156 @@
+-- What the program does: the forms of its words, how it comes to an end, and what it writes then.
+use Rattle.std.specs.Prelude.{◌≡◌, ℕ, ◌+◌, ◌≤◌, true, cond, List, [], ◌∷◌, ◌++◌, length, map, codes, Option, Some, None}
+use Rattle.std.specs.Str.{bytes_eq}
+use Rattle.vx_dtype.specs.Types.{Bytes}
+use Rattle.vx_expr.specs.Trees.{Tree}
+use Rattle.vx_semantics.specs.Tables.{Table}
+use Rattle.vx_semantics.specs.Scans.{kept_rows_of, skipped_blocks, reads_of, read_columns}
+use Rattle.vx_wire.specs.Encodings.{is_default_kind}
+use Rattle.vx_display.specs.ValueTexts.{value_text}
+use Rattle.vx_scan.specs.Blocks.{table_of}
+use Rattle.vx_scan.specs.FirstForm.{IsAsked}
+use Rattle.vx_scan.specs.Scanning.{Seen}
+use Rattle.vx_scan.specs.Stores.{Read}
+use Rattle.vx_query.specs.Ends.{TookUpTo, Added, AddedPrefix, one_more}
+use Rattle.vx_query.specs.Reports.{report_text}
+use Rattle.vx_query.specs.Requests.{Asked, asked_in, most_bytes}
+
+-- the forms of words
+pub data Form : Type 0 where
+  scan_form : Form
+  help_form : Form
+  version_form : Form
+
+-- the form of one word
+abbrev pub form_named : Bytes → Option Form
+form_named word =
+    cond (bytes_eq word (codes "scan")) (Some scan_form)
+    (cond (bytes_eq word (codes "--help")) (Some help_form)
+    (cond (bytes_eq word (codes "--version")) (Some version_form) None))
+
+-- the form that words have
+abbrev pub form_of : List Bytes → Option Form
+form_of (word ∷ []) = form_named word
+form_of _ = None
+
+-- an end of the program: its bytes, to come or written, where they are told, and how many of its faults were counted
+pub record End : Type 0 where
+  pub bytes : Option Bytes
+  pub faults : ℕ
+
+-- the end of these meanings
+abbrev pub end_by : {E : Type 0} → (E → Option Bytes) → (E → ℕ) → E → End
+end_by bytes faults end = record { bytes = bytes end; faults = faults end }
+
+-- the table of a scan that is asked
+abbrev pub asked_table : Asked → Table
+asked_table a = table_of a.zones a.blocks
+
+-- the reads of the scan of a filter and a projection
+abbrev pub asked_reads : Asked → Tree → Tree → List Read
+asked_reads a f p = reads_of (asked_table a) a.zones [] f p
+
+-- the report of this scan: what the projection means at the rows of the kept blocks at which the filter means true, the blocks that the statistics rule out, and the reads
+abbrev pub asked_report : Asked → Tree → Tree → Bytes
+asked_report a f p =
+    report_text (map value_text (kept_rows_of (asked_table a) a.zones [] f p)) (skipped_blocks a.zones [] f)
+    (read_columns (asked_table a) (asked_reads a f p)) (length (asked_reads a f p))
+
+-- the store that was scanned: it holds the table, and its reads are those of the scan; no read failed, and none can
+abbrev pub scanned_store : Asked → Tree → Tree → Seen
+scanned_store a f p =
+    record { zones = a.zones; held = Some (asked_table a); log = asked_reads a f p; faults = 0; failed = None; faultless = true }
+
+-- the two byte texts of a scan spell this filter and this projection, of the form that is answered
+abbrev pub Spells : Asked → Tree → Tree → Type 0
+Spells a f p = IsAsked is_default_kind a.zones a.filter a.projection f p
+
+-- an input that asks no scan whose byte texts spell such a filter and projection
+abbrev pub AsksNothing : Bytes → Type 0
+AsksNothing input = (a : Asked) → asked_in input ≡ Some a → (f p : Tree) → ¬ (Spells a f p)
+
+-- an input that asks this scan, of this filter and this projection
+pub record AsksScan (input : Bytes) (a : Asked) (f p : Tree) : Type 0 where
+  pub asked : asked_in input ≡ Some a
+  pub spelled : Spells a f p
+
+-- how the program comes to an end: words of no form, help, the version, no memory, an input that can't be read, one that is answered by no report, and one that is
+pub data Outcome : Type 0 where
+  misused : Outcome
+  helped : Outcome
+  versioned : Outcome
+  out_of_memory : Outcome
+  unread : Outcome
+  unanswered : Bytes → Outcome
+  answered : Bytes → Asked → Tree → Tree → Outcome
+
+-- the input was taken to its end, or to one byte more than the most; that many bytes ask nothing
+pub record IsTaken (before after : End) (input : Bytes) : Type 0 where
+  pub bytes : TookUpTo (most_bytes + 1) before.bytes after.bytes input
+  pub later : before.faults ≤ after.faults
+
+-- what an outcome says of words and of the source: words of another form than `scan` take nothing
+abbrev pub IsOutcome : Option Form → End → End → Outcome → Type 0
+IsOutcome form before after misused = (form ≡ None) × (after ≡ before)
+IsOutcome form before after helped = (form ≡ Some help_form) × (after ≡ before)
+IsOutcome form before after versioned = (form ≡ Some version_form) × (after ≡ before)
+IsOutcome form before after out_of_memory = (form ≡ Some scan_form) × (before.faults ≤ after.faults)
+IsOutcome form before after unread = (form ≡ Some scan_form) × (one_more before.faults ≤ after.faults)
+IsOutcome form before after (unanswered input) = (form ≡ Some scan_form) × (IsTaken before after input × AsksNothing input)
+IsOutcome form before after (answered input a f p) = (form ≡ Some scan_form) × (IsTaken before after input × AsksScan input a f p)
+
+-- the line of a refusal
+abbrev pub refusal_line : Bytes → Bytes
+refusal_line name = codes "error: " ++ (name ++ codes "\n")
+
+-- the text of `--version`
+abbrev pub version_text : Bytes
+version_text = codes "vx 0.1.0\n"
+
+-- the text of `--help`
+abbrev pub help_text : Bytes
+help_text =
+    codes "vx scan < REQUEST   prints the selected rows, the skipped blocks and the columns read, as in: vx scan < examples/first.json\nvx --help           prints this text\nvx --version        prints the version\n"
+
+-- the status of an outcome
+abbrev pub status_of : Outcome → ℕ
+status_of misused = 2
+status_of helped = 0
+status_of versioned = 0
+status_of out_of_memory = 8
+status_of unread = 6
+status_of (unanswered input) = 3
+status_of (answered input a f p) = 0
+
+-- the text that an outcome writes
+abbrev pub text_of : Outcome → Bytes
+text_of misused = refusal_line (codes "Usage")
+text_of helped = help_text
+text_of versioned = version_text
+text_of out_of_memory = refusal_line (codes "NoMemory")
+text_of unread = refusal_line (codes "ReadFault")
+text_of (unanswered input) = refusal_line (codes "NotBuilt")
+text_of (answered input a f p) = asked_report a f p
+
+-- the store that is held after an outcome: the one that was scanned, where a report was made
+abbrev pub used_by : Outcome → Option Seen
+used_by (answered input a f p) = Some (scanned_store a f p)
+used_by _ = None
+
+-- how a text is written: whole, or only a first part of it
+pub data Writing : Type 0 where
+  whole : Writing
+  cut : Writing
+
+-- a whole text leaves the status that it tells; one that is cut leaves 7, and the sink counted a fault
+abbrev pub IsWriting : End → End → Bytes → ℕ → ℕ → Writing → Type 0
+IsWriting before after text told status whole = (status ≡ told) × (Added before.bytes after.bytes text × (before.faults ≤ after.faults))
+IsWriting before after text told status cut = (status ≡ 7) × (AddedPrefix before.bytes after.bytes text × (one_more before.faults ≤ after.faults))
+
+-- a run of the program: an outcome, its text as it was written, and the store that is held
+pub record IsRun (form : Option Form) (in_before in_after out_before out_after : End) (used : Option Seen) (status : ℕ) : Type 0 where
+  pub outcome : Outcome
+  pub comes : IsOutcome form in_before in_after outcome
+  pub writing : Writing
+  pub written : IsWriting out_before out_after (text_of outcome) (status_of outcome) status writing
+  pub held : used ≡ used_by outcome

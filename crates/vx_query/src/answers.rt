@@ -1,0 +1,157 @@
+// The answer to an input: the report of the scan that it asks.
+ghost use Rattle.std.specs.Prelude.{◌≡◌, true, [], ◌∷◌, length, map, None, IfOk, IsErrOf};
+ghost use Rattle.std.specs.List.{filter, list_any};
+ghost use Rattle.std.specs.Str.{bytes_eq};
+ghost use Rattle.std.specs.String.{string_bytes};
+ghost use Rattle.vx_dtype.specs.RawViews.{raw_view};
+ghost use Rattle.vx_dtype.specs.TypeViews.{type_view};
+ghost use Rattle.vx_dtype.specs.TypeRules.{field_names};
+ghost use Rattle.vx_column.specs.Columns.{values_fit, seen_rows, raws_fit};
+ghost use Rattle.vx_display.specs.ValueTexts.{value_text};
+ghost use Rattle.vx_expr.specs.Trees.{Tree};
+ghost use Rattle.vx_scan.specs.ReportViews.{report_view};
+ghost use Rattle.vx_scan.specs.StoreAnswers.{new_store};
+ghost use Rattle.vx_scan.specs.StoreViews.{block_view, entry_view};
+ghost use Rattle.vx_semantics.specs.Scans.{read_columns};
+ghost use Rattle.vx_scan.specs.Blocks.{table_of, table_refusal};
+ghost use Rattle.vx_query.specs.Reports.{report_text};
+ghost use Rattle.vx_query.specs.Requests.{Asked, asked_in};
+ghost use Rattle.vx_query.specs.Running.{AsksNothing, AsksScan, Spells, asked_report, scanned_store};
+ghost use Rattle.vx_query.specs.RunViews.{scan_of, store_view};
+
+use crate::asked::{AskedScan, decode_request};
+use crate::refusals::Refusal;
+use crate::reports::report_text;
+use std::alloc::Global;
+use vx_column::ColumnRef;
+use vx_display::row_text;
+use vx_dtype::{DType, FieldName, Mem, NoMemory, ScalarValue};
+use vx_prune::ZoneMap;
+use vx_scan::{ColumnStore, MemoryStore, ReadEntry, ScanError, ScanReport, TableError, scan};
+use vx_wire::{ExprRegistry, ExprRegistryExt};
+
+/// The text of a report, and the store that was scanned.
+#[derive(Drop)]
+pub(crate) struct Scanned {
+    pub(crate) text: String,
+    pub(crate) store: MemoryStore,
+}
+
+/// The report of the scan that an input asks. NotBuilt exactly where it asks none of the form that is answered.
+pub(crate) fn answer(alloc: Global, input: &[u8]) -> Result<Scanned, Refusal>
+    ensures answered { IfOk result (λ scanned. (a : Asked) × (f : Tree) × (p : Tree) × AsksScan input.now a f p × (string_bytes scanned.text ≡ asked_report a f p) × (store_view scanned.store ≡ scanned_store a f p)) }
+    ensures not_built { IsErrOf result Refusal.NotBuilt → AsksNothing input.now }
+    ensures read { ¬ (IsErrOf result Refusal.ReadFault) }
+{
+    let Some(asked) = decode_request(alloc, input)? else {
+        return Err(Refusal::NotBuilt);
+    };
+    let AskedScan {
+        zones,
+        blocks,
+        filter,
+        projection,
+    } = asked;
+    let store = store_of(alloc, zones, blocks)?;
+    scan_store(alloc, filter.as_slice(), projection.as_slice(), store)
+}
+
+/// The store of blocks of columns that are a table with these zones. No read of it fails.
+fn store_of(alloc: Global, zones: ZoneMap, blocks: Vec<Vec<ColumnRef>>) -> Mem<MemoryStore>
+    requires { table_refusal zones (map block_view blocks.items) ≡ None }
+    ensures { IfOk result (λ store. store ≡ new_store zones (map block_view blocks.items) []) }
+{
+    match MemoryStore::try_new(alloc, zones, blocks, Vec::new(alloc)) {
+        Ok(store) => Ok(store),
+        Err(TableError::NoMemory) => Err(NoMemory),
+        Err(TableError::WrongLength) => unreachable!(),
+        Err(TableError::WrongType) => unreachable!(),
+    }
+}
+
+/// The report of the scan of a store that wasn't read yet.
+fn scan_store(
+    alloc: Global,
+    filter: &[u8],
+    projection: &[u8],
+    store: MemoryStore,
+) -> Result<Scanned, Refusal>
+    requires { store ≡ new_store store.zones store.blocks [] }
+    ensures scanned { IfOk result (λ scanned. (f : Tree) × (p : Tree) × Spells (scan_of store filter.now projection.now) f p × (string_bytes scanned.text ≡ asked_report (scan_of store filter.now projection.now) f p) × (store_view scanned.store ≡ scanned_store (scan_of store filter.now projection.now) f p)) }
+    ensures not_built { IsErrOf result Refusal.NotBuilt → (f p : Tree) → ¬ (Spells (scan_of store filter.now projection.now) f p) }
+    ensures read { ¬ (IsErrOf result Refusal.ReadFault) }
+{
+    let mut store = store;
+    let registry = ExprRegistry::default();
+    match scan(alloc, &registry, filter, projection, &mut store) {
+        Ok(report) => Ok(Scanned {
+            text: text_of(alloc, &report, &store)?,
+            store,
+        }),
+        Err(ScanError::NoMemory) => Err(Refusal::NoMemory),
+        Err(ScanError::NotBuilt) => Err(Refusal::NotBuilt),
+        Err(ScanError::StoreFault) => unreachable!(),
+    }
+}
+
+/// The text of the report of a scan of a store.
+fn text_of(alloc: Global, report: &ScanReport, store: &MemoryStore) -> Mem<String>
+    requires { raws_fit (type_view report.now.dtype) report.now.rows ≡ true }
+    ensures { IfOk result (λ text. string_bytes text ≡ report_text (map value_text (report_view report.now).rows) report.now.skipped (read_columns (table_of store.now.zones store.now.blocks) store.now.reads) (length store.now.reads)) }
+{
+    let rows = row_texts(alloc, &report.dtype, report.rows.as_slice())?;
+    let names = columns_read(alloc, store)?;
+    report_text(
+        alloc,
+        rows.as_slice(),
+        report.skipped.as_slice(),
+        names.as_slice(),
+        store.log().len(),
+    )
+}
+
+/// The names of the columns that were read at least once, in the table's order.
+fn columns_read(alloc: Global, store: &MemoryStore) -> Mem<Vec<FieldName>>
+    ensures { IfOk result (λ names. names.items ≡ read_columns (table_of store.now.zones store.now.blocks) store.now.reads) }
+{
+    let columns = store.zones().dtype().as_struct_fields_opt().unwrap();
+    read_names(alloc, columns.names().as_slice(), store.log())
+}
+
+/// The texts of rows of a type.
+fn row_texts(alloc: Global, dtype: &DType, rows: &[ScalarValue]) -> Mem<Vec<String>>
+    requires { values_fit (type_view dtype.now) rows.now ≡ true }
+    ensures { IfOk result (λ texts. map string_bytes texts.items ≡ map value_text (seen_rows (type_view dtype.now) rows.now)) }
+{
+    let mut texts = Vec::with_capacity(alloc, rows.len())?;
+    for row in rows {
+        texts.push(row_text(alloc, dtype, row)?)?;
+    }
+    Ok(texts)
+}
+
+/// Whether a column was read.
+fn was_read(name: &FieldName, reads: &[ReadEntry]) -> bool
+    ensures { result ≡ list_any (λ r. bytes_eq name.now r.1) (map entry_view reads.now) }
+{
+    for read in reads {
+        if name == &read.name {
+            return true;
+        }
+    }
+    false
+}
+
+/// The names of the columns that were read at least once, in their order.
+fn read_names(alloc: Global, names: &[FieldName], reads: &[ReadEntry]) -> Mem<Vec<FieldName>>
+    ensures { IfOk result (λ found. found.items ≡ filter (λ c. list_any (λ r. bytes_eq c r.1) (map entry_view reads.now)) names.now) }
+{
+    let mut found = Vec::new(alloc);
+    for name in names {
+        if !was_read(name, reads) {
+            continue;
+        }
+        found.push(name.clone()?)?;
+    }
+    Ok(found)
+}

@@ -1,0 +1,82 @@
+// The program as a call.
+ghost use Rattle.std.specs.Prelude.{◌≡◌, ◌≤◌, map, option_map, Some, None, IfOk, IfErr, IsErr};
+ghost use Rattle.std.specs.String.{string_bytes};
+ghost use Rattle.vx_query.specs.Running.{Outcome, Writing, IsOutcome, IsRun, IsWriting, end_by, form_of, scan_form, status_of, text_of, used_by};
+ghost use Rattle.vx_query.specs.RunViews.{store_view};
+ghost use Rattle.vx_query.specs.RefusalViews.{refusal_status, refusal_text};
+
+use crate::answers::answer;
+use crate::forms::{Form, form_of};
+use crate::reading::read_up_to;
+use crate::refusals::Refusal;
+use crate::sinks::Sink;
+use crate::sources::Source;
+use crate::writing::write_whole;
+use std::alloc::Global;
+use vx_scan::MemoryStore;
+
+const MOST_BYTES: usize = 16777216;
+
+const USAGE: &str = "error: Usage\n";
+
+const HELP: &str =
+    "vx scan < REQUEST   prints the selected rows, the skipped blocks and the columns read, as in: vx scan < examples/first.json\nvx --help           prints this text\nvx --version        prints the version\n";
+
+const VERSION: &str = "vx 0.1.0\n";
+
+/// Does all that the program does, and answers its status.
+///
+/// The words `scan` take the input, at most 16,777,217 bytes of it, and write the report of the scan that it asks;
+/// `--help` and `--version` write their texts and take nothing. The status is 0 where the text was written whole; 2 where
+/// the words have none of these forms; 3 exactly where the input asks no scan of the form that is answered; 6 only where
+/// the source counted a fault; 7 only where the sink did, and then the first bytes of the text or line were written; 8
+/// where there was no memory. A refusal writes a line `error: ` and its name: Usage, NotBuilt, ReadFault or NoMemory.
+///
+/// Afterwards `used` holds the store that was scanned where a report was made, also where its writing failed; its reads
+/// are those of the scan. Else it is none.
+pub fn run<I: Source, O: Sink>(
+    alloc: Global,
+    words: &[String],
+    input: &mut I,
+    output: &mut O,
+    used: &mut Option<MemoryStore>,
+) -> u8
+    ensures { let source = end_by I.left I.faults in let sink = end_by O.written O.faults in IsRun (form_of (map string_bytes words.now)) (source input.old) (source input.new) (sink output.old) (sink output.new) (option_map store_view used.new) result }
+{
+    *used = None;
+    match form_of(words) {
+        None => write(output, USAGE, 2),
+        Some(Form::Help) => write(output, HELP, 0),
+        Some(Form::Version) => write(output, VERSION, 0),
+        Some(Form::Scan) => match scan_input(alloc, input, used) {
+            Ok(text) => write(output, text.as_str(), 0),
+            Err(refusal) => write(output, refusal.line(), refusal.status()),
+        },
+    }
+}
+
+/// Takes the input and makes the report of the scan that it asks.
+fn scan_input<I: Source>(
+    alloc: Global,
+    input: &mut I,
+    used: &mut Option<MemoryStore>,
+) -> Result<String, Refusal>
+    ensures told { let source = end_by I.left I.faults in IfOk result (λ text. (outcome : Outcome) × IsOutcome (Some scan_form) (source input.old) (source input.new) outcome × (status_of outcome ≡ 0) × (text_of outcome ≡ string_bytes text) × (option_map store_view used.new ≡ used_by outcome)) }
+    ensures refused { let source = end_by I.left I.faults in IfErr result (λ refusal. (outcome : Outcome) × IsOutcome (Some scan_form) (source input.old) (source input.new) outcome × (status_of outcome ≡ refusal_status refusal) × (text_of outcome ≡ refusal_text refusal) × (used_by outcome ≡ None)) }
+    ensures unused { IsErr result → used.new ≡ used.old }
+{
+    let bytes = read_up_to(alloc, MOST_BYTES + 1, input)?;
+    let scanned = answer(alloc, bytes.as_slice())?;
+    *used = Some(scanned.store);
+    Ok(scanned.text)
+}
+
+/// Writes a text, and answers the status that it tells, or 7 where it isn't written whole.
+fn write<O: Sink>(output: &mut O, text: &str, told: u8) -> u8
+    ensures { let sink = end_by O.written O.faults in (writing : Writing) × IsWriting (sink output.old) (sink output.new) text.now told result writing }
+{
+    match write_whole(output, text.as_bytes()) {
+        Ok(()) => told,
+        Err(_) => 7,
+    }
+}
