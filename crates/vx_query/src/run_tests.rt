@@ -157,7 +157,8 @@ fn faults_end_a_run(rt: HostRuntime) -> Result<(), Fail> {
 fn store_of_a_report_holds_its_reads(rt: HostRuntime) -> Result<(), Fail> {
     let alloc = rt.alloc();
     let end = run_over(alloc, &["scan"], request(alloc, SKIPPED)?, &[], 1000, &[])?;
-    let Some(store) = end.used else {
+    let Ended { used, .. } = end;
+    let Some(store) = used else {
         assert!(rt; false);
         return Ok(());
     };
