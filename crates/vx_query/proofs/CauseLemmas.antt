@@ -1,18 +1,28 @@
 -- What the status of a run tells.
 use Rattle.std.proofs.Common.{◌≡◌, ◌∙◌, sym, ap, refl, subst, ℕ, ◌+◌, ◌≤◌, Bool, true, false, cond, nat_le, length, Option, Some, None, is_some, arith, true≢false}
+use Rattle.vx_expr.specs.Trees.{Tree}
+use Rattle.vx_wire_text.specs.Nodes.{Node}
+use Rattle.vx_wire_text.specs.Nodes as nodes
+use Rattle.vx_wire.specs.Building.{IsBuilt}
+use Rattle.vx_wire.specs.Encodings.{is_default_kind}
+use Rattle.vx_wire.specs.declared.ExprEncoding.{ExprEncoding}
+use Rattle.vx_scan.specs.FirstForm.{SpellsTree}
 use Rattle.std.proofs.lemmas.Bool.{leb-true}
 use Rattle.std.proofs.lemmas.List.{take_all}
 use Rattle.std.specs.Str.{is_utf8}
 use Rattle.vx_dtype.specs.Types.{Bytes}
 use Rattle.vx_scan.specs.Scanning.{Seen}
-use Rattle.vx_query.specs.Ends.{TookUpTo}
+use Rattle.vx_query.specs.Ends.{TookUpTo, Added}
 use Rattle.vx_query.specs.Requests.{Asked, asked_in, most_bytes}
-use Rattle.vx_query.specs.Running.{End, Form, scan_form, help_form, version_form, Outcome, misused, helped, versioned, out_of_memory, unread, unanswered, answered, Writing, whole, cut, IsOutcome, IsWriting, IsRun, status_of, text_of, used_by}
+use Rattle.vx_query.specs.Running.{End, Form, Spells, asked_report, scanned_store, scan_form, help_form, version_form, Outcome, misused, helped, versioned, out_of_memory, unread, unanswered, answered, Writing, whole, cut, IsOutcome, IsWriting, IsRun, status_of, text_of, used_by}
 use Rattle.vx_query.specs.Causes.{HasRisen, IsReported, IsUnasked, TellsScan}
 use Rattle.vx_query.proofs.ShapeLemmas.{and_left}
 
 not_none : {X : Type 0} {x : X} → Some x ≡ None → ⊥
 not_none e = true≢false (ap is_some e)
+
+some_same : {X : Type 0} {x y : X} → Some x ≡ Some y → x ≡ y
+some_same e = cc
 
 -- whether a form is that of scans, where there is one
 abbrev is_scan : Option Form → Bool
@@ -124,3 +134,29 @@ completed i i' o o' used status tells run still quiet memory = by run.outcome ru
         let same : input ≡ tells.input = taken_whole i i' tells.input input tells.told (asks_within tells.input tells.asked tells.asks.asked) comes.1.0.bytes in
         absurd (comes.1.1 tells.asked (ap asked_in same ∙ tells.asks.asked) tells.filter tells.projection tells.asks.spelled)
     by (answered input a f p) whole comes written = written.0
+
+-- a wire text spells one tree at most, and a wire tree builds one expression at most
+abbrev pub SpellsOnce : Type 0
+SpellsOnce = (bytes : Bytes) (a b : Node) → nodes.Spells bytes a → nodes.Spells bytes b → a ≡ b
+
+abbrev pub BuildsOnce : Type 0
+BuildsOnce = (holds : ExprEncoding → Bool) (wire : Node) (a b : Tree) → IsBuilt holds wire a → IsBuilt holds wire b → a ≡ b
+
+-- so bytes spell one expression at most
+spelled_once : SpellsOnce → BuildsOnce → (holds : ExprEncoding → Bool) (bytes : Bytes) (a b : Tree) → SpellsTree holds bytes a → SpellsTree holds bytes b → a ≡ b
+spelled_once spells builds holds bytes a b (m, x, made) (n, y, made') =
+    builds holds n a b (subst (λ wire. IsBuilt holds wire a) (spells bytes m n x.spelled y.spelled) made) made'
+
+-- the scan that a run reports is the one that the source's bytes ask
+pub reported_as_told : SpellsOnce → BuildsOnce → (i i' o o' : End) (used : Option Seen) (told : TellsScan i) → IsRun (Some scan_form) i i' o o' used 0
+    → Added o.bytes o'.bytes (asked_report told.asked told.filter told.projection) × (used ≡ Some (scanned_store told.asked told.filter told.projection))
+reported_as_told spells builds i i' o o' used told run =
+    let found = reported i i' o o' used run in
+    let input : found.input ≡ told.input = taken_whole i i' told.input found.input told.told (asks_within told.input told.asked told.asks.asked) found.taken.bytes in
+    let asked : found.asked ≡ told.asked = some_same (sym found.asks.asked ∙ ap asked_in input ∙ told.asks.asked) in
+    let own : Spells told.asked found.filter found.projection = subst (λ a. Spells a found.filter found.projection) asked found.asks.spelled in
+    let filter : found.filter ≡ told.filter = spelled_once spells builds is_default_kind told.asked.filter found.filter told.filter own.filter_spelled told.asks.spelled.filter_spelled in
+    let projection : found.projection ≡ told.projection = spelled_once spells builds is_default_kind told.asked.projection found.projection told.projection own.projection_spelled told.asks.spelled.projection_spelled in (
+      subst (Added o.bytes o'.bytes) (λ j. asked_report (asked j) (filter j) (projection j)) found.written,
+      found.held ∙ (λ j. Some (scanned_store (asked j) (filter j) (projection j))),
+    )

@@ -21,7 +21,7 @@ mod standard;
 mod writing;
 
 pub use asked::{AskedScan, asked_blocks_agree, decode_request};
-pub use causes::statuses_have_their_causes;
+pub use causes::{reports_are_of_what_is_asked, statuses_have_their_causes};
 pub use memory_sink::MemorySink;
 pub use memory_source::MemorySource;
 pub use reading::{InputError, read_up_to};
