@@ -1,11 +1,10 @@
 // The answer to an input: the report of the scan that it asks.
-ghost use Rattle.std.specs.Prelude.{◌≡◌, true, [], ◌∷◌, length, map, None, IfOk, IsErrOf};
+ghost use Rattle.std.specs.Prelude.{◌≡◌, true, [], length, map, None, IfOk, IsErrOf};
 ghost use Rattle.std.specs.List.{filter, list_any};
 ghost use Rattle.std.specs.Str.{bytes_eq};
 ghost use Rattle.std.specs.String.{string_bytes};
 ghost use Rattle.vx_dtype.specs.RawViews.{raw_view};
 ghost use Rattle.vx_dtype.specs.TypeViews.{type_view};
-ghost use Rattle.vx_dtype.specs.TypeRules.{field_names};
 ghost use Rattle.vx_column.specs.Columns.{values_fit, seen_rows, raws_fit};
 ghost use Rattle.vx_display.specs.ValueTexts.{value_text};
 ghost use Rattle.vx_expr.specs.Trees.{Tree};
@@ -74,14 +73,13 @@ fn scan_store(
     alloc: Global,
     filter: &[u8],
     projection: &[u8],
-    store: MemoryStore,
+    mut store: MemoryStore,
 ) -> Result<Scanned, Refusal>
     requires { store ≡ new_store store.zones store.blocks [] }
     ensures scanned { IfOk result (λ scanned. (f : Tree) × (p : Tree) × Spells (scan_of store filter.now projection.now) f p × (string_bytes scanned.text ≡ asked_report (scan_of store filter.now projection.now) f p) × (store_view scanned.store ≡ scanned_store (scan_of store filter.now projection.now) f p)) }
     ensures not_built { IsErrOf result Refusal.NotBuilt → (f p : Tree) → ¬ (Spells (scan_of store filter.now projection.now) f p) }
     ensures read { ¬ (IsErrOf result Refusal.ReadFault) }
 {
-    let mut store = store;
     let registry = ExprRegistry::default();
     match scan(alloc, &registry, filter, projection, &mut store) {
         Ok(report) => Ok(Scanned {

@@ -17,7 +17,8 @@ use vx_column::ColumnRef;
 use vx_dtype::{DType, FieldName, FieldNames, Mem, NoMemory, Nullability, PType, StructFields};
 use vx_prune::{ZoneError, ZoneMap, ZoneStat};
 
-const MOST_BYTES: usize = 16777216;
+/// The most bytes of an input.
+pub(crate) const MOST_BYTES: usize = 16777216;
 
 const MOST_COLUMNS: usize = 1024;
 

@@ -3,7 +3,6 @@ ghost use Rattle.std.specs.Prelude.{◌≡◌};
 ghost use Rattle.vx_query.specs.RefusalViews.{refusal_status, refusal_text};
 
 use crate::reading::InputError;
-use std::alloc::{AllocError, AllocFailed};
 use vx_dtype::NoMemory;
 
 /// Why an input has no report.

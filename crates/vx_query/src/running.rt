@@ -1,11 +1,12 @@
 // The program as a call.
-ghost use Rattle.std.specs.Prelude.{◌≡◌, ◌≤◌, map, option_map, Some, None, IfOk, IfErr, IsErr};
+ghost use Rattle.std.specs.Prelude.{◌≡◌, map, option_map, Some, None, IfOk, IfErr, IsErr};
 ghost use Rattle.std.specs.String.{string_bytes};
 ghost use Rattle.vx_query.specs.Running.{Outcome, Writing, IsOutcome, IsRun, IsWriting, end_by, form_of, scan_form, status_of, text_of, used_by};
 ghost use Rattle.vx_query.specs.RunViews.{store_view};
 ghost use Rattle.vx_query.specs.RefusalViews.{refusal_status, refusal_text};
 
 use crate::answers::answer;
+use crate::asked::MOST_BYTES;
 use crate::forms::{Form, form_of};
 use crate::reading::read_up_to;
 use crate::refusals::Refusal;
@@ -14,8 +15,6 @@ use crate::sources::Source;
 use crate::writing::write_whole;
 use std::alloc::Global;
 use vx_scan::MemoryStore;
-
-const MOST_BYTES: usize = 16777216;
 
 const USAGE: &str = "error: Usage\n";
 
