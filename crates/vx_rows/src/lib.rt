@@ -1,0 +1,9 @@
+//! More worked rows over the definitions of vx_semantics, as theorems about them.
+#![tactic(auto)]
+
+pub mod instance_rows;
+pub mod loose_rows;
+pub mod meaning_rows;
+pub mod path_rows;
+pub mod rule_rows;
+pub mod ruling_rows;
