@@ -19,6 +19,7 @@ pub fn types_rows_and_constants_loosely()
     ensures row { loosely_typed (struct_ty (field (codes "a") (int_ty I32 NonNullable) (only "a" (bool_ty NonNullable))) NonNullable) root ≡ Ok (struct_ty (field (codes "a") (int_ty I32 NonNullable) (only "a" (bool_ty NonNullable))) NonNullable) }
     ensures constant { loosely_typed mixed (number U8 (pos 256)) ≡ Ok (int_ty U8 NonNullable) }
     ensures null_test { loosely_typed mixed (is_null_of (col "z")) ≡ Ok (bool_ty NonNullable) }
+    ensures null_test_of_a_nullable_row { loosely_typed (struct_ty (only "a" (bool_ty NonNullable)) Nullable) (is_null_of root) ≡ Ok (bool_ty NonNullable) }
     ensures casting { loosely_typed mixed (cast (col "z") (int_ty I32 Nullable)) ≡ Ok (int_ty I32 Nullable) }
 {}
 
