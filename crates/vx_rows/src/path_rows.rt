@@ -10,7 +10,7 @@ ghost use Rattle.vx_dtype.specs.Types.{int_ty};
 ghost use Rattle.vx_expr.specs.declared.Operator.TheVariants.{Eq};
 ghost use Rattle.vx_expr.specs.Trees.{root, get_item, not_of, is_null_of, like, between, cast, list_contains, merge, dynamic, tree, no_trees};
 ghost use Rattle.vx_semantics.specs.Tables.{row_type};
-ghost use Rattle.vx_semantics.specs.Asked.{asked_columns};
+ghost use Rattle.vx_semantics.specs.Asked.{asked_columns, is_named};
 ghost use Rattle.vx_semantics.specs.Samples.{number, quoted, ◌⟨◌⟩◌, pack_one, two_small};
 
 /// What makes no struct asks its children for the empty path, whatever path it is asked for itself.
@@ -37,4 +37,10 @@ pub fn asks_a_merge_for_the_path()
     ensures replaced { asked_columns (row_type two_small.columns) (get_item (codes "x") (merge (tree root (tree (pack_one "x" (number I8 (pos 1))) no_trees)) NonNullable)) ≡ [] }
     ensures third { asked_columns (row_type two_small.columns) (get_item (codes "x") (merge (tree root (tree (pack_one "z" (number I8 (pos 1))) (tree (pack_one "x" (number I8 (pos 1))) no_trees))) NonNullable)) ≡ [] }
     ensures whole { asked_columns (row_type two_small.columns) (merge (tree root (tree (pack_one "x" (number I8 (pos 1))) no_trees)) NonNullable) ≡ codes "y" ∷ [] }
+{}
+
+/// A path has a name unless it is empty.
+pub fn tells_paths_that_have_a_name()
+    ensures empty { is_named [] ≡ false }
+    ensures named { is_named (codes "x" ∷ []) ≡ true }
 {}
