@@ -17,7 +17,9 @@ use Rattle.vx_expr.specs.declared.FieldSelection.{FieldSelection}
 use Rattle.vx_expr.specs.declared.FieldSelection.TheVariants.{Include, Exclude}
 use Rattle.vx_expr.specs.Trees.{Tree, root, literal, get_item, binary, not_of, is_null_of, like, between, cast, list_contains, pack, merge, select, dynamic, Trees, no_trees, tree}
 use Rattle.vx_dtype.specs.StructTypes.{is_struct_ty}
-use Rattle.vx_semantics.specs.Typing.{Refusal, not_struct, nullable_select, unknown_field, duplicate_field, type_mismatch, and_then, unless, distinct_type, item_type, with_field, fields_at, fields_without, selected_fields, selection_names, included_once, all_known, select_type, zip_fields, pack_type, names_in, merged_names, some_has_field, widened_in, merged_type_at, merged_fields_at, merge_type, union_of, equal_plain, binary_type, not_type, like_type, between_type, contains_type, cast_type, dynamic_type, typed_of, all_typed}
+use Rattle.vx_dtype.specs.Zipped.{zipped}
+use Rattle.vx_expr.specs.Selections.{listed_names}
+use Rattle.vx_semantics.specs.Typing.{Refusal, not_struct, nullable_select, unknown_field, duplicate_field, type_mismatch, and_then, unless, distinct_type, item_type, with_field, fields_at, fields_without, selected_fields, included_once, all_known, select_type, pack_type, names_in, merged_names, some_has_field, widened_in, merged_type_at, merged_fields_at, merge_type, union_of, equal_plain, binary_type, not_type, like_type, between_type, contains_type, cast_type, dynamic_type, typed_of, all_typed}
 use Rattle.vx_laws.proofs.Inverting.{and_then-ok, unless-ok, Ok-same, bytes_same, bytes_eq-itself}
 use Rattle.vx_laws.proofs.Fitting.{takes_cast-plain}
 use Rattle.vx_laws.proofs.Structs.{member-fits, no-member-fits, no-field-fits, item_type-ok, has_field, all-given, all-first_names}
@@ -176,7 +178,7 @@ fields_without-below names (field f t fs) h =
     by-test true a r = r
     by-test false a r = and_from (no_name_twice t) (no_name_twice_below (fields_without names fs)) a r
 
-selected-distinct : (s : FieldSelection) (fs : Fields) → AreDistinct fs → all_known (selection_names s) fs ≡ true → included_once s ≡ true → AreDistinct (selected_fields s fs)
+selected-distinct : (s : FieldSelection) (fs : Fields) → AreDistinct fs → all_known (listed_names s) fs ≡ true → included_once s ≡ true → AreDistinct (selected_fields s fs)
 selected-distinct (Include names) fs h k o = record {
   names = subst (λ (z : List Bytes). distinct_names z ≡ true) (sym (field_names-fields_at names fs k)) o;
   below = fields_at-below names fs h.below;
@@ -190,8 +192,8 @@ select-distinct : (s : FieldSelection) (t u : Ty) → no_name_twice t ≡ true �
 select-distinct s (struct_ty fs NonNullable) u d h =
     let made : Result Ty Refusal = Ok (struct_ty (selected_fields s fs) NonNullable) in
     let once = unless (included_once s) duplicate_field made in
-    let a = unless-ok true nullable_select (unless (all_known (selection_names s) fs) unknown_field once) u h in
-    let b = unless-ok (all_known (selection_names s) fs) unknown_field once u a.gave in
+    let a = unless-ok true nullable_select (unless (all_known (listed_names s) fs) unknown_field once) u h in
+    let b = unless-ok (all_known (listed_names s) fs) unknown_field once u a.gave in
     let c = unless-ok (included_once s) duplicate_field made u b.gave in
     subst (λ (z : Ty). no_name_twice z ≡ true) (Ok-same (Ok u) (struct_ty (selected_fields s fs) NonNullable) u (sym c.gave) refl)
     (distinct-struct (selected_fields s fs) NonNullable (selected-distinct s fs (struct-distinct fs NonNullable d) b.holds c.holds))
@@ -206,7 +208,7 @@ abbrev pub AllDistinct : List Ty → Type 0
 AllDistinct ts = AllByRecursion (λ t. no_name_twice t ≡ true) ts
 
 -- a pack has the names of its values
-pub field_names-zip : (names : List Bytes) (ts : List Ty) → nat_eq (length names) (length ts) ≡ true → field_names (zip_fields names ts) ≡ names
+pub field_names-zip : (names : List Bytes) (ts : List Ty) → nat_eq (length names) (length ts) ≡ true → field_names (zipped names ts) ≡ names
 field_names-zip [] ts h = refl
 field_names-zip (f ∷ names) [] h = let e : suc (length names) ≡ 0 = eqb-true (suc (length names)) 0 h in absurd (omega arith)
 field_names-zip (f ∷ names) (t ∷ ts) h =
@@ -214,19 +216,19 @@ field_names-zip (f ∷ names) (t ∷ ts) h =
     let k : length names ≡ length ts = omega arith in
     ap (λ (ys : List Bytes). f ∷ ys) (field_names-zip names ts (eq-eqb (length names) (length ts) k))
 
-zip-below : (names : List Bytes) (ts : List Ty) → AllDistinct ts → no_name_twice_below (zip_fields names ts) ≡ true
+zip-below : (names : List Bytes) (ts : List Ty) → AllDistinct ts → no_name_twice_below (zipped names ts) ≡ true
 zip-below [] ts h = none-distinct
 zip-below (f ∷ names) [] h = none-distinct
-zip-below (f ∷ names) (t ∷ ts) h = more-distinct f t (zip_fields names ts) h.0 (zip-below names ts h.1)
+zip-below (f ∷ names) (t ∷ ts) h = more-distinct f t (zipped names ts) h.0 (zip-below names ts h.1)
 
 pack-distinct : (names : List Bytes) (n : Nullability) (ts : List Ty) (u : Ty) → AllDistinct ts → pack_type names n ts ≡ Ok u → no_name_twice u ≡ true
 pack-distinct names n ts u d e =
-    let made : Result Ty Refusal = Ok (struct_ty (zip_fields names ts) n) in
+    let made : Result Ty Refusal = Ok (struct_ty (zipped names ts) n) in
     let sized = unless (nat_eq (length names) (length ts)) type_mismatch made in
     let a = unless-ok (distinct_names names) duplicate_field sized u e in
     let b = unless-ok (nat_eq (length names) (length ts)) type_mismatch made u a.gave in
-    subst (λ (z : Ty). no_name_twice z ≡ true) (Ok-same (Ok u) (struct_ty (zip_fields names ts) n) u (sym b.gave) refl)
-    (distinct-struct (zip_fields names ts) n (record {
+    subst (λ (z : Ty). no_name_twice z ≡ true) (Ok-same (Ok u) (struct_ty (zipped names ts) n) u (sym b.gave) refl)
+    (distinct-struct (zipped names ts) n (record {
       names = subst (λ (z : List Bytes). distinct_names z ≡ true) (sym (field_names-zip names ts b.holds)) a.holds;
       below = zip-below names ts d;
     }))

@@ -22,7 +22,8 @@ use Rattle.vx_expr.specs.declared.Operator.{Operator}
 use Rattle.vx_expr.specs.declared.FieldSelection.{FieldSelection}
 use Rattle.vx_expr.specs.Trees.{Tree, root, literal, get_item, binary, not_of, is_null_of, like, between, cast, list_contains, pack, merge, select, dynamic, Trees, no_trees, tree}
 use Rattle.vx_dtype.specs.StructTypes.{is_struct_ty}
-use Rattle.vx_semantics.specs.Typing.{Refusal, type_mismatch, not_struct, duplicate_field, and_then, unless, item_type, selected_fields, select_type, zip_fields, pack_type, names_in, merged_names, some_has_field, widened_in, merged_type_at, merged_fields_at, merge_type, union_of, equal_plain, compare_type, binary_type, not_type, like_type, between_type, contains_type, cast_type, dynamic_type, typed_of, all_typed, type_or_empty, given_names}
+use Rattle.vx_dtype.specs.Zipped.{zipped}
+use Rattle.vx_semantics.specs.Typing.{Refusal, type_mismatch, not_struct, duplicate_field, and_then, unless, item_type, selected_fields, select_type, pack_type, names_in, merged_names, some_has_field, widened_in, merged_type_at, merged_fields_at, merge_type, union_of, equal_plain, compare_type, binary_type, not_type, like_type, between_type, contains_type, cast_type, dynamic_type, typed_of, all_typed, type_or_empty, given_names}
 use Rattle.vx_semantics.specs.Meaning.{Slots, mean, meanings, sources, Source, some_gives, merged_value, merged_members, merged, zip_members, select3}
 use Rattle.vx_semantics.specs.Breaks.{by_sum, by_cast, is_fault}
 use Rattle.vx_semantics.specs.Asked.{later_gives, all_given_names, path_or_each, asked, asked_in_pack, asked_of_giver}
@@ -207,13 +208,13 @@ merge-faultless t slots row es n us u e g h r [] p q =
     (λ f found one. merge-one t slots row es n us u g h r f [] (subst (λ (z : Ty). path_in (f ∷ []) z ≡ true) (sym k.gives) found) one)
 
 -- of a pack with a type, its fields
-pub pack_type-ok : (names : List Bytes) (n : Nullability) (us : List Ty) (u : Ty) → pack_type names n us ≡ Ok u → u ≡ struct_ty (zip_fields names us) n
+pub pack_type-ok : (names : List Bytes) (n : Nullability) (us : List Ty) (u : Ty) → pack_type names n us ≡ Ok u → u ≡ struct_ty (zipped names us) n
 pack_type-ok names n us u e =
-    let made : Result Ty Refusal = Ok (struct_ty (zip_fields names us) n) in
+    let made : Result Ty Refusal = Ok (struct_ty (zipped names us) n) in
     let sized = unless (nat_eq (length names) (length us)) type_mismatch made in
     let a = unless-ok (distinct_names names) duplicate_field sized u e in
     let b = unless-ok (nat_eq (length names) (length us)) type_mismatch made u a.gave in
-    Ok-same (Ok u) u (struct_ty (zip_fields names us) n) refl (sym b.gave)
+    Ok-same (Ok u) u (struct_ty (zipped names us) n) refl (sym b.gave)
 
 -- the first of two merged structs' fields, and the rest
 giver-own : (t : Ty) (slots : Slots) (row : Val) (d : Tree) (a : Ty) (f : Bytes) (path : List Bytes) (w : Ty) → widened_in (field_type f (fields_of a)) (nullability_of a) ≡ Some w → path_in path w ≡ true
@@ -244,7 +245,7 @@ givers-faultless t slots row d ds a us fit own rest f path w e p q =
 abbrev pub PackFaultless : Ty → Slots → Val → List Bytes → Trees → List Ty → Type 0
 PackFaultless t slots row names es us =
     (Quiet t slots row (asked_in_pack t names es []) → member_holds_fault (zip_members names (meanings t slots row es)) ≡ false)
-    × ((f : Bytes) (path : List Bytes) → in_option (path_in path) (field_type f (zip_fields names us)) ≡ true → Quiet t slots row (asked_in_pack t names es (f ∷ path))
+    × ((f : Bytes) (path : List Bytes) → in_option (path_in path) (field_type f (zipped names us)) ≡ true → Quiet t slots row (asked_in_pack t names es (f ∷ path))
     → HoldsNoFault (path_value path (unwrap_or (member_named f (zip_members names (meanings t slots row es))) fault)))
 
 pack-none : (t : Ty) (slots : Slots) (row : Val) (names : List Bytes) → PackFaultless t slots row names no_trees []
@@ -265,7 +266,7 @@ pack-more t slots row g names d ds a us own rest = (
   λ f path p q. by-test (bytes_eq f g) f path p q,
 )
   where
-    by-test : (b : Bool) (f : Bytes) (path : List Bytes) → in_option (path_in path) (cond b (Some a) (field_type f (zip_fields names us))) ≡ true
+    by-test : (b : Bool) (f : Bytes) (path : List Bytes) → in_option (path_in path) (cond b (Some a) (field_type f (zipped names us))) ≡ true
         → Quiet t slots row (cond b (asked t d path) (asked_in_pack t names ds (f ∷ path)))
         → HoldsNoFault (path_value path (unwrap_or (cond b (Some (mean t slots row d)) (member_named f (zip_members names (meanings t slots row ds)))) fault))
     by-test true f path p q = own path p q

@@ -14,7 +14,9 @@ use Rattle.vx_dtype.specs.Structs.{member_named, field_of, members_at, members_w
 use Rattle.vx_expr.specs.declared.FieldSelection.{FieldSelection}
 use Rattle.vx_expr.specs.declared.FieldSelection.TheVariants.{Include, Exclude}
 use Rattle.vx_dtype.specs.StructTypes.{is_struct_ty}
-use Rattle.vx_semantics.specs.Typing.{Refusal, not_struct, nullable_select, unknown_field, duplicate_field, type_mismatch, unless, item_type, field_type_in, fields_at, fields_without, selected_fields, selection_names, included_once, all_known, select_type, zip_fields, pack_type, names_in, merged_names, some_has_field, widened_in, merged_type_at, merged_fields_at, merge_type}
+use Rattle.vx_dtype.specs.Zipped.{zipped}
+use Rattle.vx_expr.specs.Selections.{listed_names}
+use Rattle.vx_semantics.specs.Typing.{Refusal, not_struct, nullable_select, unknown_field, duplicate_field, type_mismatch, unless, item_type, field_type_in, fields_at, fields_without, selected_fields, included_once, all_known, select_type, pack_type, names_in, merged_names, some_has_field, widened_in, merged_type_at, merged_fields_at, merge_type}
 use Rattle.vx_semantics.specs.Meaning.{select3, Source, some_gives, merged_value, merged_members, merged, zip_members}
 use Rattle.vx_laws.proofs.Inverting.{unless-ok, Ok-same, bytes_same, bytes_eq-itself}
 use Rattle.vx_laws.proofs.Fitting.{is_nullable-left, is_nullable-right, null-fits}
@@ -183,15 +185,15 @@ members_without-fit names (member g x ms) (field k t fs) h =
 pub record Selects (s : FieldSelection) (t u : Ty) : Type 0 where
   pub fields : Fields
   pub is : t ≡ struct_ty fields NonNullable
-  pub known : all_known (selection_names s) fields ≡ true
+  pub known : all_known (listed_names s) fields ≡ true
   pub gives : u ≡ struct_ty (selected_fields s fields) NonNullable
 
 pub select_type-ok : (s : FieldSelection) (t u : Ty) → select_type s t ≡ Ok u → Selects s t u
 select_type-ok s (struct_ty fs NonNullable) u h =
     let made : Result Ty Refusal = Ok (struct_ty (selected_fields s fs) NonNullable) in
     let once = unless (included_once s) duplicate_field made in
-    let a = unless-ok true nullable_select (unless (all_known (selection_names s) fs) unknown_field once) u h in
-    let b = unless-ok (all_known (selection_names s) fs) unknown_field once u a.gave in
+    let a = unless-ok true nullable_select (unless (all_known (listed_names s) fs) unknown_field once) u h in
+    let b = unless-ok (all_known (listed_names s) fs) unknown_field once u a.gave in
     let c = unless-ok (included_once s) duplicate_field made u b.gave in
     record { fields = fs; is = refl; known = b.holds; gives = Ok-same (Ok u) u (struct_ty (selected_fields s fs) NonNullable) refl (sym c.gave) }
 select_type-ok s (struct_ty fs Nullable) u h = let no : ⊥ = cc in absurd no
@@ -200,7 +202,7 @@ select_type-ok s (int_ty p n) u h = let no : ⊥ = cc in absurd no
 select_type-ok s (text_ty n) u h = let no : ⊥ = cc in absurd no
 select_type-ok s (list_ty e n) u h = let no : ⊥ = cc in absurd no
 
-selected-fit : (s : FieldSelection) (ms : Members) (fs : Fields) → members_fit_but_for_faults ms fs ≡ true → all_known (selection_names s) fs ≡ true
+selected-fit : (s : FieldSelection) (ms : Members) (fs : Fields) → members_fit_but_for_faults ms fs ≡ true → all_known (listed_names s) fs ≡ true
     → fits_but_for_faults (select3 s (struct_val ms)) (struct_ty (selected_fields s fs) NonNullable) ≡ true
 selected-fit (Include names) ms fs h k = struct-fits (members_at names (struct_val ms)) (fields_at names fs) NonNullable (members_at-fit names ms fs h k)
 selected-fit (Exclude names) ms fs h k = struct-fits (members_without names ms) (fields_without names fs) NonNullable (members_without-fit names ms fs h)
@@ -216,23 +218,23 @@ select3-fits s v t u h e =
 abbrev pub AllFit : List Val → List Ty → Type 0
 AllFit vs ts = AllZip (λ v t. fits_but_for_faults v t ≡ true) vs ts
 
-pub zip-fit : (names : List Bytes) (vs : List Val) (ts : List Ty) → AllFit vs ts → members_fit_but_for_faults (zip_members names vs) (zip_fields names ts) ≡ true
+pub zip-fit : (names : List Bytes) (vs : List Val) (ts : List Ty) → AllFit vs ts → members_fit_but_for_faults (zip_members names vs) (zipped names ts) ≡ true
 unfolding fits_but_for_faults
 zip-fit [] vs ts h = refl
 zip-fit (f ∷ names) [] [] h = refl
 zip-fit (f ∷ names) (v ∷ vs) [] h = absurd h
 zip-fit (f ∷ names) [] (t ∷ ts) h = absurd h
-zip-fit (f ∷ names) (v ∷ vs) (t ∷ ts) h = members-fit f v (zip_members names vs) t (zip_fields names ts) h.0 (zip-fit names vs ts h.1)
+zip-fit (f ∷ names) (v ∷ vs) (t ∷ ts) h = members-fit f v (zip_members names vs) t (zipped names ts) h.0 (zip-fit names vs ts h.1)
 
 pub pack-fits : (names : List Bytes) (n : Nullability) (vs : List Val) (ts : List Ty) (u : Ty) → AllFit vs ts → pack_type names n ts ≡ Ok u
     → fits_but_for_faults (struct_val (zip_members names vs)) u ≡ true
 pack-fits names n vs ts u h e =
-    let made : Result Ty Refusal = Ok (struct_ty (zip_fields names ts) n) in
+    let made : Result Ty Refusal = Ok (struct_ty (zipped names ts) n) in
     let sized = unless (nat_eq (length names) (length ts)) type_mismatch made in
     let a = unless-ok (distinct_names names) duplicate_field sized u e in
     let b = unless-ok (nat_eq (length names) (length ts)) type_mismatch made u a.gave in
-    subst (λ (z : Ty). fits_but_for_faults (struct_val (zip_members names vs)) z ≡ true) (Ok-same (Ok u) (struct_ty (zip_fields names ts) n) u (sym b.gave) refl)
-    (struct-fits (zip_members names vs) (zip_fields names ts) n (zip-fit names vs ts h))
+    subst (λ (z : Ty). fits_but_for_faults (struct_val (zip_members names vs)) z ≡ true) (Ok-same (Ok u) (struct_ty (zipped names ts) n) u (sym b.gave) refl)
+    (struct-fits (zip_members names vs) (zipped names ts) n (zip-fit names vs ts h))
 
 -- the structs that go into a merge, each with its type
 pub record SourceFits (s : Source) (t : Ty) : Type 0 where

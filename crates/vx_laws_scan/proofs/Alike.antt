@@ -21,7 +21,8 @@ use Rattle.vx_dtype.specs.Structs.{member_named, field_of, members_at, first_nam
 use Rattle.vx_expr.specs.declared.Operator.{Operator}
 use Rattle.vx_expr.specs.declared.FieldSelection.{FieldSelection}
 use Rattle.vx_expr.specs.Trees.{Tree, root, literal, get_item, binary, not_of, is_null_of, like, between, cast, list_contains, pack, merge, select, dynamic, Trees, no_trees, tree}
-use Rattle.vx_semantics.specs.Typing.{and_then, item_type, selected_fields, select_type, zip_fields, pack_type, merged_names, some_has_field, widened_in, merged_type_at, merged_fields_at, merge_type, binary_type, not_type, like_type, between_type, contains_type, cast_type, dynamic_type, typed_of, all_typed, given_names}
+use Rattle.vx_dtype.specs.Zipped.{zipped}
+use Rattle.vx_semantics.specs.Typing.{and_then, item_type, selected_fields, select_type, pack_type, merged_names, some_has_field, widened_in, merged_type_at, merged_fields_at, merge_type, binary_type, not_type, like_type, between_type, contains_type, cast_type, dynamic_type, typed_of, all_typed, given_names}
 use Rattle.vx_semantics.specs.Meaning.{Slots, binary3, dynamic3, mean, meanings, sources, Source, some_gives, merged_value, merged_members, merged, zip_members, slot_value, select3}
 use Rattle.vx_semantics.specs.Breaks.{by_sum, by_cast, is_fault, cause_where, break_of}
 use Rattle.vx_semantics.specs.Asked.{Asking, asks_node, asks_column, later_gives, all_given_names, each_asked, asked, asked_in_pack, asked_of_giver}
@@ -376,7 +377,7 @@ pub record PackOne (columns : Fields) (slots : Slots) (a b : Val) (names : List 
 
 pub record PackAgreeing (columns : Fields) (slots : Slots) (a b : Val) (names : List Bytes) (es : Trees) (us : List Ty) : Type 0 where
   pub whole : AskedAgree columns slots a b (asked_in_pack (row_type columns) names es []) → PackWhole columns slots a b names es
-  pub one : (f : Bytes) (path : List Bytes) → in_option (path_in path) (field_type f (zip_fields names us)) ≡ true → AskedAgree columns slots a b (asked_in_pack (row_type columns) names es (f ∷ path))
+  pub one : (f : Bytes) (path : List Bytes) → in_option (path_in path) (field_type f (zipped names us)) ≡ true → AskedAgree columns slots a b (asked_in_pack (row_type columns) names es (f ∷ path))
       → PackOne columns slots a b names es f path
 
 pack-none : (columns : Fields) (slots : Slots) (a b : Val) (names : List Bytes) → PackAgreeing columns slots a b names no_trees []
@@ -405,7 +406,7 @@ pack-more columns slots a b g names d ds s us own rest =
       one = λ f path p q. let done = by-test (bytes_eq f g) f path p q in record { value = done.0; nodes = done.1 };
     }
   where
-    by-test : (x : Bool) (f : Bytes) (path : List Bytes) → in_option (path_in path) (cond x (Some s) (field_type f (zip_fields names us))) ≡ true
+    by-test : (x : Bool) (f : Bytes) (path : List Bytes) → in_option (path_in path) (cond x (Some s) (field_type f (zipped names us))) ≡ true
         → AskedAgree columns slots a b (cond x (asked (row_type columns) d path) (asked_in_pack (row_type columns) names ds (f ∷ path)))
         → (path_value path (unwrap_or (cond x (Some (mean (row_type columns) slots a d)) (member_named f (zip_members names (meanings (row_type columns) slots a ds)))) fault)
         ≡ path_value path (unwrap_or (cond x (Some (mean (row_type columns) slots b d)) (member_named f (zip_members names (meanings (row_type columns) slots b ds)))) fault))

@@ -1,19 +1,8 @@
 -- What has to unfold for the worked rows to compute.
-use Rattle.std.specs.Str.{chars}
-use Rattle.vx_dtype.specs.TypeRules.{same_type, no_name_twice, depth_of}
-use Rattle.vx_dtype.specs.Values.{valued}
-use Rattle.vx_dtype.specs.Fits.{fits, val_fits, fits_but_for_faults, holds_fault}
-use Rattle.vx_dtype.specs.Like.{matches}
-use Rattle.vx_expr.specs.Conjuncts.{conjuncts_of}
-use Rattle.vx_semantics.specs.Typing.{typed_of}
-use Rattle.vx_semantics.specs.LooseTyping.{loosely_typed}
-use Rattle.vx_semantics.specs.Meaning.{mean}
-use Rattle.vx_semantics.specs.Asked.{asked}
-use Rattle.vx_semantics.specs.Pruning.{rules_out}
-use Rattle.vx_semantics.specs.Slots.{slots_fit}
-use Rattle.vx_semantics.specs.Instances.{without_ranges, IsReplaced}
+use Rattle.vx_dtype.specs.Equal.{ty_eq, raw_eq}
+use Rattle.vx_semantics.proofs.Computing.{all_definitions as definitions_of_meaning}
 
 -- named on an `unfolding` line it opens all of these
 unfoldable pub all_definitions : Unit {0}
-unfolding chars same_type no_name_twice depth_of valued fits val_fits fits_but_for_faults holds_fault matches conjuncts_of typed_of loosely_typed mean asked rules_out slots_fit without_ranges IsReplaced
+unfolding definitions_of_meaning ty_eq raw_eq
 all_definitions = tt

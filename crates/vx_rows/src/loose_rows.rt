@@ -119,3 +119,23 @@ pub fn refuses_in_post_order_loosely()
     ensures of_a_select { loosely_typed mixed (select (Include []) (col "z")) ≡ Err unknown_field }
     ensures of_a_slot { loosely_typed mixed (dynamic (col "z") Above 0 (int_ty I32 NonNullable) true) ≡ Err unknown_field }
 {}
+
+/// Each kind asks the looser type of what stands in it, also where that has no strict type.
+pub fn types_children_loosely()
+    ensures item { loosely_typed mixed (get_item (codes "a") (select (Exclude (codes "z" ∷ [])) root)) ≡ Ok (int_ty I32 NonNullable) }
+    ensures left { map (λ op. loosely_typed mixed ((get_item (codes "a") (select (Exclude (codes "z" ∷ [])) root)) ⟨ op ⟩ col "a")) operators ≡ replicate 8 (Ok (bool_ty NonNullable)) ++ replicate 2 (Ok (int_ty I32 NonNullable)) }
+    ensures right { map (λ op. loosely_typed mixed (col "a" ⟨ op ⟩ (get_item (codes "a") (select (Exclude (codes "z" ∷ [])) root)))) operators ≡ replicate 8 (Ok (bool_ty NonNullable)) ++ replicate 2 (Ok (int_ty I32 NonNullable)) }
+    ensures negation { loosely_typed mixed (not_of ((get_item (codes "a") (select (Exclude (codes "z" ∷ [])) root)) ⟨ Eq ⟩ col "a")) ≡ Ok (bool_ty NonNullable) }
+    ensures text { loosely_typed mixed (like (get_item (codes "a") (select (Exclude (codes "z" ∷ [])) root)) (col "t") false false) ≡ Ok (bool_ty NonNullable) }
+    ensures pattern { loosely_typed mixed (like (col "t") (get_item (codes "a") (select (Exclude (codes "z" ∷ [])) root)) false false) ≡ Ok (bool_ty NonNullable) }
+    ensures range { loosely_typed mixed (between (get_item (codes "a") (select (Exclude (codes "z" ∷ [])) root)) (col "a") (col "a") (record { lower_strict = Strict; upper_strict = Strict })) ≡ Ok (bool_ty NonNullable) }
+    ensures lower { loosely_typed mixed (between (col "a") (get_item (codes "a") (select (Exclude (codes "z" ∷ [])) root)) (col "a") (record { lower_strict = Strict; upper_strict = Strict })) ≡ Ok (bool_ty NonNullable) }
+    ensures upper { loosely_typed mixed (between (col "a") (col "a") (get_item (codes "a") (select (Exclude (codes "z" ∷ [])) root)) (record { lower_strict = Strict; upper_strict = Strict })) ≡ Ok (bool_ty NonNullable) }
+    ensures list { loosely_typed mixed (list_contains (get_item (codes "a") (select (Exclude (codes "z" ∷ [])) root)) (col "a")) ≡ Ok (bool_ty NonNullable) }
+    ensures value { loosely_typed mixed (list_contains (col "a") (get_item (codes "a") (select (Exclude (codes "z" ∷ [])) root))) ≡ Ok (bool_ty NonNullable) }
+    ensures packed { loosely_typed mixed (pack_two "p" (col "a") "q" (get_item (codes "a") (select (Exclude (codes "z" ∷ [])) root))) ≡ Ok (struct_ty (field (codes "p") (int_ty I32 NonNullable) (only "q" (int_ty I32 NonNullable))) NonNullable) }
+    ensures packed_first { loosely_typed mixed (pack_two "p" (get_item (codes "a") (select (Exclude (codes "z" ∷ [])) root)) "q" (col "a")) ≡ Ok (struct_ty (field (codes "p") (int_ty I32 NonNullable) (only "q" (int_ty I32 NonNullable))) NonNullable) }
+    ensures merged { loosely_typed mixed (merge (tree (col "s") (tree (select (Exclude (codes "z" ∷ [])) (col "s")) no_trees)) NonNullable) ≡ Ok struct_p_q }
+    ensures selected { loosely_typed mixed (select (Include (codes "a" ∷ [])) (select (Exclude (codes "z" ∷ [])) root)) ≡ Ok (struct_ty (only "a" (int_ty I32 NonNullable)) NonNullable) }
+    ensures slot { loosely_typed mixed (dynamic (get_item (codes "a") (select (Exclude (codes "z" ∷ [])) root)) Above 0 (int_ty I32 NonNullable) true) ≡ Ok (bool_ty NonNullable) }
+{}

@@ -1,18 +1,22 @@
 // What selects, LIKE, merges and comparisons with a slot mean, and where sums break: worked by hand.
 #![tactic(auto, unfolding(crate::proofs::Computing::all_definitions))]
 
-ghost use Rattle.std.specs.Prelude.{◌≡◌, [], ◌∷◌, codes, pos, true, false, None, Ok, map, replicate};
-ghost use Rattle.vx_dtype.specs.declared.PType.TheVariants.{I8, I32};
+ghost use Rattle.std.specs.Prelude.{◌≡◌, [], ◌∷◌, codes, pos, true, false, None, Ok, map, replicate, Some};
+ghost use Rattle.vx_dtype.specs.declared.PType.TheVariants.{I8, I32, I64};
 ghost use Rattle.vx_dtype.specs.declared.Nullability.TheVariants.{NonNullable, Nullable};
-ghost use Rattle.vx_dtype.specs.Types.{int_ty, text_ty, struct_ty, no_fields, field};
-ghost use Rattle.vx_dtype.specs.Values.{null_val, bool_val, int_val, fault, struct_val, no_members, member};
+ghost use Rattle.vx_dtype.specs.Types.{int_ty, text_ty, struct_ty, no_fields, field, bool_ty, list_ty};
+ghost use Rattle.vx_dtype.specs.Values.{raw_null, null_val, bool_val, int_val, fault, struct_val, no_members, member, list_val, no_vals, val};
 ghost use Rattle.vx_expr.specs.declared.Operator.TheVariants.{Add, Sub};
 ghost use Rattle.vx_expr.specs.declared.FieldSelection.TheVariants.{Include, Exclude};
-ghost use Rattle.vx_expr.specs.Trees.{like, merge, select, no_trees, tree};
+ghost use Rattle.vx_expr.specs.Trees.{like, merge, select, no_trees, tree, root, get_item, between, cast, list_contains, dynamic};
 ghost use Rattle.vx_semantics.specs.Typing.{typed_of};
 ghost use Rattle.vx_semantics.specs.Meaning.{mean, merged_value};
-ghost use Rattle.vx_semantics.specs.Breaks.{break_of};
-ghost use Rattle.vx_semantics.specs.Samples.{number, quoted, null_of, ◌⟨◌⟩◌, alone, only, pack_one, pack_two, slot_of, comparisons, with_slot};
+ghost use Rattle.vx_semantics.specs.Breaks.{break_of, by_sum, by_cast, cause_where};
+ghost use Rattle.vx_semantics.specs.Samples.{col, number, quoted, null_of, ◌⟨◌⟩◌, alone, only, pack_one, pack_two, slot_of, comparisons, with_slot, number_list, two_small};
+ghost use Rattle.vx_dtype.specs.declared.StrictComparison.TheVariants.{Strict};
+ghost use Rattle.vx_dtype.specs.declared.CompareOperator.TheVariants.{Gt as Above};
+ghost use Rattle.vx_semantics.specs.Tables.{row_type};
+ghost use Rattle.vx_semantics.specs.Scans.{phase_breaks};
 
 /// A select keeps the included fields, or all but the excluded ones.
 pub fn selects_fields()
@@ -63,4 +67,47 @@ pub fn breaks_below_the_operand_that_is_a_fault()
     ensures right_of_a_sum { break_of (struct_ty no_fields NonNullable) [] (struct_val no_members) (number I8 (pos 1) ⟨ Add ⟩ (number I8 (pos 127) ⟨ Add ⟩ number I8 (pos 1))) ≡ None }
     ensures left_of_a_difference { break_of (struct_ty no_fields NonNullable) [] (struct_val no_members) ((number I8 (pos 127) ⟨ Add ⟩ number I8 (pos 1)) ⟨ Sub ⟩ number I8 (pos 1)) ≡ None }
     ensures right_of_a_difference { break_of (struct_ty no_fields NonNullable) [] (struct_val no_members) (number I8 (pos 1) ⟨ Sub ⟩ (number I8 (pos 127) ⟨ Add ⟩ number I8 (pos 1))) ≡ None }
+{}
+
+/// A range means whether its value lies between its bounds, and not whether a bound does.
+pub fn means_ranges()
+    ensures inside { mean (struct_ty no_fields NonNullable) [] (struct_val no_members) (between (number I32 (pos 5)) (number I32 (pos 1)) (number I32 (pos 9)) (record { lower_strict = Strict; upper_strict = Strict })) ≡ bool_val true }
+    ensures below { mean (struct_ty no_fields NonNullable) [] (struct_val no_members) (between (number I32 (pos 0)) (number I32 (pos 1)) (number I32 (pos 9)) (record { lower_strict = Strict; upper_strict = Strict })) ≡ bool_val false }
+    ensures above { mean (struct_ty no_fields NonNullable) [] (struct_val no_members) (between (number I32 (pos 10)) (number I32 (pos 1)) (number I32 (pos 9)) (record { lower_strict = Strict; upper_strict = Strict })) ≡ bool_val false }
+    ensures beside_null { mean (struct_ty no_fields NonNullable) [] (struct_val no_members) (between (number I32 (pos 5)) (null_of (int_ty I32 Nullable)) (number I32 (pos 9)) (record { lower_strict = Strict; upper_strict = Strict })) ≡ null_val }
+{}
+
+/// Null beside a value is null: of a slot, and in a list.
+pub fn means_null_beside_a_value()
+    ensures slot { map (λ op. mean (struct_ty no_fields NonNullable) (slot_of I32 (pos 9) ∷ []) (alone "x" null_val) (with_slot op true)) comparisons ≡ replicate 6 null_val }
+    ensures null_in_a_slot { map (λ op. mean (struct_ty no_fields NonNullable) (Some (record { ty = int_ty I32 Nullable; value = raw_null }) ∷ []) (alone "x" (int_val I32 (pos 7))) (with_slot op true)) comparisons ≡ replicate 6 null_val }
+    ensures null_list { mean (struct_ty no_fields NonNullable) [] (struct_val no_members) (list_contains (null_of (list_ty (int_ty I32 NonNullable) Nullable)) (number I32 (pos 1))) ≡ null_val }
+    ensures null_member { mean (struct_ty no_fields NonNullable) [] (struct_val no_members) (list_contains (number_list I32 (pos 1 ∷ [])) (null_of (int_ty I32 Nullable))) ≡ null_val }
+{}
+
+/// Casts and slots leave the table's type to what stands in them: a merge in them has the row's names.
+pub fn means_merges_of_the_row_in_casts_and_slots()
+    ensures casting { mean (row_type two_small.columns) [] (struct_val (member (codes "x") (int_val I8 (pos 127)) (member (codes "y") (int_val I8 (pos 5)) no_members))) (cast (get_item (codes "y") (merge (tree root no_trees) NonNullable)) (int_ty I64 NonNullable)) ≡ int_val I64 (pos 5) }
+    ensures slot { mean (row_type two_small.columns) [] (struct_val (member (codes "x") (int_val I8 (pos 127)) (member (codes "y") (int_val I8 (pos 5)) no_members))) (dynamic (get_item (codes "y") (merge (tree root no_trees) NonNullable)) Above 0 (int_ty I8 NonNullable) true) ≡ bool_val true }
+    ensures sound_cast { break_of (row_type two_small.columns) [] (struct_val (member (codes "x") (int_val I8 (pos 127)) (member (codes "y") (int_val I8 (pos 5)) no_members))) (cast (get_item (codes "y") (merge (tree root no_trees) NonNullable)) (int_ty I64 NonNullable)) ≡ None }
+    ensures unsound_cast { break_of (row_type two_small.columns) [] (struct_val (member (codes "x") (int_val I8 (pos 127)) (member (codes "y") (int_val I8 (pos 5)) no_members))) (cast (get_item (codes "y") (merge (tree root no_trees) NonNullable)) (bool_ty NonNullable)) ≡ Some by_cast }
+{}
+
+/// A difference that has a value doesn't break. An operand that holds a fault and is none doesn't keep a node from breaking, nor is such a value one that broke.
+pub fn breaks_by_faults_alone()
+    ensures sound_difference { break_of (struct_ty no_fields NonNullable) [] (struct_val no_members) (number I8 (pos 5) ⟨ Sub ⟩ number I8 (pos 1)) ≡ None }
+    ensures left_of_a_sum { break_of (struct_ty no_fields NonNullable) [] (struct_val no_members) ((pack_one "a" (number I8 (pos 127) ⟨ Add ⟩ number I8 (pos 1))) ⟨ Add ⟩ number I8 (pos 1)) ≡ Some by_sum }
+    ensures right_of_a_sum { break_of (struct_ty no_fields NonNullable) [] (struct_val no_members) (number I8 (pos 1) ⟨ Add ⟩ (pack_one "a" (number I8 (pos 127) ⟨ Add ⟩ number I8 (pos 1)))) ≡ Some by_sum }
+    ensures left_of_a_difference { break_of (struct_ty no_fields NonNullable) [] (struct_val no_members) ((pack_one "a" (number I8 (pos 127) ⟨ Add ⟩ number I8 (pos 1))) ⟨ Sub ⟩ number I8 (pos 1)) ≡ Some by_sum }
+    ensures right_of_a_difference { break_of (struct_ty no_fields NonNullable) [] (struct_val no_members) (number I8 (pos 1) ⟨ Sub ⟩ (pack_one "a" (number I8 (pos 127) ⟨ Add ⟩ number I8 (pos 1)))) ≡ Some by_sum }
+    ensures casting { break_of (struct_ty no_fields NonNullable) [] (struct_val no_members) (cast (pack_one "a" (number I8 (pos 127) ⟨ Add ⟩ number I8 (pos 1))) (int_ty I8 NonNullable)) ≡ Some by_cast }
+    ensures held { cause_where true (list_val (val fault no_vals)) by_sum ≡ None }
+{}
+
+/// A phase breaks where a node breaks at one of its rows, by a sum or by a cast.
+pub fn breaks_phases_by_either_cause()
+    ensures sum { phase_breaks (row_type two_small.columns) [] (record { expression = col "x" ⟨ Add ⟩ col "y"; rows = (struct_val (member (codes "x") (int_val I8 (pos 127)) (member (codes "y") (int_val I8 (pos 5)) no_members))) ∷ [] }) ≡ true }
+    ensures casting { phase_breaks (row_type two_small.columns) [] (record { expression = cast (col "x") (bool_ty NonNullable); rows = (struct_val (member (codes "x") (int_val I8 (pos 127)) (member (codes "y") (int_val I8 (pos 5)) no_members))) ∷ [] }) ≡ true }
+    ensures sound { phase_breaks (row_type two_small.columns) [] (record { expression = col "x" ⟨ Sub ⟩ col "y"; rows = (struct_val (member (codes "x") (int_val I8 (pos 127)) (member (codes "y") (int_val I8 (pos 5)) no_members))) ∷ [] }) ≡ false }
+    ensures no_row { phase_breaks (row_type two_small.columns) [] (record { expression = col "x" ⟨ Add ⟩ col "y"; rows = [] }) ≡ false }
 {}

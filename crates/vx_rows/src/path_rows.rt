@@ -8,10 +8,11 @@ ghost use Rattle.vx_dtype.specs.declared.StrictComparison.TheVariants.{Strict};
 ghost use Rattle.vx_dtype.specs.declared.CompareOperator.TheVariants.{Gt as Above};
 ghost use Rattle.vx_dtype.specs.Types.{int_ty};
 ghost use Rattle.vx_expr.specs.declared.Operator.TheVariants.{Eq};
-ghost use Rattle.vx_expr.specs.Trees.{root, get_item, not_of, is_null_of, like, between, cast, list_contains, merge, dynamic, tree, no_trees};
+ghost use Rattle.vx_expr.specs.Trees.{root, get_item, not_of, is_null_of, like, between, cast, list_contains, merge, dynamic, tree, no_trees, select};
 ghost use Rattle.vx_semantics.specs.Tables.{row_type};
-ghost use Rattle.vx_semantics.specs.Asked.{asked_columns, is_named};
-ghost use Rattle.vx_semantics.specs.Samples.{number, quoted, ◌⟨◌⟩◌, pack_one, two_small};
+ghost use Rattle.vx_semantics.specs.Asked.{asked_columns, asked_nodes};
+ghost use Rattle.vx_semantics.specs.Samples.{number, quoted, ◌⟨◌⟩◌, pack_one, two_small, col, pack_two};
+ghost use Rattle.vx_expr.specs.declared.FieldSelection.TheVariants.{Include};
 
 /// What makes no struct asks its children for the empty path, whatever path it is asked for itself.
 pub fn asks_children_for_the_empty_path()
@@ -39,8 +40,14 @@ pub fn asks_a_merge_for_the_path()
     ensures whole { asked_columns (row_type two_small.columns) (merge (tree root (tree (pack_one "x" (number I8 (pos 1))) no_trees)) NonNullable) ≡ codes "y" ∷ [] }
 {}
 
-/// A path has a name unless it is empty.
-pub fn tells_paths_that_have_a_name()
-    ensures empty { is_named [] ≡ false }
-    ensures named { is_named (codes "x" ∷ []) ≡ true }
+/// A select asks its child for the whole path, and so does a pack the value that a later name of it gives.
+pub fn asks_for_the_rest_of_the_path()
+    ensures select { asked_columns (row_type two_small.columns) (get_item (codes "q") (get_item (codes "p") (select (Include (codes "p" ∷ codes "o" ∷ [])) (pack_two "p" (pack_two "q" (col "x") "r" (col "y")) "o" (number I8 (pos 1)))))) ≡ codes "x" ∷ [] }
+    ensures pack { asked_columns (row_type two_small.columns) (get_item (codes "q") (get_item (codes "p") (pack_two "o" (number I8 (pos 1)) "p" (pack_two "q" (col "x") "r" (col "y"))))) ≡ codes "x" ∷ [] }
+{}
+
+/// LIKE asks itself with its own flags, its text and its pattern.
+pub fn asks_likes_with_their_flags()
+    ensures negated { asked_nodes (row_type two_small.columns) (like (quoted "a") (quoted "b") true false) ≡ like (quoted "a") (quoted "b") true false ∷ quoted "a" ∷ quoted "b" ∷ [] }
+    ensures folded { asked_nodes (row_type two_small.columns) (like (quoted "a") (quoted "b") false true) ≡ like (quoted "a") (quoted "b") false true ∷ quoted "a" ∷ quoted "b" ∷ [] }
 {}

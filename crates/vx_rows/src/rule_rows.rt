@@ -5,7 +5,7 @@ ghost use Rattle.std.specs.Prelude.{◌≡◌, [], ◌∷◌, ◌++◌, codes, p
 ghost use Rattle.vx_dtype.specs.declared.PType.TheVariants.{I8, I16, I32, I64};
 ghost use Rattle.vx_dtype.specs.declared.Nullability.TheVariants.{NonNullable, Nullable};
 ghost use Rattle.vx_dtype.specs.Types.{bool_ty, int_ty, text_ty, no_fields, field};
-ghost use Rattle.vx_dtype.specs.Values.{null_val, bool_val, int_val, text_val, list_val, struct_val, fault, no_vals, no_members, member};
+ghost use Rattle.vx_dtype.specs.Values.{null_val, bool_val, int_val, text_val, list_val, struct_val, fault, no_vals, no_members, member, val};
 ghost use Rattle.vx_dtype.specs.Sums.{add3, sub3};
 ghost use Rattle.vx_dtype.specs.Like.{text_matches};
 ghost use Rattle.vx_dtype.specs.Casts.{takes_cast, cast3};
@@ -16,6 +16,8 @@ ghost use Rattle.vx_expr.specs.declared.FieldSelection.TheVariants.{Include};
 ghost use Rattle.vx_semantics.specs.Typing.{selected_fields};
 ghost use Rattle.vx_semantics.specs.Meaning.{binary3};
 ghost use Rattle.vx_semantics.specs.Samples.{alone, only, operators, kinds_of_types};
+ghost use Rattle.vx_dtype.specs.declared.StrictComparison.TheVariants.{Strict};
+ghost use Rattle.vx_dtype.specs.Order.{between3};
 
 /// A fault on the right of null is a fault under every operator.
 pub fn absorbs_null_before_a_fault()
@@ -86,4 +88,27 @@ pub fn takes_fields_of_struct_types()
     ensures some { projected (codes "b" ∷ codes "a" ∷ []) (field (codes "a") (bool_ty NonNullable) (only "b" (text_ty Nullable))) ≡ Some (field (codes "b") (text_ty Nullable) (only "a" (bool_ty NonNullable))) }
     ensures left_out { selected_fields (Include (codes "z" ∷ codes "a" ∷ [])) (only "a" (bool_ty NonNullable)) ≡ only "a" (bool_ty NonNullable) }
     ensures of_a_missing_name { projected (codes "b" ∷ codes "z" ∷ []) (only "b" (text_ty Nullable)) ≡ None }
+{}
+
+/// Folding case leaves a run a run and one character one character.
+pub fn folds_no_wildcards()
+    ensures run { text_matches true (codes "ABC") (codes "a%") ≡ true }
+    ensures run_of_none { text_matches true (codes "") (codes "%") ≡ true }
+    ensures one { text_matches true (codes "AB") (codes "a_") ≡ true }
+    ensures not_two { text_matches true (codes "ABC") (codes "a_") ≡ false }
+{}
+
+/// A greater element of a list is not the value that is looked for.
+pub fn finds_no_greater_element()
+    ensures alone { contains3 (list_val (val (int_val I32 (pos 5)) no_vals)) (int_val I32 (pos 2)) ≡ bool_val false }
+    ensures behind_a_lesser_one { contains3 (list_val (val (int_val I32 (pos 1)) (val (int_val I32 (pos 5)) no_vals))) (int_val I32 (pos 3)) ≡ bool_val false }
+{}
+
+/// A range whose upper bound or value is null is null, but for a lower bound that the value lies below.
+pub fn lies_between_unknown_bounds()
+    ensures upper_null { between3 (record { lower_strict = Strict; upper_strict = Strict }) (int_val I32 (pos 5)) (int_val I32 (pos 1)) null_val ≡ null_val }
+    ensures below_the_lower { between3 (record { lower_strict = Strict; upper_strict = Strict }) (int_val I32 (pos 5)) (int_val I32 (pos 6)) null_val ≡ bool_val false }
+    ensures no_bound { between3 (record { lower_strict = Strict; upper_strict = Strict }) (int_val I32 (pos 5)) null_val null_val ≡ null_val }
+    ensures null { between3 (record { lower_strict = Strict; upper_strict = Strict }) null_val (int_val I32 (pos 1)) (int_val I32 (pos 9)) ≡ null_val }
+    ensures upper_fault { between3 (record { lower_strict = Strict; upper_strict = Strict }) (int_val I32 (pos 5)) (int_val I32 (pos 6)) fault ≡ fault }
 {}

@@ -28,11 +28,6 @@ abbrev pub all_given_names : Ty → Trees → List Bytes
 all_given_names t no_trees = []
 all_given_names t (tree e es) = given_names t e ++ all_given_names t es
 
--- whether a path has a name
-abbrev pub is_named : List Bytes → Bool
-is_named [] = false
-is_named (f ∷ path) = true
-
 -- what is asked for each of the names, where `ask` says what is asked for a path
 abbrev pub each_asked : (List Bytes → List Asking) → List Bytes → List Asking
 each_asked ask [] = []

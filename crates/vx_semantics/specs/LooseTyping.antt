@@ -11,7 +11,8 @@ use Rattle.vx_expr.specs.declared.Operator.{Operator}
 use Rattle.vx_expr.specs.declared.FieldSelection.{FieldSelection}
 use Rattle.vx_expr.specs.declared.FieldSelection.TheVariants.{Include, Exclude}
 use Rattle.vx_expr.specs.Trees.{Tree, root, literal, get_item, binary, not_of, is_null_of, like, between, cast, list_contains, pack, merge, select, dynamic, Trees, no_trees, tree}
-use Rattle.vx_semantics.specs.Typing.{Refusal, not_struct, unknown_field, type_mismatch, and_then, unless, item_type, selected_fields, all_known, zip_fields, merge_type, union_of, sum_type, not_type}
+use Rattle.vx_dtype.specs.Zipped.{zipped}
+use Rattle.vx_semantics.specs.Typing.{Refusal, not_struct, unknown_field, type_mismatch, and_then, unless, item_type, selected_fields, all_known, merge_type, union_of, sum_type, not_type}
 
 -- whether each included name is one of the fields'
 abbrev pub included_known : FieldSelection → Fields → Bool
@@ -25,7 +26,7 @@ loose_select_type s _ = Err not_struct
 
 -- the struct of named values, whose names may stand twice
 abbrev pub loose_pack_type : List Bytes → Nullability → List Ty → Result Ty Refusal
-loose_pack_type names n ts = unless (nat_eq (length names) (length ts)) type_mismatch (Ok (struct_ty (zip_fields names ts) n))
+loose_pack_type names n ts = unless (nat_eq (length names) (length ts)) type_mismatch (Ok (struct_ty (zipped names ts) n))
 
 -- a sum or a difference asks equal integer types, every other operator nothing
 abbrev pub loose_binary_type : Operator → Ty → Ty → Result Ty Refusal

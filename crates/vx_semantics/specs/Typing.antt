@@ -7,6 +7,7 @@ use Rattle.vx_dtype.specs.declared.Nullability.TheVariants.{NonNullable}
 use Rattle.vx_dtype.specs.Types.{Bytes, Ty, bool_ty, list_ty, struct_ty, Fields, no_fields, field}
 use Rattle.vx_dtype.specs.TypeRules.{is_nullable, union, nullability_of, with_nullability, widened, same_type, is_plain, is_bool_ty, is_int_ty, is_text_ty, fields_of, field_names, field_type, has_name, distinct_names, no_name_twice}
 use Rattle.vx_dtype.specs.StructTypes.{is_struct_ty}
+use Rattle.vx_dtype.specs.Zipped.{zipped}
 use Rattle.vx_dtype.specs.Values.{Typed}
 use Rattle.vx_dtype.specs.Fits.{fits}
 use Rattle.vx_dtype.specs.Casts.{takes_cast}
@@ -14,6 +15,7 @@ use Rattle.vx_dtype.specs.Structs.{first_names}
 use Rattle.vx_expr.specs.declared.Operator.{Operator}
 use Rattle.vx_expr.specs.declared.FieldSelection.{FieldSelection}
 use Rattle.vx_expr.specs.declared.FieldSelection.TheVariants.{Include, Exclude}
+use Rattle.vx_expr.specs.Selections.{listed_names}
 use Rattle.vx_expr.specs.Trees.{Tree, root, literal, get_item, binary, not_of, is_null_of, like, between, cast, list_contains, pack, merge, select, dynamic, Trees, no_trees, tree}
 
 -- why an expression has no type
@@ -65,14 +67,10 @@ abbrev pub fields_without : List Bytes → Fields → Fields
 fields_without names no_fields = no_fields
 fields_without names (field f t fs) = cond (has_name f names) (fields_without names fs) (field f t (fields_without names fs))
 
--- the fields that a selection gives, and the names that it names
+-- the fields that a selection gives
 abbrev pub selected_fields : FieldSelection → Fields → Fields
 selected_fields (Include names) fs = fields_at names fs
 selected_fields (Exclude names) fs = fields_without names fs
-
-abbrev pub selection_names : FieldSelection → List Bytes
-selection_names (Include names) = names
-selection_names (Exclude names) = names
 
 -- whether no included name stands twice
 abbrev pub included_once : FieldSelection → Bool
@@ -87,18 +85,12 @@ all_known names fs = list_all (λ f. has_name f (field_names fs)) names
 abbrev pub select_type : FieldSelection → Ty → Result Ty Refusal
 select_type s (struct_ty fs n) =
     unless (not (is_nullable n)) nullable_select
-    (unless (all_known (selection_names s) fs) unknown_field (unless (included_once s) duplicate_field (Ok (struct_ty (selected_fields s fs) NonNullable))))
+    (unless (all_known (listed_names s) fs) unknown_field (unless (included_once s) duplicate_field (Ok (struct_ty (selected_fields s fs) NonNullable))))
 select_type s _ = Err not_struct
-
--- names and types as fields, as far as both go
-abbrev pub zip_fields : List Bytes → List Ty → Fields
-zip_fields [] ts = no_fields
-zip_fields (f ∷ fs) [] = no_fields
-zip_fields (f ∷ fs) (t ∷ ts) = field f t (zip_fields fs ts)
 
 -- the struct of named values; one with more names than values, or fewer, has no type
 abbrev pub pack_type : List Bytes → Nullability → List Ty → Result Ty Refusal
-pack_type names n ts = unless (distinct_names names) duplicate_field (unless (nat_eq (length names) (length ts)) type_mismatch (Ok (struct_ty (zip_fields names ts) n)))
+pack_type names n ts = unless (distinct_names names) duplicate_field (unless (nat_eq (length names) (length ts)) type_mismatch (Ok (struct_ty (zipped names ts) n)))
 
 -- the names of a type's fields, in order
 abbrev pub names_in : Ty → List Bytes
