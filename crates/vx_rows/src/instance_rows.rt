@@ -53,3 +53,29 @@ pub fn replaces_by_constants_of_the_type_alone()
     ensures name_twice { ¬ (IsInstance (record { columns = field (codes "x") (int_ty I32 NonNullable) (only "x" (int_ty I32 NonNullable)); lengths = 2 ∷ []; stats = statistic ("x" ∷ []) Min (bounds I32 (pos 5 ∷ [])) ∷ statistic ("x" ∷ []) Max (bounds I32 (pos 9 ∷ [])) ∷ [] }) 0 (not_of (col "x")) (not_of (number I32 (pos 6)))) }
     ensures out_of_range { ¬ (IsInstance (zones_of (number_table I8 "x" ((pos 5 ∷ []) ∷ [])) (statistic ("x" ∷ []) Min (bounds I8 (pos 5 ∷ [])) ∷ statistic ("x" ∷ []) Max (bounds I8 (pos 500 ∷ [])) ∷ [])) 0 (not_of (col "x")) (not_of (number I8 (pos 300)))) }
 {}
+
+/// A range within a bound of a range is written as its two comparisons too.
+pub fn writes_ranges_within_bounds()
+    ensures value { without_ranges (between (between (col "x") (number I32 (pos 1)) (number I32 (pos 2)) (record { lower_strict = Strict; upper_strict = NonStrict })) (col "y") (col "z") (record { lower_strict = Strict; upper_strict = NonStrict })) ≡ (col "y" ⟨ Lt ⟩ ((number I32 (pos 1) ⟨ Lt ⟩ col "x") ⟨ And ⟩ (col "x" ⟨ Lte ⟩ number I32 (pos 2)))) ⟨ And ⟩ (((number I32 (pos 1) ⟨ Lt ⟩ col "x") ⟨ And ⟩ (col "x" ⟨ Lte ⟩ number I32 (pos 2))) ⟨ Lte ⟩ col "z") }
+    ensures lower { without_ranges (between (col "y") (between (col "x") (number I32 (pos 1)) (number I32 (pos 2)) (record { lower_strict = Strict; upper_strict = NonStrict })) (col "z") (record { lower_strict = Strict; upper_strict = NonStrict })) ≡ (((number I32 (pos 1) ⟨ Lt ⟩ col "x") ⟨ And ⟩ (col "x" ⟨ Lte ⟩ number I32 (pos 2))) ⟨ Lt ⟩ col "y") ⟨ And ⟩ (col "y" ⟨ Lte ⟩ col "z") }
+    ensures upper { without_ranges (between (col "y") (col "z") (between (col "x") (number I32 (pos 1)) (number I32 (pos 2)) (record { lower_strict = Strict; upper_strict = NonStrict })) (record { lower_strict = Strict; upper_strict = NonStrict })) ≡ (col "z" ⟨ Lt ⟩ col "y") ⟨ And ⟩ (col "y" ⟨ Lte ⟩ ((number I32 (pos 1) ⟨ Lt ⟩ col "x") ⟨ And ⟩ (col "x" ⟨ Lte ⟩ number I32 (pos 2)))) }
+{}
+
+/// No place within any kind takes a constant out of the bounds.
+pub fn replaces_no_place_out_of_bounds()
+    ensures item { ¬ (IsInstance five_to_nine 0 (get_item (codes "a") (pack_one "a" (col "x"))) (get_item (codes "a") (pack_one "a" (number I32 (pos 10))))) }
+    ensures text { ¬ (IsInstance five_to_nine 0 (like (col "x") (col "x") true false) (like (number I32 (pos 10)) (number I32 (pos 6)) true false)) }
+    ensures pattern { ¬ (IsInstance five_to_nine 0 (like (col "x") (col "x") true false) (like (number I32 (pos 6)) (number I32 (pos 10)) true false)) }
+    ensures casts { ¬ (IsInstance five_to_nine 0 (cast (col "x") (int_ty I64 Nullable)) (cast (number I32 (pos 10)) (int_ty I64 Nullable))) }
+    ensures list { ¬ (IsInstance five_to_nine 0 (list_contains (col "x") (col "x")) (list_contains (number I32 (pos 10)) (number I32 (pos 6)))) }
+    ensures member { ¬ (IsInstance five_to_nine 0 (list_contains (col "x") (col "x")) (list_contains (number I32 (pos 6)) (number I32 (pos 10)))) }
+    ensures packed_first { ¬ (IsInstance five_to_nine 0 (pack_two "a" (col "x") "b" (col "x")) (pack_two "a" (number I32 (pos 10)) "b" (number I32 (pos 6)))) }
+    ensures packed_last { ¬ (IsInstance five_to_nine 0 (pack_two "a" (col "x") "b" (col "x")) (pack_two "a" (number I32 (pos 6)) "b" (number I32 (pos 10)))) }
+    ensures merged_first { ¬ (IsInstance five_to_nine 0 (merge (tree (col "x") (tree (col "x") no_trees)) Nullable) (merge (tree (number I32 (pos 10)) (tree (number I32 (pos 6)) no_trees)) Nullable)) }
+    ensures merged_last { ¬ (IsInstance five_to_nine 0 (merge (tree (col "x") (tree (col "x") no_trees)) Nullable) (merge (tree (number I32 (pos 6)) (tree (number I32 (pos 10)) no_trees)) Nullable)) }
+    ensures selects { ¬ (IsInstance five_to_nine 0 (select (Include (codes "a" ∷ [])) (pack_one "a" (col "x"))) (select (Include (codes "a" ∷ [])) (pack_one "a" (number I32 (pos 10))))) }
+    ensures slot { ¬ (IsInstance five_to_nine 0 (dynamic (col "x") Below 3 (int_ty I32 NonNullable) true) (dynamic (number I32 (pos 10)) Below 3 (int_ty I32 NonNullable) true)) }
+    ensures value { ¬ (IsReplaced five_to_nine 0 (between (col "x") (col "x") (col "x") (record { lower_strict = Strict; upper_strict = NonStrict })) (between (number I32 (pos 10)) (number I32 (pos 6)) (number I32 (pos 6)) (record { lower_strict = Strict; upper_strict = NonStrict }))) }
+    ensures lower { ¬ (IsReplaced five_to_nine 0 (between (col "x") (col "x") (col "x") (record { lower_strict = Strict; upper_strict = NonStrict })) (between (number I32 (pos 6)) (number I32 (pos 10)) (number I32 (pos 6)) (record { lower_strict = Strict; upper_strict = NonStrict }))) }
+    ensures upper { ¬ (IsReplaced five_to_nine 0 (between (col "x") (col "x") (col "x") (record { lower_strict = Strict; upper_strict = NonStrict })) (between (number I32 (pos 6)) (number I32 (pos 6)) (number I32 (pos 10)) (record { lower_strict = Strict; upper_strict = NonStrict }))) }
+{}

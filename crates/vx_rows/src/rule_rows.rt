@@ -18,6 +18,7 @@ ghost use Rattle.vx_semantics.specs.Meaning.{binary3};
 ghost use Rattle.vx_semantics.specs.Samples.{alone, only, operators, kinds_of_types};
 ghost use Rattle.vx_dtype.specs.declared.StrictComparison.TheVariants.{Strict};
 ghost use Rattle.vx_dtype.specs.Order.{between3};
+ghost use Rattle.vx_dtype.specs.TypeRules.{distinct_names};
 
 /// A fault on the right of null is a fault under every operator.
 pub fn absorbs_null_before_a_fault()
@@ -111,4 +112,18 @@ pub fn lies_between_unknown_bounds()
     ensures no_bound { between3 (record { lower_strict = Strict; upper_strict = Strict }) (int_val I32 (pos 5)) null_val null_val ≡ null_val }
     ensures null { between3 (record { lower_strict = Strict; upper_strict = Strict }) null_val (int_val I32 (pos 1)) (int_val I32 (pos 9)) ≡ null_val }
     ensures upper_fault { between3 (record { lower_strict = Strict; upper_strict = Strict }) (int_val I32 (pos 5)) (int_val I32 (pos 6)) fault ≡ fault }
+{}
+
+/// A pattern is taken by characters, with and without regard to case.
+pub fn matches_characters_of_several_bytes()
+    ensures same { text_matches false (195 ∷ 169 ∷ []) (195 ∷ 169 ∷ []) ≡ true }
+    ensures folded { text_matches true (195 ∷ 169 ∷ []) (195 ∷ 169 ∷ []) ≡ true }
+    ensures one_folded { text_matches true (195 ∷ 169 ∷ []) (codes "_") ≡ true }
+{}
+
+/// A name that stands twice is found behind the first too.
+pub fn finds_each_name_that_stands_twice()
+    ensures last { distinct_names (codes "a" ∷ codes "b" ∷ codes "b" ∷ []) ≡ false }
+    ensures first { distinct_names (codes "a" ∷ codes "b" ∷ codes "a" ∷ []) ≡ false }
+    ensures none { distinct_names (codes "a" ∷ codes "b" ∷ codes "c" ∷ []) ≡ true }
 {}
