@@ -2,6 +2,8 @@
 use Rattle.std.proofs.Common.{◌≡◌, refl, ap, ◌∙◌, sym, ℕ, zero, suc, ◌+◌, ◌<◌, Bool, true, false, not, cond, nat_lt, Some, None, List, [], ◌∷◌, map, length, get_or, arith, unwrap_or}
 use Rattle.std.specs.Str.{bytes_eq}
 use Rattle.std.specs.List.{slice_get, position, position_or_len}
+use Rattle.std.proofs.lemmas.List.{length-map}
+use Rattle.vx_dtype.proofs.FieldsFrom.{length-field_types, slice_get-field_types}
 use Rattle.vx_dtype.specs.Types.{Bytes, Ty, bool_ty, int_ty, text_ty, list_ty, struct_ty, Fields, no_fields, field}
 use Rattle.vx_dtype.specs.declared.Nullability.{Nullability}
 use Rattle.vx_dtype.specs.declared.values.ScalarValue.{ScalarValue}
@@ -97,6 +99,14 @@ pub place_typed : (fs : Fields) (i : ℕ) → i < length (field_names fs) → sl
 place_typed no_fields i h = absurd (omega arith)
 place_typed (field f t fs) zero h = refl
 place_typed (field f t fs) (suc i) h = place_typed fs i (omega arith)
+
+-- so it is within what is seen as the types of the fields
+pub place_among : {A : Type 0} (see : A → Ty) (f : Bytes) (fs : Fields) (xs : List A) (i : ℕ) → position (bytes_eq f) (field_names fs) ≡ Some i → map see xs ≡ field_types fs → i < length xs
+place_among see f fs xs i p e = omega (arith, position_within f fs i p, length-field_types fs, ap length e, length-map xs see)
+
+-- and what stands there is seen as the type of the place
+pub type_placed : {A : Type 0} (see : A → Ty) (f : Bytes) (fs : Fields) (xs : List A) (i : ℕ) (x : A) → position (bytes_eq f) (field_names fs) ≡ Some i → map see xs ≡ field_types fs → x ≡ get_or xs i x → slice_get (field_types fs) i ≡ Some (see x)
+type_placed see f fs xs i x p e is = slice_get-field_types see fs xs i x e (place_among see f fs xs i p e) is
 
 -- the field at the place of its name, as a value of the field's type and nullable also where the struct is
 pub field_made : (f : Bytes) (fs : Fields) (n : Nullability) (i : ℕ) (xs : List ScalarValue) (x y : ScalarValue) → position (bytes_eq f) (field_names fs) ≡ Some i → fields_fit (raws_of (map raw_view xs)) fs ≡ true → x ≡ get_or xs i x → raw_view y ≡ raw_view x → (fits (raw_view y) (widened (type_at_place fs i) n) ≡ true) × (seen (widened (type_at_place fs i) n) y ≡ field_of f (struct_val (members_valued (raws_of (map raw_view xs)) fs)))

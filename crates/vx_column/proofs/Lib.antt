@@ -1,7 +1,6 @@
 mod FitLemmas
 mod RowLemmas
 mod OrderLemmas
-mod NameLemmas
 mod MadeLemmas
 mod SumLemmas
 mod ListLemmas

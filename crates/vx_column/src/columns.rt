@@ -9,7 +9,6 @@ ghost use Rattle.vx_dtype.specs.TypeViews.{type_view};
 ghost use Rattle.vx_column.specs.Columns.{Column, column, row_at, rows_fit, values_fit, seen, seen_rows};
 ghost use Rattle.vx_dtype.specs.declared.values.ScalarValue.{ScalarValue};
 
-use crate::duplicates::no_name_twice;
 use crate::errors::ColumnError;
 use crate::logic::is_null_value;
 use std::alloc::{AllocError, Global};
@@ -76,7 +75,7 @@ impl ColumnRef {
         if !all_fit(&dtype, values.as_slice()) {
             return Err(ColumnError::WrongValue);
         }
-        if !no_name_twice(&dtype) {
+        if !dtype.has_distinct_names() {
             return Err(ColumnError::DuplicateField);
         }
         Ok(ColumnRef::of_rows(alloc, dtype, values)?)

@@ -14,7 +14,6 @@ ghost use Rattle.vx_dtype.specs.TypeViews.{type_view};
 ghost use Rattle.vx_column.specs.Answers.{Answers, field_column, type_at_place, PartsOf};
 
 use crate::columns::ColumnRef;
-use crate::duplicates::type_at;
 use crate::errors::ColumnError;
 use crate::logic::null;
 use crate::rows::{RowRule, map_column};
@@ -64,7 +63,7 @@ impl ColumnRef {
             name,
             place,
         };
-        let dtype = type_at(fields, place).union_nullability(*nullability)?;
+        let dtype = fields.dtypes()[place].union_nullability(*nullability)?;
         Ok(map_column(alloc, &rule, dtype, self)?)
     }
 }

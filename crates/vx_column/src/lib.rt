@@ -4,7 +4,6 @@
 mod casts;
 mod columns;
 mod comparisons;
-mod duplicates;
 mod equality;
 mod errors;
 mod fields;

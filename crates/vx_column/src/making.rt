@@ -11,7 +11,6 @@ ghost use Rattle.vx_column.specs.Columns.{column};
 ghost use Rattle.vx_column.specs.Answers.{Answers, unless, optional_raw, list_raw, column_of_raws};
 
 use crate::columns::ColumnRef;
-use crate::duplicates::no_name_twice;
 use crate::errors::ColumnError;
 use std::alloc::Global;
 use std::rc::Rc;
@@ -34,7 +33,7 @@ impl ColumnRef {
     pub fn constant(alloc: Global, value: &Scalar, len: usize) -> Result<ColumnRef, ColumnError>
         ensures { Answers result (unless (no_name_twice value.now.ty) DuplicateField (Ok (column value.now.ty (replicate len (value_of value.now))))) }
     {
-        if !no_name_twice(value.dtype()) {
+        if !value.dtype().has_distinct_names() {
             return Err(ColumnError::DuplicateField);
         }
         let rows = repeated(alloc, value.value(), len)?;

@@ -8,7 +8,6 @@ ghost use Rattle.vx_column.specs.Answers.{Answers};
 ghost use Rattle.vx_column.specs.StructColumns.{projected_column, place_of, IsAtPlace};
 
 use crate::columns::ColumnRef;
-use crate::duplicates::distinct_names;
 use crate::errors::ColumnError;
 use crate::fields::parts_of;
 use crate::logic::null;
@@ -54,7 +53,7 @@ impl ColumnRef {
             return Err(ColumnError::UnknownField);
         };
         let made = fields.project(alloc, names)?;
-        if !distinct_names(names) {
+        if !FieldName::are_distinct(names) {
             return Err(ColumnError::DuplicateField);
         }
         let places = places_of(alloc, fields, names)?;

@@ -12,12 +12,11 @@ ghost use Rattle.vx_column.specs.Answers.{Answers};
 ghost use Rattle.vx_column.specs.StructColumns.{column_types, all_have_rows, truths_number, nullability_by, is_valid_row, struct_type, struct_row, struct_column, StandsAt};
 
 use crate::columns::ColumnRef;
-use crate::duplicates::distinct_names;
 use crate::errors::ColumnError;
 use crate::logic::null;
 use std::alloc::Global;
 use std::rc::Rc;
-use vx_dtype::{DType, FieldNames, Mem, Nullability, ScalarValue, StructFields};
+use vx_dtype::{DType, FieldName, FieldNames, Mem, Nullability, ScalarValue, StructFields};
 
 impl ColumnRef {
     /// The column of structs with these names, whose fields at each row are the columns' values there; null where the truths say that a row isn't valid. Its type is nullable exactly where there are truths. WrongLength exactly where names and columns differ in number, or a column or the truths don't have this many rows; else DuplicateField exactly where a name stands twice.
@@ -40,7 +39,7 @@ impl ColumnRef {
         if !truths_number(len, truths) {
             return Err(ColumnError::WrongLength);
         }
-        if !distinct_names(names.as_slice()) {
+        if !FieldName::are_distinct(names.as_slice()) {
             return Err(ColumnError::DuplicateField);
         }
         let rows = struct_rows(alloc, fields.as_slice(), len, truths)?;

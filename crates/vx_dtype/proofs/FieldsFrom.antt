@@ -1,7 +1,8 @@
 -- The fields of a struct from a place on, as a loop over them meets them.
-use Rattle.std.proofs.Common.{◌≡◌, ◌≢◌, ℕ, zero, suc, ◌≤◌, ◌<◌, [], length, Some, None, refl, ap, ◌∙◌, arith}
+use Rattle.std.proofs.Common.{◌≡◌, ◌≢◌, ℕ, zero, suc, ◌≤◌, ◌<◌, List, [], length, map, Some, None, option_map, refl, sym, ap, ◌∙◌, arith}
 use Rattle.std.specs.List.{slice_get}
-use Rattle.std.proofs.lemmas.Option.{none-some, same_Some, slice_get-get_or}
+use Rattle.std.proofs.Math.ListN.{get_or}
+use Rattle.std.proofs.lemmas.Option.{none-some, same_Some, slice_get-get_or, slice_get-map}
 use Rattle.vx_dtype.specs.Types.{Bytes, Ty, Fields, no_fields, field}
 use Rattle.vx_dtype.specs.TypeRules.{field_names, depth_of, depth_below}
 use Rattle.vx_dtype.specs.StructTypes.{field_types}
@@ -34,6 +35,16 @@ pub has_type_at : (fs : Fields) (i : ℕ) → i < length (field_names fs) → No
 has_type_at no_fields i lt e = absurd (omega arith)
 has_type_at (field f t fs) zero lt e = none-some t e
 has_type_at (field f t fs) (suc i) lt e = has_type_at fs i (omega arith) e
+
+-- there are as many types as names
+pub length-field_types : (fs : Fields) → length (field_types fs) ≡ length (field_names fs)
+length-field_types no_fields = refl
+length-field_types (field f t fs) = omega (arith, length-field_types fs)
+
+-- what is seen as the types of the fields has the type of each place there
+pub slice_get-field_types : {A : Type 0} (see : A → Ty) (fs : Fields) (xs : List A) (i : ℕ) (x : A) → map see xs ≡ field_types fs → i < length xs → x ≡ get_or xs i x → slice_get (field_types fs) i ≡ Some (see x)
+slice_get-field_types see fs xs i x e h is =
+    ap (λ ts. slice_get ts i) (sym e) ∙ slice_get-map see xs i ∙ ap (option_map see) (slice_get-get_or xs i x h) ∙ ap (λ y. Some (see y)) (sym is)
 
 -- the type at a place is no deeper than the deepest
 pub depth-at : (i : ℕ) (fs : Fields) (t : Ty) → slice_get (field_types fs) i ≡ Some t → depth_of t ≤ depth_below fs

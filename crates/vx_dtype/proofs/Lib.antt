@@ -8,3 +8,4 @@ pub mod PathLemmas
 pub mod ProjectionLemmas
 pub mod TextLemmas
 pub mod FieldsFrom
+pub mod DistinctLemmas

@@ -8,6 +8,7 @@ ghost use Rattle.std.proofs.lemmas.Slice.Eq.{bytes_eq-Decides};
 ghost use Rattle.vx_dtype.specs.Equal.{names_eq};
 ghost use Rattle.vx_dtype.specs.EqualLaws.{bytes_eq_equiv, names_eq_equiv, names_decides};
 ghost use Rattle.vx_dtype.specs.Feeds.{bytes_feed, names_feed};
+ghost use Rattle.vx_dtype.specs.TypeRules.{distinct_names, has_name};
 ghost use Rattle.std.specs.Fmt.{WritesOnOk};
 ghost use Rattle.vx_dtype.specs.Texts.{separator_at, quoted_text, quoted_names, names_text};
 
@@ -93,6 +94,25 @@ impl FieldName {
     {
         self.text.as_str()
     }
+
+    /// Whether no name stands twice among these.
+    pub fn are_distinct(names: &[FieldName]) -> bool
+        ensures { result ≡ distinct_names names.now }
+    {
+        for i in 0..names.len() {
+            if has_name(&names[i], &names[i + 1..]) {
+                return false;
+            }
+        }
+        true
+    }
+}
+
+/// Whether the name is one of these.
+fn has_name(name: &FieldName, names: &[FieldName]) -> bool
+    ensures { result ≡ has_name name.now names.now }
+{
+    names.iter().any(|other| name.as_str() == other.as_str())
 }
 
 impl Clone for FieldName {

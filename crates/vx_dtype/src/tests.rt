@@ -1,4 +1,6 @@
 // Tables of printed texts and of ends, and each call that takes memory once with ample memory.
+ghost use Rattle.std.specs.Prelude.{◌≡◌, length, IfOk};
+
 use crate::{
     CompareOperator, DType, ElementType, FieldName, FieldNames, FieldPath, FieldPathSet, Mem,
     Nullability, PType, Stat, StructFields, Text,
@@ -29,7 +31,9 @@ fn integer_types_have_their_ends(rt: HostRuntime) {
     }
 }
 
-fn names(alloc: Global, first: &str, second: &str) -> Mem<FieldNames> {
+fn names(alloc: Global, first: &str, second: &str) -> Mem<FieldNames>
+    ensures { IfOk result (λ names. length names ≡ 2) }
+{
     let mut names = Vec::new(alloc);
     names.push(FieldName::new(alloc, first)?)?;
     names.push(FieldName::new(alloc, second)?)?;
@@ -89,6 +93,52 @@ fn names_print_within_quotes(rt: HostRuntime) -> Result<(), Fail> {
     let escaped = names(alloc, "\"\\\u{8}\t\n\u{c}\r", "\0\u{1f} \u{7f}é😀")?;
     let want = "[\"\\\"\\\\\\b\\t\\n\\f\\r\", \"\\u0000\\u001f \u{7f}é😀\"]";
     assert_eq!(rt; escaped.to_string(alloc)?.as_str(), want);
+    Ok(())
+}
+
+fn fields(alloc: Global, first: &str, second: &str, dtype: DType) -> Mem<StructFields> {
+    let names = names(alloc, first, second)?;
+    let mut dtypes = Vec::new(alloc);
+    dtypes.push(dtype)?;
+    dtypes.push(DType::Bool(Nullability::Nullable))?;
+    StructFields::new(alloc, names, dtypes)
+}
+
+#[test]
+fn names_stand_once(rt: HostRuntime) -> Result<(), Fail> {
+    let alloc = rt.alloc();
+    let table = [
+        ("a", "b", true),
+        ("a", "a", false),
+        ("a", "A", true),
+        ("", "", false),
+    ];
+    for (first, second, want) in table {
+        let names = names(alloc, first, second)?;
+        assert_eq!(rt; FieldName::are_distinct(names.as_slice()), want);
+        let inner = fields(alloc, first, second, DType::Utf8(Nullability::Nullable))?;
+        assert_eq!(rt; inner.has_distinct_names(), want);
+        let item = DType::Struct(inner, Nullability::NonNullable);
+        let items = list(alloc, item, Nullability::Nullable)?;
+        assert_eq!(rt; items.has_distinct_names(), want);
+        let outer = fields(alloc, "a", "b", items)?;
+        assert_eq!(rt; outer.has_distinct_names(), want);
+    }
+    Ok(())
+}
+
+#[test]
+fn types_stand_in_order(rt: HostRuntime) -> Result<(), Fail> {
+    let alloc = rt.alloc();
+    let texts = fields(alloc, "a", "b", DType::Utf8(Nullability::NonNullable))?;
+    let table = [
+        DType::Utf8(Nullability::NonNullable),
+        DType::Bool(Nullability::Nullable),
+    ];
+    assert_eq!(rt; texts.dtypes().len(), table.len());
+    for i in 0..table.len() {
+        assert_eq!(rt; texts.dtypes().get(i), table.get(i));
+    }
     Ok(())
 }
 

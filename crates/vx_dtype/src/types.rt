@@ -14,6 +14,7 @@ use std::rc::Rc;
 
 mod depth;
 mod display;
+mod distinct;
 mod equality;
 mod fields;
 pub(crate) mod fitting;

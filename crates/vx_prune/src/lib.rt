@@ -1,7 +1,6 @@
 //! Statistics of a table's blocks, and the blocks that they rule out.
 #![tactic(auto)]
 
-mod duplicates;
 mod errors;
 mod leaves;
 #[cfg(test)]

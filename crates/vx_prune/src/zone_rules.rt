@@ -8,7 +8,6 @@ ghost use Rattle.vx_dtype.specs.TypeViews.{type_view};
 ghost use Rattle.vx_prune.specs.Zoning.{broken_rule, are_shallow, type_of_statistic, same_statistic, distinct_statistics, counts_blocks, has_its_type};
 ghost use Rattle.vx_prune.specs.ZoneViews.{stat_view};
 
-use crate::duplicates::{no_field_twice, type_at_place};
 use crate::errors::ZoneError;
 use crate::leaves::leaf_type;
 use crate::zones::ZoneStat;
@@ -26,7 +25,7 @@ pub(crate) fn broken_rule(
 ) -> Mem<Option<ZoneError>>
     ensures { IfOk result (λ rule. rule ≡ broken_rule (record { columns = columns.now; lengths = lengths.now; stats = map stat_view stats.now })) }
 {
-    if !no_field_twice(columns) {
+    if !columns.has_distinct_names() {
         return Ok(Some(ZoneError::DuplicateName));
     }
     if !are_shallow(columns) {
@@ -48,11 +47,12 @@ pub(crate) fn broken_rule(
 }
 
 /// Whether no column's type is deeper than 64.
+#[tactic(auto, using(crate::proofs::DepthLemmas::are_shallow_all))]
 fn are_shallow(columns: &StructFields) -> bool
     ensures { result ≡ are_shallow columns.now }
 {
-    for i in 0..columns.nfields() {
-        if type_at_place(columns, i).depth() > MOST_DEEP {
+    for dtype in columns.dtypes() {
+        if dtype.depth() > MOST_DEEP {
             return false;
         }
     }

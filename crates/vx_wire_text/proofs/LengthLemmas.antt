@@ -10,7 +10,7 @@ use Rattle.vx_dtype.specs.StructTypes.{field_types}
 use Rattle.vx_wire_text.specs.Fields.{IsShort, IsText}
 use Rattle.vx_wire_text.specs.TypeForms.{NamesAre, FieldNamesAre, HasNames, HaveNames}
 use Rattle.vx_wire_text.specs.ValueForms.{raws_number, TextsAre, AllTextsAre}
-use Rattle.vx_wire_text.proofs.TypeWriting.{fields_from, length-field_names, fields_from-suc, fields_from-all}
+use Rattle.vx_dtype.proofs.FieldsFrom.{fields_from, fields_from-here, fields_from-past}
 
 -- the fields before a place are short, so those from it on decide
 pub record IsTestingFields (fs : Fields) (i : ℕ) : Type 0 where
@@ -21,7 +21,7 @@ pub record IsTestingFields (fs : Fields) (i : ℕ) : Type 0 where
 pub fields_go_on : (fs : Fields) (i : ℕ) (f : Bytes) (t : Ty) → slice_get (field_names fs) i ≡ Some f → slice_get (field_types fs) i ≡ Some t → IsText f → NamesAre IsShort t → HasNames t → IsTestingFields fs i → IsTestingFields fs (i + 1)
 fields_go_on fs i f t a b name short names w =
     let k : suc i ≡ i + 1 = omega arith in
-    let here = fields_from-suc i fs f t a b in
+    let here = fields_from-here i fs f t a b in
     let next : IsTestingFields fs (suc i) = record {
       back = λ h. w.back (subst HaveNames (sym here) (name, names, h));
       shorts = λ h. w.shorts (subst (FieldNamesAre IsShort) (sym here) (name.short, short, h));
@@ -30,11 +30,11 @@ fields_go_on fs i f t a b name short names w =
     subst (IsTestingFields fs) k next
 
 pub long_name : (fs : Fields) (i : ℕ) (f : Bytes) (t : Ty) → slice_get (field_names fs) i ≡ Some f → slice_get (field_types fs) i ≡ Some t → IsTestingFields fs i → FieldNamesAre IsShort fs → IsShort f × NamesAre IsShort t
-long_name fs i f t a b w h = let here = subst (FieldNamesAre IsShort) (fields_from-suc i fs f t a b) (w.forth h) in (here.0, here.1)
+long_name fs i f t a b w h = let here = subst (FieldNamesAre IsShort) (fields_from-here i fs f t a b) (w.forth h) in (here.0, here.1)
 
 pub fields_pass : (fs : Fields) (i : ℕ) → length (field_names fs) ≤ i → IsTestingFields fs i → HaveNames fs × FieldNamesAre IsShort fs
 fields_pass fs i le w =
-    let none = fields_from-all i fs (omega (arith, length-field_names fs)) in
+    let none = fields_from-past i fs le in
     (w.back (subst HaveNames (sym none) tt), w.shorts (subst (FieldNamesAre IsShort) (sym none) tt))
 
 -- a test that failed decides what cannot be

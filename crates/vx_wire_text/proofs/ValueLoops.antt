@@ -9,7 +9,7 @@ use Rattle.vx_dtype.specs.Values.{Raw, Raws, no_raws, raw}
 use Rattle.vx_dtype.specs.RawViews.{raws_of}
 use Rattle.vx_wire_text.specs.Reading.{◌>>=◌, number_at}
 use Rattle.vx_wire_text.specs.ValueReading.{elements_with, all_elements_with, members_at, value_at}
-use Rattle.vx_wire_text.proofs.TypeWriting.{fields_from, length-field_names, fields_from-all}
+use Rattle.vx_dtype.proofs.FieldsFrom.{fields_from, fields_from-past}
 
 -- one row of values behind another
 abbrev pub joined_raws : Raws → Raws → Raws
@@ -111,5 +111,5 @@ module _ {A : Type 0} (see : A → Raw) where
   pub members_end : (fs : Fields) (bytes : Bytes) (i : ℕ) (rest : Bytes) (xs : List A) → length (field_names fs) ≤ i → IsReadingMembers fs bytes i rest xs → Some (raws_of (map see xs), rest) ≡ members_at fs bytes
   unfolding members_at
   members_end fs bytes i rest xs le so_far =
-      let none = fields_from-all i fs (omega (arith, length-field_names fs)) in
+      let none = fields_from-past i fs le in
       sym (so_far ∙ ap (λ gs. with_raws (raws_of (map see xs)) (members_at gs rest)) none ∙ with_raws-end (raws_of (map see xs)) rest)

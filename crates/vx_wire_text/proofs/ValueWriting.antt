@@ -12,7 +12,8 @@ use Rattle.vx_dtype.specs.StructTypes.{field_types}
 use Rattle.vx_wire_text.specs.Numbers.{number_bytes}
 use Rattle.vx_wire_text.specs.Fields.{Extends, IsShort}
 use Rattle.vx_wire_text.specs.ValueForms.{little_endian, raws_number, value_bytes, elements_bytes, members_bytes, TextsAre, AllTextsAre}
-use Rattle.vx_wire_text.proofs.TypeWriting.{extends_by, extends_then, fields_from}
+use Rattle.vx_dtype.proofs.FieldsFrom.{fields_from}
+use Rattle.vx_wire_text.proofs.TypeWriting.{extends_by, extends_then}
 use Rattle.vx_wire_text.proofs.LengthLemmas.{raws_number_map}
 
 pub both_true : (a b : Bool) → (a && b) ≡ true → (a ≡ true) × (b ≡ true)

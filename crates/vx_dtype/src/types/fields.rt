@@ -19,6 +19,14 @@ impl StructFields {
         self.names.get(i)
     }
 
+    /// The types of the fields, in order.
+    #[tactic(auto, using(crate::proofs::ZippedLemmas::field_types_zipped))]
+    pub fn dtypes(&self) -> &[DType]
+        ensures { map type_view result.now ≡ field_types self.now }
+    {
+        self.dtypes.as_slice()
+    }
+
     /// The type at this place, counted from 0.
     #[tactic(auto, using(crate::proofs::ZippedLemmas::type_at_zipped, crate::proofs::ZippedLemmas::type_past_zipped))]
     pub fn field_by_index(&self, i: usize) -> Option<&DType>

@@ -2,7 +2,8 @@ use Rattle.std.proofs.Common.{◌<◌, ◌≤◌, refl, sym, ap, subst, arith}
 use Rattle.vx_dtype.specs.TypeRules.{depth_of}
 use Rattle.vx_dtype.specs.TypeViews.{type_view}
 use Rattle.vx_wire_text.specs.Fields.{IsShort, IsText}
-use Rattle.vx_wire_text.proofs.TypeWriting.{length-field_names, depth-at, has_name_at, has_type_at}
+use Rattle.vx_dtype.proofs.FieldsFrom.{depth-at, has_name_at, has_type_at}
+use Rattle.vx_wire_text.proofs.TypeWriting.{length-field_names}
 use Rattle.vx_wire_text.proofs.LengthLemmas.{fields_go_on, long_name, fields_pass, decides_no, decides_yes}
 use Rattle.vx_wire_text.proofs.lengths.+has_short_names.Goals as goal
 

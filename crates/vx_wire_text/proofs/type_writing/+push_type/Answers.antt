@@ -4,7 +4,8 @@ use Rattle.vx_dtype.specs.TypeRules.{depth_of}
 use Rattle.vx_dtype.specs.TypeViews.{type_view}
 use Rattle.vx_wire_text.specs.Numbers.{piece_bytes}
 use Rattle.vx_wire_text.specs.TypeForms.{HasNames}
-use Rattle.vx_wire_text.proofs.TypeWriting.{extends_then, extends_by, length-field_names, depth-at, fields_start, field_names_here, fields_step, fields_end, has_name_at, has_type_at}
+use Rattle.vx_dtype.proofs.FieldsFrom.{depth-at, has_name_at, has_type_at}
+use Rattle.vx_wire_text.proofs.TypeWriting.{extends_then, extends_by, length-field_names, fields_start, field_names_here, fields_step, fields_end}
 use Rattle.vx_wire_text.proofs.type_writing.+push_type.Goals as goal
 
 pub push_fields-overflow_cast-nfields : goal.push_fields-overflow_cast-nfields

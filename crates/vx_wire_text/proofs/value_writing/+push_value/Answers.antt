@@ -14,7 +14,8 @@ use Rattle.vx_dtype.specs.declared.values.ScalarValue.TheFolds.{fold-roll-Scalar
 use Rattle.vx_wire_text.specs.Numbers.{piece_bytes, number_bytes}
 use Rattle.vx_wire_text.specs.Fields.{IsShort}
 use Rattle.vx_wire_text.specs.ValueForms.{integer_bytes, raws_number, elements_bytes, members_bytes, TextsAre}
-use Rattle.vx_wire_text.proofs.TypeWriting.{depth-at, extends_then}
+use Rattle.vx_dtype.proofs.FieldsFrom.{depth-at}
+use Rattle.vx_wire_text.proofs.TypeWriting.{extends_then}
 use Rattle.vx_wire_text.proofs.LengthLemmas.{raws_number_map}
 use Rattle.vx_wire_text.proofs.ValueWriting.{elements_start, element_here, elements_step, member_has_type, member_here, members_step, then_more, ok_then, value_is, fit_is}
 use Rattle.vx_wire_text.proofs.value_writing.+push_value.Goals as goal

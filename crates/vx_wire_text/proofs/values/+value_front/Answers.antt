@@ -10,7 +10,7 @@ use Rattle.vx_dtype.specs.declared.values.ScalarValue.TheVariants.{rolls-List}
 use Rattle.vx_dtype.specs.declared.values.ScalarValue.TheFolds.{fold-roll-ScalarValue}
 use Rattle.vx_wire_text.specs.Reading.{◌>>=◌}
 use Rattle.vx_wire_text.specs.ValueReading.{kind_at, value_at}
-use Rattle.vx_wire_text.proofs.TypeWriting.{depth-at, has_type_at}
+use Rattle.vx_dtype.proofs.FieldsFrom.{depth-at, has_type_at}
 use Rattle.vx_wire_text.proofs.ValueLoops.{elements_start, elements_go_on, no_element, elements_end, no_elements_start, members_go_on, no_member, members_end}
 use Rattle.vx_wire_text.proofs.values.+value_front.Goals as goal
 

@@ -9,6 +9,6 @@ of_rows-requires-clause-fit c =
 
 pub returns : goal.returns
 returns c =
-    let distinct : no_name_twice c.args.value.now.ty ≡ true = ap no_name_twice (sym c.dtype.ensures) ∙ sym c.if-not-no_name_twice.ensures in
+    let distinct : no_name_twice c.args.value.now.ty ≡ true = ap no_name_twice (sym c.dtype.ensures) ∙ sym c.if-not-has_distinct_names.ensures in
     let rows = raw_rows_repeated c.args.value.now.ty c.args.len c.args.value.now.value in
     rw (distinct, c.in_ok-of_rows.ensures, c.in_ok-clone.ensures.cases, c.dtype-2.ensures, c.in_ok-rows.ensures, c.value.ensures.held, rows) refl

@@ -1,4 +1,5 @@
-use Rattle.std.proofs.Common.{◌≡◌, true, refl, ap, sym, ◌∙◌, map, Some, None, Ok}
+use Rattle.std.proofs.Common.{rules, ◌≡◌, true, refl, ap, sym, ◌∙◌, map, Some, None, Ok}
+use Rattle.std.proofs.lemmas.Option.{same_Some}
 use Rattle.std.specs.Str.{bytes_eq}
 use Rattle.std.specs.List.{position}
 use Rattle.vx_dtype.specs.Types.{struct_ty}
@@ -6,7 +7,8 @@ use Rattle.vx_dtype.specs.TypeRules.{no_name_twice, field_type, field_names, fie
 use Rattle.vx_dtype.specs.TypeViews.{type_view}
 use Rattle.vx_dtype.specs.Structs.{field_of}
 use Rattle.vx_column.specs.Columns.{column}
-use Rattle.vx_column.proofs.FieldLemmas.{field_missing, field_typed, names_at, names_of_struct, names_widened}
+use Rattle.vx_column.specs.Answers.{type_at_place}
+use Rattle.vx_column.proofs.FieldLemmas.{field_missing, field_typed, names_at, names_of_struct, names_widened, place_among, place_typed, position_within, type_placed}
 use Rattle.vx_column.proofs.columns.ColumnRef.field.Goals as goal
 
 pub returns-in_default-position : goal.returns-in_default-position
@@ -16,19 +18,41 @@ returns-in_default-position c =
     let missing : field_type c.args.name.now (fields_of c.args.self.now.ty) ≡ None = ap (λ t. field_type c.args.name.now (fields_of t)) ty ∙ field_missing c.args.name.now c.in-Struct.fields place in
     rw missing refl
 
+pub bounds-dtypes-place : goal.bounds-dtypes-place
+bounds-dtypes-place c =
+    let place : position (bytes_eq c.args.name.now) (field_names c.in-Struct.fields) ≡ Some c.in-Some.place = rw c.names.ensures at (sym c.position.ensures ∙ c.in-Some.is) in
+    place_among type_view c.args.name.now c.in-Struct.fields c.dtypes.result.now c.in-Some.place place c.dtypes.ensures
+
+pub offset_bounds-dtypes-place : goal.offset_bounds-dtypes-place
+offset_bounds-dtypes-place c =
+    let place : position (bytes_eq c.args.name.now) (field_names c.in-Struct.fields) ≡ Some c.in-Some.place = rw c.names.ensures at (sym c.position.ensures ∙ c.in-Some.is) in
+    let within = place_among type_view c.args.name.now c.in-Struct.fields c.dtypes.result.now c.in-Some.place place c.dtypes.ensures in
+    search (rules, within)
+
+pub map_column-requires-clause-made : goal.map_column-requires-clause-made
+map_column-requires-clause-made c =
+    let place : position (bytes_eq c.args.name.now) (field_names c.in-Struct.fields) ≡ Some c.in-Some.place = rw c.names.ensures at (sym c.position.ensures ∙ c.in-Some.is) in
+    let there = type_placed type_view c.args.name.now c.in-Struct.fields c.dtypes.result.now c.in-Some.place c.index-dtypes-place.result place c.dtypes.ensures c.index-dtypes-place.is in
+    let same : type_view c.index-dtypes-place.result ≡ type_at_place c.in-Struct.fields c.in-Some.place =
+    same_Some _ _ (sym there ∙ place_typed c.in-Struct.fields c.in-Some.place (position_within c.args.name.now c.in-Struct.fields c.in-Some.place place)) in
+    search (rules, same)
+
 pub map_column-requires-clause-names : goal.map_column-requires-clause-names
 map_column-requires-clause-names c =
     let ty : c.args.self.now.ty ≡ struct_ty c.in-Struct.fields c.in-Struct.nullability = sym c.dtype.ensures.shown ∙ ap type_view c.in-Struct.is in
     let names : no_name_twice (struct_ty c.in-Struct.fields c.in-Struct.nullability) ≡ true = ap no_name_twice (sym ty) ∙ c.dtype.ensures.names in
     let below = names_of_struct c.in-Struct.fields c.in-Struct.nullability names in
-    let here = names_at c.in-Struct.fields c.in-Some.place _ below c.type_at.ensures in
+    let place : position (bytes_eq c.args.name.now) (field_names c.in-Struct.fields) ≡ Some c.in-Some.place = rw c.names.ensures at (sym c.position.ensures ∙ c.in-Some.is) in
+    let there = type_placed type_view c.args.name.now c.in-Struct.fields c.dtypes.result.now c.in-Some.place c.index-dtypes-place.result place c.dtypes.ensures c.index-dtypes-place.is in
+    let here = names_at c.in-Struct.fields c.in-Some.place _ below there in
     ap no_name_twice c.in_ok-dtype.ensures ∙ names_widened _ _ here
 
 pub returns : goal.returns
 returns c =
     let ty : c.args.self.now.ty ≡ struct_ty c.in-Struct.fields c.in-Struct.nullability = sym c.dtype.ensures.shown ∙ ap type_view c.in-Struct.is in
     let place : position (bytes_eq c.args.name.now) (field_names c.in-Struct.fields) ≡ Some c.in-Some.place = rw c.names.ensures at (sym c.position.ensures ∙ c.in-Some.is) in
-    let there : field_type c.args.name.now (fields_of c.args.self.now.ty) ≡ Some (type_view c.type_at.result.now) = ap (λ t. field_type c.args.name.now (fields_of t)) ty ∙ field_typed c.args.name.now c.in-Struct.fields c.in-Some.place _ place c.type_at.ensures in
-    let made : c.in_ok-map_column.field-0.ty ≡ widened (type_view c.type_at.result.now) (nullability_of c.args.self.now.ty) = c.in_ok-map_column.ensures.dtype ∙ c.in_ok-dtype.ensures ∙ ap (λ t. widened (type_view c.type_at.result.now) (nullability_of t)) (sym ty) in
-    let same : c.in_ok-map_column.field-0 ≡ column (widened (type_view c.type_at.result.now) (nullability_of c.args.self.now.ty)) (map (field_of c.args.name.now) c.args.self.now.rows) = λ i. column (made i) (c.in_ok-map_column.ensures.rows i) in
+    let type_there = type_placed type_view c.args.name.now c.in-Struct.fields c.dtypes.result.now c.in-Some.place c.index-dtypes-place.result place c.dtypes.ensures c.index-dtypes-place.is in
+    let there : field_type c.args.name.now (fields_of c.args.self.now.ty) ≡ Some (type_view c.index-dtypes-place.result) = ap (λ t. field_type c.args.name.now (fields_of t)) ty ∙ field_typed c.args.name.now c.in-Struct.fields c.in-Some.place _ place type_there in
+    let made : c.in_ok-map_column.field-0.ty ≡ widened (type_view c.index-dtypes-place.result) (nullability_of c.args.self.now.ty) = c.in_ok-map_column.ensures.dtype ∙ c.in_ok-dtype.ensures ∙ ap (λ t. widened (type_view c.index-dtypes-place.result) (nullability_of t)) (sym ty) in
+    let same : c.in_ok-map_column.field-0 ≡ column (widened (type_view c.index-dtypes-place.result) (nullability_of c.args.self.now.ty)) (map (field_of c.args.name.now) c.args.self.now.rows) = λ i. column (made i) (c.in_ok-map_column.ensures.rows i) in
     rw there (ap (λ d. Ok d) same)

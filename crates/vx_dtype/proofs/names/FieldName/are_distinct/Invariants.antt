@@ -1,6 +1,6 @@
 use Rattle.std.proofs.Common.{◌≡◌, drop}
 use Rattle.vx_dtype.specs.TypeRules.{distinct_names}
-use Rattle.vx_column.proofs.duplicates.distinct_names.Given as goal
+use Rattle.vx_dtype.proofs.names.FieldName.are_distinct.Given as goal
 
 -- what is left to test
 abbrev pub invariant-loop-i : goal.invariant-loop-i
