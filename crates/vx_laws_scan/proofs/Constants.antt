@@ -1,5 +1,5 @@
 -- The constants that stand in for operands: any value between the operand's bounds.
-use Rattle.std.proofs.Common.{◌≡◌, ℕ, refl, ap, sym, ◌∙◌, Bool, true, false, not, Option, Some, None, subst, List, [], ◌∷◌, Ok}
+use Rattle.std.proofs.Common.{◌≡◌, ℕ, refl, ap, sym, ◌∙◌, Bool, true, false, not, Option, Some, None, subst, List, [], Ok}
 use Rattle.std.specs.Prelude.{ℤ, ◌<ℤ◌, is_some, MatchOption}
 use Rattle.std.specs.declared.cmp.Ordering.{Ordering}
 use Rattle.std.specs.declared.cmp.Ordering.TheVariants.{Less, Equal, Greater}
@@ -25,7 +25,7 @@ use Rattle.vx_semantics.specs.Typing.{typed_of}
 use Rattle.vx_semantics.specs.Meaning.{Slots, mean}
 use Rattle.vx_semantics.specs.Tables.{Zones, row_type}
 use Rattle.vx_semantics.specs.Honest.{is_null_val, compares}
-use Rattle.vx_semantics.specs.Pruning.{path_with, path_of, known, known_at, known_bound, known_compare}
+use Rattle.vx_semantics.specs.Pruning.{path_of, known, known_at, known_bound, known_compare}
 use Rattle.vx_semantics.specs.Instances.{without_ranges, IsConstantFor, IsReplaced}
 use Rattle.vx_laws.proofs.Inverting.{bytes_same}
 use Rattle.vx_laws.proofs.Comparing.{same_ptype-same, order-swap, reversed}
@@ -33,6 +33,7 @@ use Rattle.vx_laws.proofs.Fitting.{valued-fits}
 use Rattle.vx_laws.proofs.Preserving.{literal_type-ok}
 use Rattle.vx_laws.proofs.Sound.{kind_of}
 use Rattle.vx_laws_scan.specs.Exactness.{is_operand, IsBounded, PathsAreBounded}
+use Rattle.vx_laws_scan.proofs.HonestRows.{begun}
 use Rattle.vx_laws_scan.proofs.Ordered.{compares-stands, compares-order, stands-compares, IsAtMost, IsAtMost-itself, is_ordered, ordered-left, ordered-right}
 use Rattle.vx_laws_scan.proofs.Bounds.{IsWithin, itself-within}
 
@@ -156,11 +157,11 @@ pub record Operand (zones : Zones) (block : ℕ) (slots : Slots) (row : Val) (e 
   pub within : (i : Tree) → IsReplaced zones block e i → IsWithin (λ s. known_bound zones block s e) (mean (row_type zones.columns) slots row i)
 
 -- a chain of field accesses has no range in it
-path-unranged : (names : List Bytes) (e : Tree) (path : List Bytes) → path_with names e ≡ Some path → without_ranges e ≡ e
+path-unranged : (e : Tree) (path : List Bytes) → path_of e ≡ Some path → without_ranges e ≡ e
 unfolding without_ranges
-path-unranged names root path h = refl
-path-unranged names (get_item f d) path h = ap (get_item f) (path-unranged (f ∷ names) d path h)
-path-unranged names _ path h = let no : ⊥ = cc in absurd no
+path-unranged root path h = refl
+path-unranged (get_item f d) path h = let b = begun (path_of d) f path h in ap (get_item f) (path-unranged d b.0 b.1)
+path-unranged _ path h = let no : ⊥ = cc in absurd no
 
 -- a path is replaced by a constant, as a whole
 replaced-from : (zones : Zones) (block : ℕ) (e : Tree) (path : List Bytes) (i : Tree) → path_of e ≡ Some path → IsConstantFor zones block e i → IsReplaced zones block e i
@@ -197,7 +198,7 @@ path-operand zones block slots row e path h kb b = record {
   low_known = ordered-not_null (valued b.low b.ty) (ordered-left Lte (valued b.low b.ty) (valued b.high b.ty) b.in_order);
   high_known = ordered-not_null (valued b.high b.ty) (ordered-right Lte (valued b.low b.ty) (valued b.high b.ty) b.in_order);
   in_order = b.in_order;
-  unranged = path-unranged [] e path h;
+  unranged = path-unranged e path h;
   at = λ x f lo hi. record {
     tree = literal (record { ty = b.ty; value = x });
     replaced = replaced-from zones block e path (literal (record { ty = b.ty; value = x })) h (

@@ -1,6 +1,6 @@
 -- Which blocks a filter rules out by their statistics: those where the known bounds leave it nowhere true.
 -- A bound that is null, missing, or under a joined name that two statistics have is not known, and rules nothing out.
-use Rattle.std.specs.Prelude.{ℕ, pos, nat_eq, Bool, true, false, cond, not, ◌&&◌, ◌||◌, List, [], ◌∷◌, length, Option, Some, None, is_some, slice_get}
+use Rattle.std.specs.Prelude.{ℕ, pos, nat_eq, Bool, true, false, cond, not, ◌&&◌, ◌||◌, List, [], ◌∷◌, ◌++◌, length, Option, Some, None, is_some, option_map, slice_get}
 use Rattle.std.specs.List.{filter, find}
 use Rattle.std.specs.Str.{bytes_eq}
 use Rattle.vx_dtype.specs.declared.PType.TheVariants.{U64}
@@ -19,15 +19,11 @@ use Rattle.vx_semantics.specs.Meaning.{Slots, slot_value}
 use Rattle.vx_semantics.specs.Tables.{ZoneStat, Zones, same_stat, joined_name}
 use Rattle.vx_semantics.specs.Honest.{compares}
 
--- the path of a chain of field accesses over the row, the outermost name first or the names in order from the row on
-abbrev pub path_with : List Bytes → Tree → Option (List Bytes)
-path_with names root = Some names
-path_with names (get_item f e) = path_with (f ∷ names) e
-path_with names _ = None
-
--- the names from the row on, none where the expression is no such chain
+-- the names from the row on of a chain of field accesses over the row, none where the expression is no such chain
 abbrev pub path_of : Tree → Option (List Bytes)
-path_of e = path_with [] e
+path_of root = Some []
+path_of (get_item f e) = option_map (λ names. names ++ f ∷ []) (path_of e)
+path_of _ = None
 
 -- whether a statistic has this joined name, and whether it is of this path and kind
 abbrev pub is_joined : Bytes → ZoneStat → Bool
