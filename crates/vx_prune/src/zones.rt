@@ -129,13 +129,15 @@ impl ZoneMap {
     pub fn lengths(&self) -> &[u32]
         ensures lengths { result.now ≡ self.now.lengths }
         ensures few { length self.now.lengths < 2 ^ 32 }
+        ensures rules { broken_rule self.now ≡ None }
     {
         self.lengths.as_slice()
     }
 
     /// The statistics, in order.
     pub fn stats(&self) -> &[ZoneStat]
-        ensures { map stat_view result.now ≡ self.now.stats }
+        ensures stats { map stat_view result.now ≡ self.now.stats }
+        ensures rules { broken_rule self.now ≡ None }
     {
         self.stats.as_slice()
     }

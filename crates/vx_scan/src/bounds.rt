@@ -27,7 +27,6 @@ pub(crate) fn is_ruled_out(zones: &ZoneMap, block: u32, plan: &Plan) -> bool
     ensures gives { result ≡ rules_out zones.now [] block (filter_of plan.now) }
     ensures rules { broken_rule zones.now ≡ None }
 {
-    let _dtype = zones.dtype();
     let least = bound(zones, &plan.column, Stat::Min, block);
     let greatest = bound(zones, &plan.column, Stat::Max, block);
     leaves_nowhere_true(plan.operator, least, greatest, number(&plan.constant))
@@ -89,9 +88,9 @@ fn holds(operator: CompareOperator, order: Ordering) -> bool
 fn bound(zones: &ZoneMap, column: &FieldName, stat: Stat, block: u32) -> Option<i128>
     requires zones { are_plain_zones zones.now ≡ true }
     requires stat { same_stat stat Min || same_stat stat Max ≡ true }
-    ensures { i64_value result ≡ known_in (available zones.now (column.now ∷ []) stat) block }
+    ensures gives { i64_value result ≡ known_in (available zones.now (column.now ∷ []) stat) block }
+    ensures rules { broken_rule zones.now ≡ None }
 {
-    let _dtype = zones.dtype();
     match statistic(zones.stats(), column, stat) {
         Some(found) => known_at(found.values.as_slice(), block),
         None => None,

@@ -1,9 +1,10 @@
 // Scans: the plan of two byte texts, block by block, and the report.
-ghost use Rattle.std.specs.Prelude.{◌≡◌, ◌+◌, ◌<◌, true, [], ◌∷◌, length, map, IfOk, IsErrOf};
+ghost use Rattle.std.specs.Prelude.{◌≡◌, ◌+◌, ◌<◌, true, None, [], ◌∷◌, length, map, IfOk, IsErrOf};
 ghost use Rattle.vx_dtype.specs.RawViews.{raw_view};
 ghost use Rattle.vx_dtype.specs.TypeViews.{type_view};
 ghost use Rattle.vx_column.specs.Columns.{raws_fit, values_fit, seen_rows};
 ghost use Rattle.vx_expr.specs.Trees.{Tree};
+ghost use Rattle.vx_prune.specs.Zoning.{broken_rule};
 ghost use Rattle.vx_wire.specs.Registries.{registered};
 ghost use Rattle.vx_scan.specs.FirstForm.{i64_ty, IsAsked};
 ghost use Rattle.vx_scan.specs.Planning.{filter_of, projection_of, IsPlan};
@@ -53,7 +54,6 @@ pub fn scan<S: ColumnStore>(
     ensures no_memory { let seen = seen_by S.zoned S.held S.log S.faults S.failed S.faultless in IsErrOf result ScanError.NoMemory → IsOutOfMemory (seen store.old) (seen store.new) (IsAsked (registered registry.now) (S.zoned store.old) filter.now projection.now) }
 {
     let zones = store.zones();
-    let _dtype = zones.dtype();
     let Some(plan) = asked_plan(alloc, registry, zones, filter, projection)? else {
         return Err(ScanError::NotBuilt);
     };
@@ -71,6 +71,7 @@ fn scan_blocks<S: ColumnStore>(
     store: &mut S,
 ) -> Result<Found, StoreError>
     requires planned { IsPlan (S.zoned store.old) plan.now }
+    ensures rules { broken_rule (S.zoned store.old) ≡ None }
     ensures same { let seen = seen_by S.zoned S.held S.log S.faults S.failed S.faultless in IsSameStore (seen store.old) (seen store.new) }
     ensures scanned { let seen = seen_by S.zoned S.held S.log S.faults S.failed S.faultless in IfOk result (λ found. IsScannedTo (filter_of plan.now) (projection_of plan.now) (length (S.zoned store.old).lengths) (seen store.old) (seen store.new) (seen_rows i64_ty found.rows.items) found.kept.items found.skipped.items) }
     ensures fit { IfOk result (λ found. values_fit i64_ty found.rows.items ≡ true) }

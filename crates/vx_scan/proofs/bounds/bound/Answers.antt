@@ -13,20 +13,20 @@ use Rattle.vx_scan.proofs.bounds.bound.Goals as goal
 
 pub known_at-requires : goal.known_at-requires
 known_at-requires c =
-    let found : find (is_statistic (c.args.column.now ∷ []) c.args.stat) c.args.zones.now.stats ≡ Some (stat_view c.in-Some.found.now) = sym (c.in-Some.ensures ∙ ap (find (is_statistic (c.args.column.now ∷ []) c.args.stat)) c.stats.ensures) in
-    let typed = found_values c.args.zones.now c.args.column.now c.args.stat (stat_view c.in-Some.found.now) c.requires.zones c.dtype-dtype.ensures.rules found in
+    let found : find (is_statistic (c.args.column.now ∷ []) c.args.stat) c.args.zones.now.stats ≡ Some (stat_view c.in-Some.found.now) = sym (c.in-Some.ensures ∙ ap (find (is_statistic (c.args.column.now ∷ []) c.args.stat)) c.stats.ensures.stats) in
+    let typed = found_values c.args.zones.now c.args.column.now c.args.stat (stat_view c.in-Some.found.now) c.requires.zones c.stats.ensures.rules found in
     subst (λ (vs : List Typed). list_all (λ (s : Typed). ty_eq s.ty (with_nullability i64_ty Nullable)) vs ≡ true) (sym c.as_slice.ensures) typed
 
-pub returns-in-Some : goal.returns-in-Some
-returns-in-Some c =
-    let found : find (is_statistic (c.args.column.now ∷ []) c.args.stat) c.args.zones.now.stats ≡ Some (stat_view c.in-Some.found.now) = sym (c.in-Some.ensures ∙ ap (find (is_statistic (c.args.column.now ∷ []) c.args.stat)) c.stats.ensures) in
-    let known = available_found c.args.zones.now c.args.column.now c.args.stat c.requires.zones c.requires.stat c.dtype-dtype.ensures.rules in
+pub returns-in-Some-clause-gives : goal.returns-in-Some-clause-gives
+returns-in-Some-clause-gives c =
+    let found : find (is_statistic (c.args.column.now ∷ []) c.args.stat) c.args.zones.now.stats ≡ Some (stat_view c.in-Some.found.now) = sym (c.in-Some.ensures ∙ ap (find (is_statistic (c.args.column.now ∷ []) c.args.stat)) c.stats.ensures.stats) in
+    let known = available_found c.args.zones.now c.args.column.now c.args.stat c.requires.zones c.requires.stat c.stats.ensures.rules in
     c.known_at.ensures
     ∙ ap (λ (vs : List Typed). value_in (slice_get vs c.args.block)) c.as_slice.ensures
     ∙ sym (ap (λ (z : Option ZoneStat). known_in z c.args.block) (known ∙ found))
 
-pub returns-in-None : goal.returns-in-None
-returns-in-None c =
-    let found : find (is_statistic (c.args.column.now ∷ []) c.args.stat) c.args.zones.now.stats ≡ None = sym (c.in-None.ensures ∙ ap (find (is_statistic (c.args.column.now ∷ []) c.args.stat)) c.stats.ensures) in
-    let known = available_found c.args.zones.now c.args.column.now c.args.stat c.requires.zones c.requires.stat c.dtype-dtype.ensures.rules in
+pub returns-in-None-clause-gives : goal.returns-in-None-clause-gives
+returns-in-None-clause-gives c =
+    let found : find (is_statistic (c.args.column.now ∷ []) c.args.stat) c.args.zones.now.stats ≡ None = sym (c.in-None.ensures ∙ ap (find (is_statistic (c.args.column.now ∷ []) c.args.stat)) c.stats.ensures.stats) in
+    let known = available_found c.args.zones.now c.args.column.now c.args.stat c.requires.zones c.requires.stat c.stats.ensures.rules in
     sym (ap (λ (z : Option ZoneStat). known_in z c.args.block) (known ∙ found))

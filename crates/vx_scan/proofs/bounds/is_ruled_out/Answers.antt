@@ -13,5 +13,5 @@ number-requires c = ap (λ (t : Ty). with_nullability t NonNullable) c.requires.
 
 pub returns-clause-gives : goal.returns-clause-gives
 returns-clause-gives c =
-    let own = ruled_by_bounds c.args.plan.now.operator (bounds c.bound-least.result c.bound-greatest.result) (bounds c.number.result c.number.result) (λ stat. known_in (available c.args.zones.now (c.args.plan.now.column ∷ []) stat) c.args.block) (λ stat. known (value_of c.args.plan.now.constant)) c.bound-least.ensures c.bound-greatest.ensures c.number.ensures c.number.ensures in
+    let own = ruled_by_bounds c.args.plan.now.operator (bounds c.bound-least.result c.bound-greatest.result) (bounds c.number.result c.number.result) (λ stat. known_in (available c.args.zones.now (c.args.plan.now.column ∷ []) stat) c.args.block) (λ stat. known (value_of c.args.plan.now.constant)) c.bound-least.ensures.gives c.bound-greatest.ensures.gives c.number.ensures c.number.ensures in
     c.leaves_nowhere_true.ensures ∙ own ∙ sym (plan_rules_out c.args.zones.now c.args.block c.args.plan.now)

@@ -1,7 +1,6 @@
-use Rattle.std.proofs.Common.{◌≡◌, ◌∙◌, sym, ap, Err, subst, Option}
+use Rattle.std.proofs.Common.{◌≡◌, Err, subst, Option}
 use Rattle.vx_column.specs.Columns.{seen_rows, raw_rows}
 use Rattle.vx_semantics.specs.Tables.{Zones}
-use Rattle.vx_prune.specs.Zoning.{broken_rule}
 use Rattle.vx_wire.specs.Registries.{registered}
 use Rattle.vx_scan.specs.FirstForm.{i64_ty, IsAsked}
 use Rattle.vx_scan.specs.Planning.{filter_of, projection_of, IsPlan, Asks}
@@ -42,7 +41,6 @@ returns-in-Ok-clause-report c d =
     let asks = subst (λ (o : Option Plan). Asks holds d.zones-zones.result.now d.args.filter.now d.args.projection.now o) d.in-Some.is d.in_ok-plan.ensures in
     let own = subst (λ (z : Zones). IsAsked holds z d.args.filter.now d.args.projection.now (filter_of plan) (projection_of plan)) d.zones-zones.ensures.zones asks.0 in
     let planned = subst (λ (z : Zones). IsPlan z plan) d.zones-zones.ensures.zones asks.1 in
-    let rules = ap broken_rule (sym d.zones-zones.ensures.zones) ∙ d.dtype-dtype.ensures.rules in
     let report = d.in_ok-report-in-Ok.ensures in
     let rows : (report_view d.in_ok-report-in-Ok.field-0).rows ≡ seen_rows i64_ty d.in-Ok.found.rows.items = λ i. raw_rows (report.dtype i) (report.rows i) in
-    (filter_of plan, projection_of plan, own, report_is plan (seen d.args.store.now) (seen d.scan_blocks.new.store) (seen_rows i64_ty d.in-Ok.found.rows.items) d.in-Ok.found.kept.items d.in-Ok.found.skipped.items (report_view d.in_ok-report-in-Ok.field-0) planned rules d.zones-zones.ensures.agrees d.in-Ok.ensures.scanned report.dtype rows report.kept report.skipped report.filter report.projection)
+    (filter_of plan, projection_of plan, own, report_is plan (seen d.args.store.now) (seen d.scan_blocks.new.store) (seen_rows i64_ty d.in-Ok.found.rows.items) d.in-Ok.found.kept.items d.in-Ok.found.skipped.items (report_view d.in_ok-report-in-Ok.field-0) planned d.in-Ok.ensures.rules d.zones-zones.ensures.agrees d.in-Ok.ensures.scanned report.dtype rows report.kept report.skipped report.filter report.projection)
