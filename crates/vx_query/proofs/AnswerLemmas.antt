@@ -51,7 +51,8 @@ filter_left p xs found i x h is fails kept =
 abbrev pub fresh : Asked → Seen
 fresh a = record { zones = a.zones; held = Some (asked_table a); log = []; faults = 0; failed = None; faultless = true }
 
-some_same : {X : Type 0} {x y : X} → Some x ≡ Some y → x ≡ y
+-- what is there is equal where both are there
+pub some_same : {X : Type 0} {x y : X} → Some x ≡ Some y → x ≡ y
 some_same e = cc
 
 -- two stores are seen alike

@@ -16,13 +16,11 @@ use Rattle.vx_query.specs.Ends.{TookUpTo, Added}
 use Rattle.vx_query.specs.Requests.{Asked, asked_in, most_bytes}
 use Rattle.vx_query.specs.Running.{End, Form, Spells, asked_report, scanned_store, scan_form, help_form, version_form, Outcome, misused, helped, versioned, out_of_memory, unread, unanswered, answered, Writing, whole, cut, IsOutcome, IsWriting, IsRun, status_of, text_of, used_by}
 use Rattle.vx_query.specs.Causes.{HasRisen, IsReported, IsUnasked, TellsScan}
+use Rattle.vx_query.proofs.AnswerLemmas.{some_same}
 use Rattle.vx_query.proofs.ShapeLemmas.{and_left}
 
 not_none : {X : Type 0} {x : X} → Some x ≡ None → ⊥
 not_none e = true≢false (ap is_some e)
-
-some_same : {X : Type 0} {x y : X} → Some x ≡ Some y → x ≡ y
-some_same e = cc
 
 -- whether a form is that of scans, where there is one
 abbrev is_scan : Option Form → Bool

@@ -4,8 +4,9 @@ use Rattle.std.specs.Prelude.{IfErr}
 use Rattle.std.specs.Result.{IsErrAnd}
 use Rattle.vx_dtype.specs.Types.{Bytes}
 use Rattle.vx_expr.specs.Trees.{Tree}
+use Rattle.vx_scan.specs.Counts.{one_more}
 use Rattle.vx_scan.specs.Scanning.{Seen}
-use Rattle.vx_query.specs.Ends.{TookUpTo, one_more}
+use Rattle.vx_query.specs.Ends.{TookUpTo}
 use Rattle.vx_query.specs.Requests.{Asked, most_bytes}
 use Rattle.vx_query.specs.Running.{End, Form, scan_form, Outcome, out_of_memory, unread, unanswered, answered, Writing, IsOutcome, IsTaken, IsWriting, IsRun, AsksScan, AsksNothing, asked_report, scanned_store, status_of, text_of, used_by}
 use Rattle.vx_query.specs.RefusalViews.{refusal_status, refusal_text, input_refusal}

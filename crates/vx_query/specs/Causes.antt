@@ -2,8 +2,9 @@
 use Rattle.std.specs.Prelude.{◌≡◌, ◌≤◌, Option, Some}
 use Rattle.vx_dtype.specs.Types.{Bytes}
 use Rattle.vx_expr.specs.Trees.{Tree}
+use Rattle.vx_scan.specs.Counts.{one_more}
 use Rattle.vx_scan.specs.Scanning.{Seen}
-use Rattle.vx_query.specs.Ends.{Added, one_more}
+use Rattle.vx_query.specs.Ends.{Added}
 use Rattle.vx_query.specs.Requests.{Asked}
 use Rattle.vx_query.specs.Running.{End, IsTaken, AsksScan, AsksNothing, asked_report, scanned_store}
 

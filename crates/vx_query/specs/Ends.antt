@@ -1,9 +1,6 @@
 -- What is known of the ends of a program: bytes to come and bytes written, where they are told, and faults that are counted.
-use Rattle.std.specs.Prelude.{◌≡◌, ℕ, ◌+◌, ◌-◌, ◌^◌, ◌<◌, ◌≤◌, List, [], ◌++◌, length, take, drop, min, Option, Some, None, Result, Ok, Err, IsErr}
-
--- the count after one more fault; at its last value it stays
-abbrev pub one_more : ℕ → ℕ
-one_more n = min (n + 1) (2 ^ 64 - 1)
+use Rattle.std.specs.Prelude.{◌≡◌, ℕ, ◌<◌, ◌≤◌, List, [], ◌++◌, length, take, drop, Option, Some, None, Result, Ok, Err, IsErr}
+use Rattle.vx_scan.specs.Counts.{one_more}
 
 -- the count did not fall, and the call failed only where it rose; a count at its last value counts as risen
 pub record HasCause {T E : Type 0} (before now : ℕ) (result : Result T E) : Type 0 where

@@ -1,7 +1,6 @@
 -- What a source and a sink in memory are.
 use Rattle.std.specs.Prelude.{ℕ, List, Bool, ◌||◌, ◌&&◌, nat_eq, nat_le, not, length}
-use Rattle.std.specs.List.{list_any}
-use Rattle.vx_query.specs.Ends.{one_more}
+use Rattle.vx_scan.specs.Counts.{one_more, is_listed}
 
 -- a source: the bytes to come, how many it gives at most in a call, the numbers of the calls that fail, how many calls there were and how many failed
 pub record SourceState : Type 0 where
@@ -19,10 +18,6 @@ pub record SinkState : Type 0 where
   pub listed : List ℕ
   pub calls : ℕ
   pub faults : ℕ
-
--- whether a number of a call is listed
-abbrev pub is_listed : ℕ → List ℕ → Bool
-is_listed n listed = list_any (nat_eq n) listed
 
 -- whether the next read fails
 abbrev pub read_fails : SourceState → Bool

@@ -8,10 +8,11 @@ use Rattle.vx_semantics.specs.Scans.{kept_rows_of, skipped_blocks, reads_of, rea
 use Rattle.vx_wire.specs.Encodings.{is_default_kind}
 use Rattle.vx_display.specs.ValueTexts.{value_text}
 use Rattle.vx_scan.specs.Blocks.{table_of}
+use Rattle.vx_scan.specs.Counts.{one_more}
 use Rattle.vx_scan.specs.FirstForm.{IsAsked}
 use Rattle.vx_scan.specs.Scanning.{Seen}
 use Rattle.vx_scan.specs.Stores.{Read}
-use Rattle.vx_query.specs.Ends.{TookUpTo, Added, AddedPrefix, one_more}
+use Rattle.vx_query.specs.Ends.{TookUpTo, Added, AddedPrefix}
 use Rattle.vx_query.specs.Reports.{report_text}
 use Rattle.vx_query.specs.Requests.{Asked, asked_in, most_bytes}
 

@@ -1,6 +1,7 @@
 // A sink into memory, for tests and for callers that want the bytes.
 ghost use Rattle.std.specs.Prelude.{◌≡◌, ◌-◌, ◌^◌, ◌<◌, ◌≤◌, ◌++◌, [], length, take, min, Some, IfOk, IfErr, IsErr, IsTrue, ◌↔◌, All};
-ghost use Rattle.vx_query.specs.Ends.{HasCause, WritesTo, one_more};
+ghost use Rattle.vx_scan.specs.Counts.{one_more};
+ghost use Rattle.vx_query.specs.Ends.{HasCause, WritesTo};
 ghost use Rattle.vx_query.specs.Listed.{write_fails};
 
 use crate::sinks::{Sink, WriteFailed};

@@ -1,6 +1,7 @@
 // A source over bytes in memory, for tests and for callers that have them all.
 ghost use Rattle.std.specs.Prelude.{◌≡◌, ◌-◌, ◌^◌, ◌<◌, ◌≤◌, ◌++◌, [], length, take, drop, min, Some, IfOk, IfErr, IsErr, IsTrue, ◌↔◌, All};
-ghost use Rattle.vx_query.specs.Ends.{HasCause, ReadsFrom, one_more};
+ghost use Rattle.vx_scan.specs.Counts.{one_more};
+ghost use Rattle.vx_query.specs.Ends.{HasCause, ReadsFrom};
 ghost use Rattle.vx_query.specs.Listed.{read_fails};
 
 use crate::sources::{ReadFailed, Source};

@@ -1,6 +1,7 @@
 // Reading a source to its end, or to a limit.
 ghost use Rattle.std.specs.Prelude.{◌≡◌, ◌≤◌, length, IfOk, IsErrOf, Err};
-ghost use Rattle.vx_query.specs.Ends.{TookUpTo, one_more};
+ghost use Rattle.vx_scan.specs.Counts.{one_more};
+ghost use Rattle.vx_query.specs.Ends.{TookUpTo};
 
 use crate::sources::{ReadFailed, Source};
 use std::alloc::{AllocError, Global};

@@ -1,6 +1,7 @@
 // Writing a text whole.
 ghost use Rattle.std.specs.Prelude.{◌≡◌, ◌≤◌, OnOk, OnErr, IsErr};
-ghost use Rattle.vx_query.specs.Ends.{Added, AddedPrefix, one_more};
+ghost use Rattle.vx_scan.specs.Counts.{one_more};
+ghost use Rattle.vx_query.specs.Ends.{Added, AddedPrefix};
 
 use crate::sinks::{Sink, WriteFailed};
 
