@@ -95,24 +95,24 @@ impl FieldName {
         self.text.as_str()
     }
 
+    /// Whether the name is one of these.
+    pub fn is_among(&self, names: &[FieldName]) -> bool
+        ensures { result ≡ has_name self.now names.now }
+    {
+        names.iter().any(|other| self.as_str() == other.as_str())
+    }
+
     /// Whether no name stands twice among these.
     pub fn are_distinct(names: &[FieldName]) -> bool
         ensures { result ≡ distinct_names names.now }
     {
         for i in 0..names.len() {
-            if has_name(&names[i], &names[i + 1..]) {
+            if names[i].is_among(&names[i + 1..]) {
                 return false;
             }
         }
         true
     }
-}
-
-/// Whether the name is one of these.
-fn has_name(name: &FieldName, names: &[FieldName]) -> bool
-    ensures { result ≡ has_name name.now names.now }
-{
-    names.iter().any(|other| name.as_str() == other.as_str())
 }
 
 impl Clone for FieldName {

@@ -116,6 +116,8 @@ fn names_stand_once(rt: HostRuntime) -> Result<(), Fail> {
     for (first, second, want) in table {
         let names = names(alloc, first, second)?;
         assert_eq!(rt; FieldName::are_distinct(names.as_slice()), want);
+        let name = FieldName::new(alloc, first)?;
+        assert_eq!(rt; name.is_among(&names.as_slice()[1..]), !want);
         let inner = fields(alloc, first, second, DType::Utf8(Nullability::Nullable))?;
         assert_eq!(rt; inner.has_distinct_names(), want);
         let item = DType::Struct(inner, Nullability::NonNullable);

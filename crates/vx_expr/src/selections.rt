@@ -24,21 +24,14 @@ pub enum FieldSelection {
     Exclude(FieldNames),
 }
 
-/// Whether the names hold this one.
-fn has_name(names: &FieldNames, name: &FieldName) -> bool
-    ensures { result ≡ has_name name.now names.now }
-{
-    names
-        .as_slice()
-        .iter()
-        .any(|other| name.as_str() == other.as_str())
-}
-
 /// Whether the names hold each of the asked ones.
 fn has_all(names: &FieldNames, asked: &FieldNames) -> bool
     ensures { result ≡ list_all (λ name. has_name name names.now) asked.now }
 {
-    asked.as_slice().iter().all(|name| has_name(names, name))
+    asked
+        .as_slice()
+        .iter()
+        .all(|name| name.is_among(names.as_slice()))
 }
 
 impl FieldSelection {
@@ -113,7 +106,7 @@ fn names_without(
 {
     let mut left = Vec::new(alloc);
     for name in names.as_slice() {
-        if !has_name(excluded, name) {
+        if !name.is_among(excluded.as_slice()) {
             left.push(name.clone()?)?;
         }
     }

@@ -1,10 +1,10 @@
 -- What the values of a strictly typed expression are.
-use Rattle.std.specs.Prelude.{◌≡◌, Bool, true, ◌&&◌, Option, Some, None, Ok, slice_get}
+use Rattle.std.specs.Prelude.{◌≡◌, true, Ok}
 use Rattle.vx_dtype.specs.Types.{Ty}
-use Rattle.vx_dtype.specs.TypeRules.{is_nullable, nullability_of, same_type, is_plain}
-use Rattle.vx_dtype.specs.Values.{Raw, raw_null, Val, fault, Typed}
-use Rattle.vx_dtype.specs.Fits.{fits, fits_but_for_faults}
-use Rattle.vx_expr.specs.Trees.{Tree, root, literal, get_item, binary, not_of, is_null_of, like, between, cast, list_contains, pack, merge, select, dynamic, Trees, no_trees, tree}
+use Rattle.vx_dtype.specs.TypeRules.{is_plain}
+use Rattle.vx_dtype.specs.Values.{Val, fault}
+use Rattle.vx_dtype.specs.Fits.{fits_but_for_faults}
+use Rattle.vx_expr.specs.Trees.{Tree}
 use Rattle.vx_semantics.specs.Slots.{slots_fit}
 use Rattle.vx_semantics.specs.Typing.{typed_of}
 use Rattle.vx_semantics.specs.Meaning.{Slots, mean}

@@ -168,20 +168,10 @@ fn column_in<'a>(columns: &StructFields, expr: &'a ExprRef) -> Option<&'a FieldN
     let Expr::Root(_) = item.child().expr() else {
         return None;
     };
-    if !has_name(columns.names(), item.field()) {
+    if !item.field().is_among(columns.names().as_slice()) {
         return None;
     }
     Some(item.field())
-}
-
-/// Whether this name is among the names.
-fn has_name(names: &FieldNames, name: &FieldName) -> bool
-    ensures { result ≡ has_name name.now names.now }
-{
-    names
-        .as_slice()
-        .iter()
-        .any(|other| name.as_str() == other.as_str())
 }
 
 /// The constant of i64 that an expression is. None exactly where it is none.
