@@ -1,33 +1,26 @@
-// The tables of the operators, and the children, names and parts of the nodes of expressions: worked by hand.
+// Inverse comparisons, and the children, names and parts of the nodes of expressions: worked by hand.
 #![tactic(auto, unfolding(crate::proofs::Computing::all_definitions))]
 
-ghost use Rattle.std.specs.Prelude.{◌≡◌, [], ◌∷◌, ◌++◌, codes, pos, true, false, Some, None, map, replicate};
+ghost use Rattle.std.specs.Prelude.{◌≡◌, [], ◌∷◌, codes, pos, true, false, Some, None, map, replicate};
 ghost use Rattle.vx_dtype.specs.declared.PType.TheVariants.{I32, I64};
 ghost use Rattle.vx_dtype.specs.declared.Nullability.TheVariants.{NonNullable, Nullable};
 ghost use Rattle.vx_dtype.specs.declared.StrictComparison.TheVariants.{Strict, NonStrict};
 ghost use Rattle.vx_dtype.specs.declared.CompareOperator.TheVariants.{Eq as Equal, NotEq as Unequal, Gt as Above, Gte as NotBelow, Lt as Below, Lte as NotAbove};
 ghost use Rattle.vx_dtype.specs.Types.{int_ty};
 ghost use Rattle.vx_dtype.specs.Values.{raw_int};
-ghost use Rattle.vx_expr.specs.declared.Operator.TheVariants.{Eq, NotEq, Gt, Gte, Lt, Lte, And, Or, Add, Sub};
+ghost use Rattle.vx_expr.specs.declared.Operator.TheVariants.{Lt, Lte, And};
 ghost use Rattle.vx_expr.specs.declared.FieldSelection.TheVariants.{Include, Exclude};
 ghost use Rattle.vx_expr.specs.Trees.{root, get_item, not_of, is_null_of, like, between, cast, list_contains, pack, merge, select, dynamic, tree, no_trees, trees_of, listed, children_of};
-ghost use Rattle.vx_expr.specs.Operators.{operator_number, comparison_of, operator_of, inverse_of, inverse_comparison, logical_inverse_of, swapped, range_as_binary};
+ghost use Rattle.vx_expr.specs.Operators.{inverse_comparison, range_as_binary};
 ghost use Rattle.vx_expr.specs.Slots.{slot_held};
 ghost use Rattle.vx_expr.specs.Children.{with_children_of, id_of, is_get_item, is_root_tree, literal_of, packed_of, packed_field};
 ghost use Rattle.vx_expr.specs.Selections.{is_included, listed_names, taken_names, names_where_known};
-ghost use Rattle.vx_expr.specs.Conjuncts.{conjuncts_of};
-ghost use Rattle.vx_semantics.specs.Samples.{col, number, ◌⟨◌⟩◌, operators, comparisons, slot_of};
+ghost use Rattle.vx_semantics.specs.Samples.{col, number, ◌⟨◌⟩◌, comparisons, slot_of};
 ghost use Rattle.vx_rows.specs.Kinds.{kinds_over};
 
-/// The tables of the operators, in the order of their numbers.
-pub fn tables_of_operators()
-    ensures numbers { map operator_number operators ≡ 0 ∷ 1 ∷ 2 ∷ 3 ∷ 4 ∷ 5 ∷ 6 ∷ 7 ∷ 8 ∷ 9 ∷ [] }
-    ensures as_comparisons { map comparison_of operators ≡ map Some comparisons ++ replicate 4 None }
-    ensures of_comparisons { map operator_of comparisons ≡ Eq ∷ NotEq ∷ Gt ∷ Gte ∷ Lt ∷ Lte ∷ [] }
-    ensures inverses { map inverse_of operators ≡ map Some (NotEq ∷ Eq ∷ Lte ∷ Lt ∷ Gte ∷ Gt ∷ []) ++ replicate 4 None }
-    ensures inverse_comparisons { map inverse_comparison comparisons ≡ Unequal ∷ Equal ∷ NotAbove ∷ Below ∷ NotBelow ∷ Above ∷ [] }
-    ensures logical_inverses { map logical_inverse_of operators ≡ replicate 6 None ++ (Some Or ∷ Some And ∷ None ∷ None ∷ []) }
-    ensures exchanged { map swapped operators ≡ Eq ∷ NotEq ∷ Lt ∷ Lte ∷ Gt ∷ Gte ∷ And ∷ Or ∷ Add ∷ Sub ∷ [] }
+/// The inverse of each comparison, in the order of their numbers.
+pub fn inverts_comparisons()
+    ensures { map inverse_comparison comparisons ≡ Unequal ∷ Equal ∷ NotAbove ∷ Below ∷ NotBelow ∷ Above ∷ [] }
 {}
 
 /// A range as its two comparisons, each bound by its own strictness.
@@ -88,11 +81,4 @@ pub fn slots_that_hold()
     ensures held { slot_held (None ∷ slot_of I32 (pos 9) ∷ []) 1 ≡ slot_of I32 (pos 9) }
     ensures empty { slot_held (None ∷ slot_of I32 (pos 9) ∷ []) 0 ≡ None }
     ensures past_the_end { slot_held (None ∷ slot_of I32 (pos 9) ∷ []) 2 ≡ None }
-{}
-
-/// Conjuncts stand from left to right, whichever side nests; what is no `and` is one.
-pub fn conjuncts_from_left_to_right()
-    ensures left { conjuncts_of ((col "x" ⟨ And ⟩ col "y") ⟨ And ⟩ col "z") ≡ col "x" ∷ col "y" ∷ col "z" ∷ [] }
-    ensures right { conjuncts_of (col "x" ⟨ And ⟩ (col "y" ⟨ And ⟩ col "z")) ≡ col "x" ∷ col "y" ∷ col "z" ∷ [] }
-    ensures disjunction { conjuncts_of ((col "x" ⟨ And ⟩ col "y") ⟨ Or ⟩ col "z") ≡ ((col "x" ⟨ And ⟩ col "y") ⟨ Or ⟩ col "z") ∷ [] }
 {}
