@@ -3,7 +3,7 @@ use Rattle.std.proofs.Common.{◌≡◌, refl, ap, ◌∙◌, Bool, true, false,
 use Rattle.std.specs.Ordering.{is_eq}
 use Rattle.std.specs.declared.cmp.Ordering.{Ordering}
 use Rattle.vx_dtype.specs.Types.{Ty, bool_ty, int_ty, text_ty, list_ty}
-use Rattle.vx_dtype.specs.TypeRules.{is_plain, same_type, nullability_of, union}
+use Rattle.vx_dtype.specs.TypeRules.{is_plain, alike, nullability_of, union}
 use Rattle.vx_dtype.specs.Values.{Raw, raw_null, raw_bool, raw_int, raw_text, raw_list, raw_struct, Raws, no_raws, raw, valued, all_valued, bool_val}
 use Rattle.vx_dtype.specs.Fits.{fits, all_fit}
 use Rattle.vx_dtype.specs.Logic.{is_true_val}
@@ -24,7 +24,7 @@ true_equal None = refl
 true_equal (Some o) = true_bool (is_eq o)
 
 -- an element equals a value where their raw values are equal
-pub has_element_valued : (t u : Ty) (xs : Raws) (y : Raw) → is_plain t ≡ true → same_type t u ≡ true → all_fit xs t ≡ true → fits y u ≡ true → has_element (all_valued xs t) (valued y u) ≡ raws_have xs y
+pub has_element_valued : (t u : Ty) (xs : Raws) (y : Raw) → is_plain t ≡ true → alike t u ≡ true → all_fit xs t ≡ true → fits y u ≡ true → has_element (all_valued xs t) (valued y u) ≡ raws_have xs y
 unfolding fits valued
 has_element_valued t u no_raws y a b c d = refl
 has_element_valued t u (raw x xs) y a b c d =
@@ -35,19 +35,19 @@ has_element_valued t u (raw x xs) y a b c d =
 
 -- whether a list holds a value
 pub contains3_valued : (t u : Ty) (x y : Raw) → lists_kind t u ≡ true → fits x t ≡ true → fits y u ≡ true → contains3 (valued x t) (valued y u) ≡ truth_val (raw_contains x y)
-unfolding fits valued same_type
+unfolding fits valued alike
 contains3_valued (list_ty (bool_ty k) n) (bool_ty m) raw_null raw_null a c d = refl
 contains3_valued (list_ty (bool_ty k) n) (bool_ty m) raw_null (raw_bool j) a c d = refl
 contains3_valued (list_ty (bool_ty k) n) (bool_ty m) (raw_list xs) raw_null a c d = refl
-contains3_valued (list_ty (bool_ty k) n) (bool_ty m) (raw_list xs) (raw_bool j) a c d = ap bool_val (has_element_valued (bool_ty k) (bool_ty m) xs (raw_bool j) refl (both_of true (same_type (bool_ty k) (bool_ty m)) a).1 c d)
+contains3_valued (list_ty (bool_ty k) n) (bool_ty m) (raw_list xs) (raw_bool j) a c d = ap bool_val (has_element_valued (bool_ty k) (bool_ty m) xs (raw_bool j) refl (both_of true (alike (bool_ty k) (bool_ty m)) a).1 c d)
 contains3_valued (list_ty (int_ty p k) n) (int_ty q m) raw_null raw_null a c d = refl
 contains3_valued (list_ty (int_ty p k) n) (int_ty q m) raw_null (raw_int j) a c d = refl
 contains3_valued (list_ty (int_ty p k) n) (int_ty q m) (raw_list xs) raw_null a c d = refl
-contains3_valued (list_ty (int_ty p k) n) (int_ty q m) (raw_list xs) (raw_int j) a c d = ap bool_val (has_element_valued (int_ty p k) (int_ty q m) xs (raw_int j) refl (both_of true (same_type (int_ty p k) (int_ty q m)) a).1 c d)
+contains3_valued (list_ty (int_ty p k) n) (int_ty q m) (raw_list xs) (raw_int j) a c d = ap bool_val (has_element_valued (int_ty p k) (int_ty q m) xs (raw_int j) refl (both_of true (alike (int_ty p k) (int_ty q m)) a).1 c d)
 contains3_valued (list_ty (text_ty k) n) (text_ty m) raw_null raw_null a c d = refl
 contains3_valued (list_ty (text_ty k) n) (text_ty m) raw_null (raw_text j) a c d = refl
 contains3_valued (list_ty (text_ty k) n) (text_ty m) (raw_list xs) raw_null a c d = refl
-contains3_valued (list_ty (text_ty k) n) (text_ty m) (raw_list xs) (raw_text j) a c d = ap bool_val (has_element_valued (text_ty k) (text_ty m) xs (raw_text j) refl (both_of true (same_type (text_ty k) (text_ty m)) a).1 c d)
+contains3_valued (list_ty (text_ty k) n) (text_ty m) (raw_list xs) (raw_text j) a c d = ap bool_val (has_element_valued (text_ty k) (text_ty m) xs (raw_text j) refl (both_of true (alike (text_ty k) (text_ty m)) a).1 c d)
 contains3_valued _ _ _ _ a c d = cc
 
 -- where there is none, one of the types has the null

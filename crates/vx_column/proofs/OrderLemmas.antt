@@ -1,7 +1,7 @@
 -- Comparisons between what the code holds and the values at rows.
 use Rattle.std.proofs.Common.{◌≡◌, refl, true, option_map}
 use Rattle.vx_dtype.specs.Types.{Ty, bool_ty, int_ty, text_ty}
-use Rattle.vx_dtype.specs.TypeRules.{is_plain, same_type, same_ptype, is_nullable, nullability_of, union}
+use Rattle.vx_dtype.specs.TypeRules.{is_plain, alike, same_ptype, is_nullable, nullability_of, union}
 use Rattle.vx_dtype.specs.declared.Nullability.{Nullability}
 use Rattle.vx_dtype.specs.declared.Nullability.TheVariants.{NonNullable, Nullable}
 use Rattle.vx_dtype.specs.declared.PType.{PType}
@@ -13,8 +13,8 @@ use Rattle.vx_dtype.specs.Order.{compare3, meets}
 use Rattle.vx_column.specs.RawParts.{raw_order, truth_val, truth_fits}
 
 -- the comparison of two values of one plain type is that of how they stand
-pub compare3_valued : (op : CompareOperator) (t u : Ty) (x y : Raw) → is_plain t ≡ true → same_type t u ≡ true → fits x t ≡ true → fits y u ≡ true → compare3 op (valued x t) (valued y u) ≡ truth_val (option_map (meets op) (raw_order x y))
-unfolding fits valued same_type
+pub compare3_valued : (op : CompareOperator) (t u : Ty) (x y : Raw) → is_plain t ≡ true → alike t u ≡ true → fits x t ≡ true → fits y u ≡ true → compare3 op (valued x t) (valued y u) ≡ truth_val (option_map (meets op) (raw_order x y))
+unfolding fits valued alike
 compare3_valued op (bool_ty n) (bool_ty m) raw_null raw_null a b c d = refl
 compare3_valued op (bool_ty n) (bool_ty m) raw_null (raw_bool j) a b c d = refl
 compare3_valued op (bool_ty n) (bool_ty m) (raw_bool i) raw_null a b c d = refl
@@ -39,8 +39,8 @@ nullable_right NonNullable m e = e
 nullable_right Nullable m e = refl
 
 -- where there is no order, one of the types has the null
-pub order_fits : (op : CompareOperator) (t u : Ty) (x y : Raw) → is_plain t ≡ true → same_type t u ≡ true → fits x t ≡ true → fits y u ≡ true → truth_fits (union (nullability_of t) (nullability_of u)) (option_map (meets op) (raw_order x y)) ≡ true
-unfolding fits same_type
+pub order_fits : (op : CompareOperator) (t u : Ty) (x y : Raw) → is_plain t ≡ true → alike t u ≡ true → fits x t ≡ true → fits y u ≡ true → truth_fits (union (nullability_of t) (nullability_of u)) (option_map (meets op) (raw_order x y)) ≡ true
+unfolding fits alike
 order_fits op (bool_ty n) (bool_ty m) raw_null raw_null a b c d = nullable_left n m c
 order_fits op (bool_ty n) (bool_ty m) raw_null (raw_bool j) a b c d = nullable_left n m c
 order_fits op (bool_ty n) (bool_ty m) (raw_bool i) raw_null a b c d = nullable_right n m d
@@ -68,15 +68,15 @@ same_ptype_other I64 I64 e = refl
 same_ptype_other _ _ e = cc
 
 -- a type that is equal to a plain one is plain, and the other way round
-pub plain_other : (t u : Ty) → is_plain t ≡ true → same_type t u ≡ true → is_plain u ≡ true
-unfolding same_type
+pub plain_other : (t u : Ty) → is_plain t ≡ true → alike t u ≡ true → is_plain u ≡ true
+unfolding alike
 plain_other (bool_ty n) (bool_ty m) a b = refl
 plain_other (int_ty p n) (int_ty q m) a b = refl
 plain_other (text_ty n) (text_ty m) a b = refl
 plain_other _ _ a b = cc
 
-pub same_other : (t u : Ty) → is_plain t ≡ true → same_type t u ≡ true → same_type u t ≡ true
-unfolding same_type
+pub same_other : (t u : Ty) → is_plain t ≡ true → alike t u ≡ true → alike u t ≡ true
+unfolding alike
 same_other (bool_ty n) (bool_ty m) a b = refl
 same_other (int_ty p n) (int_ty q m) a b = same_ptype_other p q b
 same_other (text_ty n) (text_ty m) a b = refl

@@ -4,7 +4,7 @@ use Rattle.vx_dtype.specs.declared.PType.{PType}
 use Rattle.vx_dtype.specs.declared.PType.TheVariants.{U8, U16, U32, U64, I8, I16, I32, I64}
 use Rattle.vx_dtype.specs.declared.values.ScalarValue.{ScalarValue}
 use Rattle.vx_dtype.specs.Types.{Ty, int_ty}
-use Rattle.vx_dtype.specs.TypeRules.{same_type, same_ptype, nullability_of, with_nullability, union}
+use Rattle.vx_dtype.specs.TypeRules.{alike, same_ptype, nullability_of, with_nullability, union}
 use Rattle.vx_dtype.specs.declared.Nullability.{Nullability}
 use Rattle.vx_dtype.specs.Values.{Val, null_val, bool_val, int_val, text_val, list_val, struct_val, fault}
 use Rattle.vx_dtype.specs.Fits.{val_fits}
@@ -59,8 +59,8 @@ same_ptype_equal I64 I64 e = refl
 same_ptype_equal _ _ e = cc
 
 -- a type that is equal to an integer type but for nullability is that integer type
-pub same_int : (t u : Ty) (p : PType) (n : Nullability) → t ≡ int_ty p n → same_type t u ≡ true → u ≡ int_ty p (nullability_of u)
-unfolding same_type
+pub same_int : (t u : Ty) (p : PType) (n : Nullability) → t ≡ int_ty p n → alike t u ≡ true → u ≡ int_ty p (nullability_of u)
+unfolding alike
 same_int (int_ty q m) (int_ty r k) p n d e =
     let first : q ≡ p = cc in
     let second : r ≡ p = sym (same_ptype_equal q r e) ∙ first in

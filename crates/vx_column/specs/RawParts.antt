@@ -5,7 +5,7 @@ use Rattle.std.specs.Ordering.{nat_cmp, int_cmp, bool_cmp, is_eq}
 use Rattle.std.specs.Cmp.Lexicographic.{slice_cmp}
 use Rattle.vx_dtype.specs.Types.{Ty, int_ty, list_ty}
 use Rattle.vx_dtype.specs.declared.Nullability.{Nullability}
-use Rattle.vx_dtype.specs.TypeRules.{is_nullable, nullability_of, is_plain, same_type}
+use Rattle.vx_dtype.specs.TypeRules.{is_nullable, nullability_of, is_plain, alike}
 use Rattle.vx_dtype.specs.Fits.{in_range}
 use Rattle.vx_dtype.specs.Values.{Raw, raw_null, raw_bool, raw_int, raw_text, raw_list, Raws, no_raws, raw, Val, null_val, bool_val}
 
@@ -48,7 +48,7 @@ raw_contains _ _ = None
 
 -- whether a type is a list whose elements may be compared with values of the other type
 abbrev pub lists_kind : Ty → Ty → Bool
-lists_kind (list_ty e n) t = is_plain e && same_type e t
+lists_kind (list_ty e n) t = is_plain e && alike e t
 lists_kind _ t = false
 
 -- the value in the target type: null where the type is nullable, a number in its range, another value as it is; else none

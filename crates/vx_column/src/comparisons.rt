@@ -1,7 +1,7 @@
 // Comparisons of plain columns.
 ghost use Rattle.std.specs.Prelude.{◌≡◌, true, length, map, option_map, IfOk};
 ghost use Rattle.vx_dtype.specs.Types.{bool_ty};
-ghost use Rattle.vx_dtype.specs.TypeRules.{is_plain, same_type, nullability_of, union};
+ghost use Rattle.vx_dtype.specs.TypeRules.{is_plain, alike, nullability_of, union};
 ghost use Rattle.vx_dtype.specs.TypeViews.{type_view};
 ghost use Rattle.vx_dtype.specs.Order.{meets, compare3, bound_operator, between3};
 ghost use Rattle.vx_dtype.specs.RawViews.{raw_view, raws_of};
@@ -59,7 +59,7 @@ struct Comparison<'a> {
     left: &'a DType,
     right: &'a DType,
     ghost plain: { is_plain (type_view left.now) ≡ true },
-    ghost same: { same_type (type_view left.now) (type_view right.now) ≡ true },
+    ghost same: { alike (type_view left.now) (type_view right.now) ≡ true },
 }
 
 impl PairRule for Comparison<'_> {
@@ -81,7 +81,7 @@ impl PairRule for Comparison<'_> {
 #[tactic(auto, unfolding(vx_dtype::specs::TypeRules::no_name_twice))]
 pub fn compare(alloc: Global, l: &ColumnRef, r: &ColumnRef, op: CompareOperator) -> Mem<ColumnRef>
     requires plain { is_plain l.now.ty ≡ true }
-    requires same { same_type l.now.ty r.now.ty ≡ true }
+    requires same { alike l.now.ty r.now.ty ≡ true }
     requires lengths { length l.now.rows ≡ length r.now.rows }
     ensures dtype { IfOk result (λ c. c.ty ≡ bool_ty (union (nullability_of l.now.ty) (nullability_of r.now.ty))) }
     ensures rows { IfOk result (λ c. c.rows ≡ zip_rows (compare3 op) l.now.rows r.now.rows) }
@@ -111,8 +111,8 @@ pub fn between(
     options: BetweenOptions,
 ) -> Mem<ColumnRef>
     requires plain { is_plain c.now.ty ≡ true }
-    requires lower { same_type c.now.ty lower.now.ty ≡ true }
-    requires upper { same_type c.now.ty upper.now.ty ≡ true }
+    requires lower { alike c.now.ty lower.now.ty ≡ true }
+    requires upper { alike c.now.ty upper.now.ty ≡ true }
     requires lower_length { length c.now.rows ≡ length lower.now.rows }
     requires upper_length { length c.now.rows ≡ length upper.now.rows }
     ensures dtype { IfOk result (λ made. made.ty ≡ bool_ty (union (nullability_of c.now.ty) (union (nullability_of lower.now.ty) (nullability_of upper.now.ty)))) }

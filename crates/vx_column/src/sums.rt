@@ -3,7 +3,7 @@ ghost use Rattle.std.specs.Prelude.{◌≡◌, true, false, length, IfOk, IfSome
 ghost use Rattle.vx_dtype.specs.declared.Nullability.{Nullability};
 ghost use Rattle.vx_dtype.specs.declared.PType.{PType};
 ghost use Rattle.vx_dtype.specs.Types.{int_ty};
-ghost use Rattle.vx_dtype.specs.TypeRules.{is_int_ty, same_type, nullability_of, union, with_nullability};
+ghost use Rattle.vx_dtype.specs.TypeRules.{is_int_ty, alike, nullability_of, union, with_nullability};
 ghost use Rattle.vx_dtype.specs.Values.{fault, int_val};
 ghost use Rattle.vx_dtype.specs.Fits.{fits, in_range};
 ghost use Rattle.vx_dtype.specs.Sums.{add3, sub3, int_in};
@@ -136,7 +136,7 @@ fn reckoned_column(
     r: &ColumnRef,
 ) -> Result<ColumnRef, ColumnError>
     requires integers { is_int_ty l.now.ty ≡ true }
-    requires same { same_type l.now.ty r.now.ty ≡ true }
+    requires same { alike l.now.ty r.now.ty ≡ true }
     requires lengths { length l.now.rows ≡ length r.now.rows }
     ensures { Answers result (unless_faulty Overflow (column (with_nullability l.now.ty (union (nullability_of l.now.ty) (nullability_of r.now.ty))) (zip_rows (total3 total) l.now.rows r.now.rows))) }
 {
@@ -162,7 +162,7 @@ fn reckoned_column(
 #[tactic(auto, using(crate::proofs::SumLemmas::same_int))]
 fn ptype_of(l: &DType, r: &DType) -> PType
     requires integers { is_int_ty (type_view l.now) ≡ true }
-    requires same { same_type (type_view l.now) (type_view r.now) ≡ true }
+    requires same { alike (type_view l.now) (type_view r.now) ≡ true }
     ensures left { type_view l.now ≡ int_ty result (nullability_of (type_view l.now)) }
     ensures right { type_view r.now ≡ int_ty result (nullability_of (type_view r.now)) }
 {
@@ -175,7 +175,7 @@ fn ptype_of(l: &DType, r: &DType) -> PType
 /// The sum, row by row; null where a side is null. Overflow exactly where a sum leaves the type.
 pub fn checked_add(alloc: Global, l: &ColumnRef, r: &ColumnRef) -> Result<ColumnRef, ColumnError>
     requires integers { is_int_ty l.now.ty ≡ true }
-    requires same { same_type l.now.ty r.now.ty ≡ true }
+    requires same { alike l.now.ty r.now.ty ≡ true }
     requires lengths { length l.now.rows ≡ length r.now.rows }
     ensures { Answers result (unless_faulty Overflow (column (with_nullability l.now.ty (union (nullability_of l.now.ty) (nullability_of r.now.ty))) (zip_rows add3 l.now.rows r.now.rows))) }
 {
@@ -185,7 +185,7 @@ pub fn checked_add(alloc: Global, l: &ColumnRef, r: &ColumnRef) -> Result<Column
 /// The difference, row by row; null where a side is null. Overflow exactly where a difference leaves the type.
 pub fn checked_sub(alloc: Global, l: &ColumnRef, r: &ColumnRef) -> Result<ColumnRef, ColumnError>
     requires integers { is_int_ty l.now.ty ≡ true }
-    requires same { same_type l.now.ty r.now.ty ≡ true }
+    requires same { alike l.now.ty r.now.ty ≡ true }
     requires lengths { length l.now.rows ≡ length r.now.rows }
     ensures { Answers result (unless_faulty Overflow (column (with_nullability l.now.ty (union (nullability_of l.now.ty) (nullability_of r.now.ty))) (zip_rows sub3 l.now.rows r.now.rows))) }
 {

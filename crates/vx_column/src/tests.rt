@@ -1,6 +1,6 @@
 // Tables of expected rows, and each call that takes memory once with ample memory.
 ghost use Rattle.std.specs.Prelude.{◌≡◌, ◌&&◌};
-ghost use Rattle.vx_dtype.specs.TypeRules.{is_bool_ty, is_int_ty, is_text_ty, is_plain, same_type};
+ghost use Rattle.vx_dtype.specs.TypeRules.{is_bool_ty, is_int_ty, is_text_ty, is_plain, alike};
 ghost use Rattle.vx_dtype.specs.Casts.{takes_cast};
 ghost use Rattle.vx_dtype.specs.TypeViews.{type_view};
 ghost use Rattle.vx_dtype.specs.StructTypes.{is_struct_ty};
@@ -104,7 +104,7 @@ fn is_struct(c: &ColumnRef) -> bool
 
 /// Whether two columns have equal types but for nullability.
 fn is_alike(l: &ColumnRef, r: &ColumnRef) -> bool
-    ensures { result ≡ same_type l.now.ty r.now.ty }
+    ensures { result ≡ alike l.now.ty r.now.ty }
 {
     l.dtype().eq_ignore_nullability(r.dtype())
 }
@@ -133,7 +133,7 @@ fn has_lists_of(list: &ColumnRef, value: &ColumnRef) -> bool
 
 /// Whether a type is plain and equal to another but for nullability.
 fn is_kind(element: &DType, value: &DType) -> bool
-    ensures { result ≡ (is_plain (type_view element.now) && same_type (type_view element.now) (type_view value.now)) }
+    ensures { result ≡ (is_plain (type_view element.now) && alike (type_view element.now) (type_view value.now)) }
 {
     match element {
         DType::List(_, _) => false,

@@ -7,7 +7,7 @@ use Rattle.std.specs.List.{slice_get, position, position_or_len}
 use Rattle.std.proofs.lemmas.Option.{slice_get_past, slice_get-get_or, slice_get-map}
 use Rattle.vx_dtype.specs.StructTypes.{field_types}
 use Rattle.vx_dtype.specs.Types.{Bytes, Ty, Fields, no_fields, field}
-use Rattle.vx_dtype.specs.TypeRules.{field_type, same_type, same_fields, field_names, depth_of, depth_below}
+use Rattle.vx_dtype.specs.TypeRules.{field_type, alike, alike_fields, field_names, depth_of, depth_below}
 use Rattle.vx_dtype.specs.Equal.{ty_eq, fields_eq}
 use Rattle.vx_dtype.specs.Zipped.{zipped}
 
@@ -118,17 +118,17 @@ module _ {A : Type 0} (see : A → Ty) where
       ap (λ b. bytes_eq f g && (ty_eq (see x) (see y) && b)) q ∙ and_false (bytes_eq f g) (ty_eq (see x) (see y))
 
   -- nor are they alike
-  pub same_fields_lengths : (fs gs : List Bytes) (xs ys : List A) → length fs ≡ length xs → length gs ≡ length ys → length xs ≢ length ys → same_fields (zipped fs (map see xs)) (zipped gs (map see ys)) ≡ false
-  unfolding same_fields
-  same_fields_lengths fs gs [] [] d e h = absurd (h refl)
-  same_fields_lengths (f ∷ fs) gs [] (y ∷ ys) d e h = absurd (omega (arith, d))
-  same_fields_lengths [] (g ∷ gs) [] (y ∷ ys) d e h = refl
-  same_fields_lengths [] [] [] (y ∷ ys) d e h = absurd (omega (arith, e))
-  same_fields_lengths [] gs (x ∷ xs) ys d e h = absurd (omega (arith, d))
-  same_fields_lengths (f ∷ fs) (g ∷ gs) (x ∷ xs) [] d e h = absurd (omega (arith, e))
-  same_fields_lengths (f ∷ fs) [] (x ∷ xs) [] d e h = refl
-  same_fields_lengths (f ∷ fs) [] (x ∷ xs) (y ∷ ys) d e h = refl
-  same_fields_lengths (f ∷ fs) (g ∷ gs) (x ∷ xs) (y ∷ ys) d e h =
+  pub alike_fields_lengths : (fs gs : List Bytes) (xs ys : List A) → length fs ≡ length xs → length gs ≡ length ys → length xs ≢ length ys → alike_fields (zipped fs (map see xs)) (zipped gs (map see ys)) ≡ false
+  unfolding alike_fields
+  alike_fields_lengths fs gs [] [] d e h = absurd (h refl)
+  alike_fields_lengths (f ∷ fs) gs [] (y ∷ ys) d e h = absurd (omega (arith, d))
+  alike_fields_lengths [] (g ∷ gs) [] (y ∷ ys) d e h = refl
+  alike_fields_lengths [] [] [] (y ∷ ys) d e h = absurd (omega (arith, e))
+  alike_fields_lengths [] gs (x ∷ xs) ys d e h = absurd (omega (arith, d))
+  alike_fields_lengths (f ∷ fs) (g ∷ gs) (x ∷ xs) [] d e h = absurd (omega (arith, e))
+  alike_fields_lengths (f ∷ fs) [] (x ∷ xs) [] d e h = refl
+  alike_fields_lengths (f ∷ fs) [] (x ∷ xs) (y ∷ ys) d e h = refl
+  alike_fields_lengths (f ∷ fs) (g ∷ gs) (x ∷ xs) (y ∷ ys) d e h =
       let k : length xs ≢ length ys = λ m. h (ap suc m) in
-      let q = same_fields_lengths fs gs xs ys (omega (arith, d)) (omega (arith, e)) k in
-      ap (λ b. bytes_eq f g && (same_type (see x) (see y) && b)) q ∙ and_false (bytes_eq f g) (same_type (see x) (see y))
+      let q = alike_fields_lengths fs gs xs ys (omega (arith, d)) (omega (arith, e)) k in
+      ap (λ b. bytes_eq f g && (alike (see x) (see y) && b)) q ∙ and_false (bytes_eq f g) (alike (see x) (see y))

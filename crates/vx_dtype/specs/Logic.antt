@@ -64,6 +64,11 @@ is_null3 fault = fault
 is_null3 null_val = bool_val true
 is_null3 _ = bool_val false
 
+-- whether a value is null
+abbrev pub is_null_val : Val → Bool
+is_null_val null_val = true
+is_null_val _ = false
+
 -- whether a value is the boolean true
 abbrev pub is_true_val : Val → Bool
 is_true_val (bool_val true) = true

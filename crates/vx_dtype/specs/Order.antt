@@ -9,7 +9,7 @@ pub use Rattle.vx_dtype.specs.declared.comparisons.StrictComparison.{StrictCompa
 pub use Rattle.vx_dtype.specs.declared.comparisons.StrictComparison.TheVariants.{Strict, NonStrict}
 pub use Rattle.vx_dtype.specs.declared.comparisons.BetweenOptions.{BetweenOptions}
 use Rattle.vx_dtype.specs.Values.{Val, bool_val, int_val, text_val, fault}
-use Rattle.vx_dtype.specs.Logic.{on_known, and3}
+use Rattle.vx_dtype.specs.Logic.{on_known, and3, is_true_val}
 
 -- how two plain values of one kind stand; values of two kinds, lists and structs have no order
 abbrev pub order : Val → Val → Option Ordering
@@ -39,6 +39,10 @@ compared op l r = by_order op (order l r)
 -- the comparison of two values
 abbrev pub compare3 : CompareOperator → Val → Val → Val
 compare3 op l r = on_known (compared op) l r
+
+-- whether a comparison of two values is true
+abbrev pub compares : CompareOperator → Val → Val → Bool
+compares op l r = is_true_val (compare3 op l r)
 
 -- the comparison that a bound asks: `<` where it is strict, else `<=`
 abbrev pub bound_operator : StrictComparison → CompareOperator

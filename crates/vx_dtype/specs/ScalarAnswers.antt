@@ -4,7 +4,7 @@ use Rattle.std.specs.declared.cmp.Ordering.{Ordering}
 use Rattle.vx_dtype.specs.declared.scalars.errors.ScalarError.{ScalarError}
 use Rattle.vx_dtype.specs.declared.scalars.errors.ScalarError.TheVariants.{NoMemory, WrongValue}
 use Rattle.vx_dtype.specs.Types.{Ty}
-use Rattle.vx_dtype.specs.TypeRules.{same_type, is_plain}
+use Rattle.vx_dtype.specs.TypeRules.{alike, is_plain}
 use Rattle.vx_dtype.specs.Values.{Raw, raw_null, Raws, Typed, value_of}
 use Rattle.vx_dtype.specs.RawViews.{raws_of}
 use Rattle.vx_dtype.specs.Fits.{fits}
@@ -36,4 +36,4 @@ is_raw_null _ = false
 
 -- how two scalars of equal plain types stand; none where the types aren't, or one of the two is null
 abbrev pub scalar_order : Typed → Typed → Option Ordering
-scalar_order a b = cond (same_type a.ty b.ty && is_plain a.ty) (order (value_of a) (value_of b)) None
+scalar_order a b = cond (alike a.ty b.ty && is_plain a.ty) (order (value_of a) (value_of b)) None

@@ -48,19 +48,19 @@ same_ptype _ _ = false
 
 unfoldable mutual
   -- whether two types are equal but for nullability, at every depth
-  pub same_type : Ty → Ty → Bool
-  same_type (bool_ty n) (bool_ty m) = true
-  same_type (int_ty p n) (int_ty q m) = same_ptype p q
-  same_type (text_ty n) (text_ty m) = true
-  same_type (list_ty e n) (list_ty d m) = same_type e d
-  same_type (struct_ty fs n) (struct_ty gs m) = same_fields fs gs
-  same_type _ _ = false
+  pub alike : Ty → Ty → Bool
+  alike (bool_ty n) (bool_ty m) = true
+  alike (int_ty p n) (int_ty q m) = same_ptype p q
+  alike (text_ty n) (text_ty m) = true
+  alike (list_ty e n) (list_ty d m) = alike e d
+  alike (struct_ty fs n) (struct_ty gs m) = alike_fields fs gs
+  alike _ _ = false
 
   -- whether two lists of fields have the same names in order, at such types
-  pub same_fields : Fields → Fields → Bool
-  same_fields no_fields no_fields = true
-  same_fields (field f t fs) (field g u gs) = bytes_eq f g && (same_type t u && same_fields fs gs)
-  same_fields _ _ = false
+  pub alike_fields : Fields → Fields → Bool
+  alike_fields no_fields no_fields = true
+  alike_fields (field f t fs) (field g u gs) = bytes_eq f g && (alike t u && alike_fields fs gs)
+  alike_fields _ _ = false
 
 -- booleans, integers and texts are plain
 abbrev pub is_plain : Ty → Bool

@@ -7,7 +7,7 @@ use Rattle.std.proofs.lemmas.Bool.{eqb-true, eq-eqb, and_parts, and_from, or_par
 use Rattle.vx_dtype.specs.declared.Nullability.{Nullability}
 use Rattle.vx_dtype.specs.declared.Nullability.TheVariants.{NonNullable, Nullable}
 use Rattle.vx_dtype.specs.Types.{Bytes, Ty, bool_ty, int_ty, text_ty, list_ty, struct_ty, Fields, no_fields, field}
-use Rattle.vx_dtype.specs.TypeRules.{nullability_of, union, with_nullability, widened, is_plain, is_bool_ty, is_int_ty, is_text_ty, same_type, fields_of, field_names, field_type, has_name, distinct_names, no_name_twice, no_name_twice_below}
+use Rattle.vx_dtype.specs.TypeRules.{nullability_of, union, with_nullability, widened, is_plain, is_bool_ty, is_int_ty, is_text_ty, alike, fields_of, field_names, field_type, has_name, distinct_names, no_name_twice, no_name_twice_below}
 use Rattle.vx_dtype.specs.Values.{Val, struct_val, fault, Members, no_members, member}
 use Rattle.vx_dtype.specs.Fits.{fits, fits_but_for_faults, members_fit_but_for_faults}
 use Rattle.vx_dtype.specs.Casts.{takes_cast}
@@ -304,10 +304,10 @@ bool_test b n u h = subst (λ (z : Ty). no_name_twice z ≡ true) (one_test b (b
 
 binary-distinct : (op : Operator) (a b u : Ty) → no_name_twice a ≡ true → binary_type op a b ≡ Ok u → no_name_twice u ≡ true
 binary-distinct Operator.Add a b u d h =
-    let t = one_test (same_type a b && is_int_ty a) (with_nullability a (union_of a b)) u h in
+    let t = one_test (alike a b && is_int_ty a) (with_nullability a (union_of a b)) u h in
     subst (λ (z : Ty). no_name_twice z ≡ true) t.1 (distinct-renulled a (union_of a b) d)
 binary-distinct Operator.Sub a b u d h =
-    let t = one_test (same_type a b && is_int_ty a) (with_nullability a (union_of a b)) u h in
+    let t = one_test (alike a b && is_int_ty a) (with_nullability a (union_of a b)) u h in
     subst (λ (z : Ty). no_name_twice z ≡ true) t.1 (distinct-renulled a (union_of a b) d)
 binary-distinct Operator.And a b u d h = bool_test (is_bool_ty a && is_bool_ty b) (union_of a b) u h
 binary-distinct Operator.Or a b u d h = bool_test (is_bool_ty a && is_bool_ty b) (union_of a b) u h

@@ -9,7 +9,7 @@ use Rattle.vx_dtype.specs.declared.Nullability.TheVariants.{NonNullable}
 use Rattle.vx_dtype.specs.declared.CompareOperator.{CompareOperator}
 use Rattle.vx_dtype.specs.declared.CompareOperator.TheVariants.{Eq, NotEq, Gt, Gte, Lt, Lte}
 use Rattle.vx_dtype.specs.Types.{Bytes, Ty, bool_ty, int_ty, text_ty, list_ty, struct_ty, Fields}
-use Rattle.vx_dtype.specs.TypeRules.{nullability_of, union, with_nullability, widened, same_type, is_plain, is_bool_ty, is_int_ty, is_text_ty, fields_of, field_names, field_type, has_name, distinct_names, no_name_twice}
+use Rattle.vx_dtype.specs.TypeRules.{nullability_of, union, with_nullability, widened, alike, is_plain, is_bool_ty, is_int_ty, is_text_ty, fields_of, field_names, field_type, has_name, distinct_names, no_name_twice}
 use Rattle.vx_dtype.specs.Values.{Val, struct_val, fault, value_of}
 use Rattle.vx_dtype.specs.Fits.{val_fits, fits_but_for_faults, holds_fault, member_holds_fault}
 use Rattle.vx_dtype.specs.Logic.{not3}
@@ -27,7 +27,7 @@ use Rattle.vx_semantics.specs.Typing.{Refusal, type_mismatch, not_struct, duplic
 use Rattle.vx_semantics.specs.Meaning.{Slots, mean, meanings, sources, Source, some_gives, merged_value, merged_members, merged, zip_members, select3}
 use Rattle.vx_semantics.specs.Breaks.{by_sum, by_cast, is_fault}
 use Rattle.vx_semantics.specs.Asked.{later_gives, all_given_names, path_or_each, asked, asked_in_pack, asked_of_giver}
-use Rattle.vx_semantics.specs.Honest.{path_value}
+use Rattle.vx_semantics.specs.Paths.{path_value}
 use Rattle.vx_semantics.specs.Slots.{held_fits, slots_fit, all_slots_fit}
 use Rattle.vx_laws.specs.Faults.{breaks, NoBreakNoFault}
 use Rattle.vx_laws.proofs.Inverting.{and_then-ok, unless-ok, Ok-same}
@@ -74,14 +74,14 @@ pub binary-IsNoFault : (t : Ty) (slots : Slots) (row : Val) (l : Tree) (op : Ope
     → IsNoFault (mean t slots row (binary l op r)) × (is_plain u ≡ true)
 unfolding mean
 binary-IsNoFault t slots row l Operator.Add r a b u h k i j q e =
-    let x = one_test (same_type a b && is_int_ty a) (with_nullability a (union_of a b)) u e in (
+    let x = one_test (alike a b && is_int_ty a) (with_nullability a (union_of a b)) u e in (
       unbroken (not (is_fault (mean t slots row l)) && not (is_fault (mean t slots row r))) (mean t slots row (binary l Operator.Add r)) by_sum q (both-sound (mean t slots row l) (mean t slots row r) i j),
-      subst (λ (z : Ty). is_plain z ≡ true) x.1 (int-plain a (union_of a b) (and_parts (same_type a b) (is_int_ty a) x.0).1),
+      subst (λ (z : Ty). is_plain z ≡ true) x.1 (int-plain a (union_of a b) (and_parts (alike a b) (is_int_ty a) x.0).1),
     )
 binary-IsNoFault t slots row l Operator.Sub r a b u h k i j q e =
-    let x = one_test (same_type a b && is_int_ty a) (with_nullability a (union_of a b)) u e in (
+    let x = one_test (alike a b && is_int_ty a) (with_nullability a (union_of a b)) u e in (
       unbroken (not (is_fault (mean t slots row l)) && not (is_fault (mean t slots row r))) (mean t slots row (binary l Operator.Sub r)) by_sum q (both-sound (mean t slots row l) (mean t slots row r) i j),
-      subst (λ (z : Ty). is_plain z ≡ true) x.1 (int-plain a (union_of a b) (and_parts (same_type a b) (is_int_ty a) x.0).1),
+      subst (λ (z : Ty). is_plain z ≡ true) x.1 (int-plain a (union_of a b) (and_parts (alike a b) (is_int_ty a) x.0).1),
     )
 binary-IsNoFault t slots row l Operator.And r a b u h k i j q e =
     let x = one_test (is_bool_ty a && is_bool_ty b) (bool_ty (union_of a b)) u e in

@@ -10,7 +10,7 @@ use Rattle.vx_dtype.specs.declared.Nullability.TheVariants.{NonNullable, Nullabl
 use Rattle.vx_dtype.specs.declared.CompareOperator.{CompareOperator}
 use Rattle.vx_dtype.specs.declared.BetweenOptions.{BetweenOptions}
 use Rattle.vx_dtype.specs.Types.{Ty, bool_ty, int_ty, text_ty, list_ty, struct_ty, Fields, no_fields, field}
-use Rattle.vx_dtype.specs.TypeRules.{is_nullable, nullability_of, union, same_ptype, same_type, is_plain}
+use Rattle.vx_dtype.specs.TypeRules.{is_nullable, nullability_of, union, same_ptype, alike, is_plain}
 use Rattle.vx_dtype.specs.Values.{Raw, raw_null, raw_bool, raw_int, raw_text, raw_list, raw_struct, Raws, no_raws, raw, Val, null_val, bool_val, int_val, text_val, list_val, struct_val, fault, Vals, no_vals, val, Members, no_members, member, Typed, valued, all_valued, members_valued, value_of}
 use Rattle.vx_dtype.specs.Fits.{fits, all_fit, fields_fit, in_range, val_fits, vals_fit, members_fit, fits_but_for_faults, vals_fit_but_for_faults, members_fit_but_for_faults}
 use Rattle.vx_dtype.specs.Logic.{Tri, holds, fails, unknown, broken, tri, truth, and_tri, or_tri, not_tri, and3, or3, not3, is_null3, on_known}
@@ -268,7 +268,7 @@ pub dynamic3-fits : (op : CompareOperator) (default : Bool) (v : Val) (held : Op
 dynamic3-fits op default v None slot n a h = default-fits default v (union n (nullability_of slot))
 dynamic3-fits op default v (Some None) slot n a h = default-fits default v (union n (nullability_of slot))
 dynamic3-fits op default v (Some (Some s)) slot n a h =
-    let parts = and_parts (same_type s.ty slot) (fits s.value s.ty && null_allowed s.value slot) h in
+    let parts = and_parts (alike s.ty slot) (fits s.value s.ty && null_allowed s.value slot) h in
     let more = and_parts (fits s.value s.ty) (null_allowed s.value slot) parts.1 in
     compare3-fits op v (value_of s) n (nullability_of slot) a (held_null_ok s.value s.ty slot more.1)
 

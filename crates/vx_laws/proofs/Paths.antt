@@ -12,7 +12,7 @@ use Rattle.vx_dtype.specs.Fits.{fits_but_for_faults, members_fit_but_for_faults,
 use Rattle.vx_dtype.specs.Structs.{member_named, field_of, members_at}
 use Rattle.vx_semantics.specs.Meaning.{Slots}
 use Rattle.vx_semantics.specs.Asked.{Asking, asks_node, asks_column, each_asked, node_in}
-use Rattle.vx_semantics.specs.Honest.{path_value}
+use Rattle.vx_semantics.specs.Paths.{path_value}
 use Rattle.vx_laws.specs.Faults.{breaks}
 use Rattle.vx_laws.proofs.Structs.{member-fits, no-member-fits, no-field-fits, field_of-fits, IsStructOf, has_field}
 use Rattle.vx_laws.proofs.Preserving.{FitsButFaults}

@@ -7,7 +7,7 @@ use Rattle.vx_dtype.specs.declared.CompareOperator.{CompareOperator}
 use Rattle.vx_dtype.specs.declared.CompareOperator.TheVariants.{Eq, NotEq, Gt, Gte, Lt, Lte}
 use Rattle.vx_dtype.specs.declared.BetweenOptions.{BetweenOptions}
 use Rattle.vx_dtype.specs.Types.{Ty, bool_ty, int_ty, list_ty}
-use Rattle.vx_dtype.specs.TypeRules.{nullability_of, union, with_nullability, same_type, is_bool_ty, is_int_ty, is_text_ty, no_name_twice}
+use Rattle.vx_dtype.specs.TypeRules.{nullability_of, union, with_nullability, alike, is_bool_ty, is_int_ty, is_text_ty, no_name_twice}
 use Rattle.vx_dtype.specs.Values.{Val, Typed, value_of}
 use Rattle.vx_dtype.specs.Fits.{fits, fits_but_for_faults}
 use Rattle.vx_dtype.specs.Logic.{and3, or3, not3, is_null3}
@@ -71,21 +71,21 @@ or-fits l r a b u h k e =
 
 add-fits : (l r : Val) (a b u : Ty) → FitsButFaults l a → FitsButFaults r b → sum_type a b ≡ Ok u → FitsButFaults (add3 l r) u
 add-fits l r (int_ty p n) b u h k e =
-    let t = one_test (same_type (int_ty p n) b && true) (int_ty p (union n (nullability_of b))) u e in
+    let t = one_test (alike (int_ty p n) b && true) (int_ty p (union n (nullability_of b))) u e in
     subst (λ (z : Ty). FitsButFaults (add3 l r) z) t.1 (add3-fits l r p n (nullability_of b) h (null_ok-fits r b k))
 add-fits l r a b u h k e =
-    let t = one_test (same_type a b && is_int_ty a) (with_nullability a (union_of a b)) u e in
-    let int = and_parts (same_type a b) (is_int_ty a) t.0 in
+    let t = one_test (alike a b && is_int_ty a) (with_nullability a (union_of a b)) u e in
+    let int = and_parts (alike a b) (is_int_ty a) t.0 in
     let no : ⊥ = cc (int.1) in
     absurd no
 
 sub-fits : (l r : Val) (a b u : Ty) → FitsButFaults l a → FitsButFaults r b → sum_type a b ≡ Ok u → FitsButFaults (sub3 l r) u
 sub-fits l r (int_ty p n) b u h k e =
-    let t = one_test (same_type (int_ty p n) b && true) (int_ty p (union n (nullability_of b))) u e in
+    let t = one_test (alike (int_ty p n) b && true) (int_ty p (union n (nullability_of b))) u e in
     subst (λ (z : Ty). FitsButFaults (sub3 l r) z) t.1 (sub3-fits l r p n (nullability_of b) h (null_ok-fits r b k))
 sub-fits l r a b u h k e =
-    let t = one_test (same_type a b && is_int_ty a) (with_nullability a (union_of a b)) u e in
-    let int = and_parts (same_type a b) (is_int_ty a) t.0 in
+    let t = one_test (alike a b && is_int_ty a) (with_nullability a (union_of a b)) u e in
+    let int = and_parts (alike a b) (is_int_ty a) t.0 in
     let no : ⊥ = cc (int.1) in
     absurd no
 

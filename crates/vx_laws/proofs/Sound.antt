@@ -8,7 +8,7 @@ use Rattle.vx_dtype.specs.declared.Nullability.{Nullability}
 use Rattle.vx_dtype.specs.declared.CompareOperator.{CompareOperator}
 use Rattle.vx_dtype.specs.declared.BetweenOptions.{BetweenOptions}
 use Rattle.vx_dtype.specs.Types.{Ty, bool_ty, int_ty, text_ty, list_ty, struct_ty}
-use Rattle.vx_dtype.specs.TypeRules.{same_type, is_plain, nullability_of, union}
+use Rattle.vx_dtype.specs.TypeRules.{alike, is_plain, nullability_of, union}
 use Rattle.vx_dtype.specs.Values.{Val, null_val, bool_val, int_val, text_val, list_val, struct_val, fault, Vals, no_vals, val, Members, no_members, member, Typed, value_of}
 use Rattle.vx_dtype.specs.Fits.{fits, val_fits, vals_fit, members_fit, fits_but_for_faults, holds_fault, some_holds_fault, member_holds_fault}
 use Rattle.vx_dtype.specs.Types.{Fields, no_fields, field}
@@ -87,14 +87,14 @@ kind_of (text_ty n) = texts
 kind_of (list_ty e n) = lists
 kind_of (struct_ty fs n) = structs
 
-pub same_type-kind : (a b : Ty) → same_type a b ≡ true → kind_of a ≡ kind_of b
-unfolding same_type
-same_type-kind (bool_ty n) (bool_ty m) h = refl
-same_type-kind (int_ty p n) (int_ty q m) h = refl
-same_type-kind (text_ty n) (text_ty m) h = refl
-same_type-kind (list_ty e n) (list_ty d m) h = refl
-same_type-kind (struct_ty e n) (struct_ty d m) h = refl
-same_type-kind _ _ h = let no : ⊥ = cc in absurd no
+pub alike-kind : (a b : Ty) → alike a b ≡ true → kind_of a ≡ kind_of b
+unfolding alike
+alike-kind (bool_ty n) (bool_ty m) h = refl
+alike-kind (int_ty p n) (int_ty q m) h = refl
+alike-kind (text_ty n) (text_ty m) h = refl
+alike-kind (list_ty e n) (list_ty d m) h = refl
+alike-kind (struct_ty e n) (struct_ty d m) h = refl
+alike-kind _ _ h = let no : ⊥ = cc in absurd no
 
 compare-booleans : (op : CompareOperator) (l r : Val) (n m : Nullability) → FitsButFaults l (bool_ty n) → FitsButFaults r (bool_ty m) → IsNoFault l → IsNoFault r → IsNoFault (compare3 op l r)
 unfolding fits_but_for_faults
@@ -128,7 +128,7 @@ compare-IsNoFault op l r (text_ty n) (text_ty m) e p = compare-texts op l r n m
 compare-IsNoFault op l r _ _ e p = let no : ⊥ = cc in absurd no
 
 pub equal_plain-parts : (a b : Ty) → equal_plain a b ≡ true → (kind_of a ≡ kind_of b) × (is_plain a ≡ true)
-equal_plain-parts a b h = let parts = and_parts (same_type a b) (is_plain a) h in (same_type-kind a b parts.0, parts.1)
+equal_plain-parts a b h = let parts = and_parts (alike a b) (is_plain a) h in (alike-kind a b parts.0, parts.1)
 
 -- truth values that aren't broken
 abbrev pub is_broken : Tri → Bool
@@ -223,11 +223,11 @@ pub dynamic-IsNoFault : (op : CompareOperator) (default : Bool) (v : Val) (held 
 dynamic-IsNoFault op default v None slot a e h k i = default-IsNoFault default v i
 dynamic-IsNoFault op default v (Some None) slot a e h k i = default-IsNoFault default v i
 dynamic-IsNoFault op default v (Some (Some s)) slot a e h k i =
-    let parts = and_parts (same_type s.ty slot) (fits s.value s.ty && null_allowed s.value slot) h in
+    let parts = and_parts (alike s.ty slot) (fits s.value s.ty && null_allowed s.value slot) h in
     let more = and_parts (fits s.value s.ty) (null_allowed s.value slot) parts.1 in
     let p = equal_plain-parts a slot e in
     let is = valued-fits s.value s.ty more.0 in
-    compare-IsNoFault op v (value_of s) a s.ty (p.0 ∙ sym (same_type-kind s.ty slot parts.0)) p.1 k (fits-but_for_faults (value_of s) s.ty is) i (HoldsNoFault-IsNoFault (value_of s) (fits-HoldsNoFault (value_of s) s.ty is))
+    compare-IsNoFault op v (value_of s) a s.ty (p.0 ∙ sym (alike-kind s.ty slot parts.0)) p.1 k (fits-but_for_faults (value_of s) s.ty is) i (HoldsNoFault-IsNoFault (value_of s) (fits-HoldsNoFault (value_of s) s.ty is))
 
 -- a node that doesn't break, and whose operands are no faults, is none
 pub unbroken : (sound : Bool) (v : Val) (c : Cause) → is_some (cause_where sound v c) ≡ false → sound ≡ true → IsNoFault v

@@ -3,7 +3,7 @@ use Rattle.std.proofs.Common.{◌≡◌, refl, true, false, ◌&&◌, Ok, subst}
 use Rattle.std.proofs.lemmas.Bool.{and_parts}
 use Rattle.vx_dtype.specs.declared.PType.{PType}
 use Rattle.vx_dtype.specs.Types.{Ty, bool_ty, int_ty}
-use Rattle.vx_dtype.specs.TypeRules.{same_ptype, same_type, is_int_ty, with_nullability}
+use Rattle.vx_dtype.specs.TypeRules.{same_ptype, alike, is_int_ty, with_nullability}
 use Rattle.vx_dtype.specs.Values.{Val, null_val, int_val}
 use Rattle.vx_dtype.specs.Fits.{in_range, fits_but_for_faults}
 use Rattle.vx_expr.specs.declared.Operator.{Operator}
@@ -21,8 +21,8 @@ unfolding fits_but_for_faults
 int-fit p q i n h = same_ptype-same p q (and_parts (same_ptype p q) (in_range q i) h).0
 
 -- two values of one integer type are no numbers of two
-one_integer_type : (l r : Val) (a b : Ty) → same_type a b ≡ true → is_int_ty a ≡ true → FitsButFaults l a → FitsButFaults r b → no_two_integer_types l r ≡ true
-unfolding same_type fits_but_for_faults
+one_integer_type : (l r : Val) (a b : Ty) → alike a b ≡ true → is_int_ty a ≡ true → FitsButFaults l a → FitsButFaults r b → no_two_integer_types l r ≡ true
+unfolding alike fits_but_for_faults
 one_integer_type (int_val p i) (int_val q j) (int_ty o n) (int_ty s m) e k h g =
     let first : p ≡ o = int-fit p o i n h in
     let second : q ≡ s = int-fit q s j m g in
@@ -40,8 +40,8 @@ one_integer_type _ r a b e k h g = refl
 
 typed-may_swap : (op : Operator) (l r : Val) (a b u : Ty) → binary_type op a b ≡ Ok u → is_difference op ≡ false → FitsButFaults l a → FitsButFaults r b → may_swap op l r ≡ true
 typed-may_swap Operator.Add l r a b u e d h k =
-    let t = one_test (same_type a b && is_int_ty a) (with_nullability a (union_of a b)) u e in
-    let parts = and_parts (same_type a b) (is_int_ty a) t.0 in
+    let t = one_test (alike a b && is_int_ty a) (with_nullability a (union_of a b)) u e in
+    let parts = and_parts (alike a b) (is_int_ty a) t.0 in
     one_integer_type l r a b parts.0 parts.1 h k
 typed-may_swap Operator.Sub l r a b u e d h k = let no : ⊥ = cc in absurd no
 typed-may_swap _ l r a b u e d h k = refl

@@ -27,7 +27,7 @@ use Rattle.vx_semantics.specs.Meaning.{Slots, binary3, dynamic3, mean, meanings,
 use Rattle.vx_semantics.specs.Breaks.{by_sum, by_cast, is_fault, cause_where, break_of}
 use Rattle.vx_semantics.specs.Asked.{Asking, asks_node, asks_column, later_gives, all_given_names, each_asked, asked, asked_in_pack, asked_of_giver}
 use Rattle.vx_semantics.specs.Tables.{row_type}
-use Rattle.vx_semantics.specs.Honest.{path_value}
+use Rattle.vx_semantics.specs.Paths.{path_value}
 use Rattle.vx_semantics.specs.Slots.{held_fits, slots_fit, all_slots_fit}
 use Rattle.vx_laws.proofs.Inverting.{and_then-ok, Ok-same}
 use Rattle.vx_laws.proofs.Structs.{IsStructOf, struct-value, item_type-ok, select_type-ok, select3-fits, AllSourcesFit, merged-fits, has_field, all-own_names, source_names-same, some_gives-same}

@@ -7,7 +7,7 @@ use Rattle.vx_dtype.specs.declared.Stat.{Stat}
 use Rattle.vx_dtype.specs.declared.Stat.TheVariants.{Min, Max}
 use Rattle.vx_dtype.specs.Values.{Val, null_val, bool_val, int_val, text_val, list_val, struct_val, fault, Vals, no_vals, val}
 use Rattle.vx_dtype.specs.Lists.{has_element}
-use Rattle.vx_semantics.specs.Honest.{compares}
+use Rattle.vx_dtype.specs.Order.{compares}
 use Rattle.vx_semantics.specs.Pruning.{known, known_compare, comparison_ruled_out, all_outside}
 use Rattle.vx_laws_scan.proofs.Ordered.{IsAtMost, IsAtMost-trans, IsAtMost-from_gte, IsBelow-from_gt, IsAtMost-from_eq, IsAtMost-from_eq_back, IsBelow-IsAtMost-apart, IsAtMost-both-apart, is_ordered, IsAtMost-itself, ordered-left, ordered-right}
 

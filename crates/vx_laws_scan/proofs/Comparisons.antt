@@ -8,25 +8,24 @@ use Rattle.vx_dtype.specs.declared.CompareOperator.TheVariants.{Eq, NotEq, Gt, G
 use Rattle.vx_dtype.specs.declared.BetweenOptions.{BetweenOptions}
 use Rattle.vx_dtype.specs.declared.Stat.TheVariants.{Min, Max}
 use Rattle.vx_dtype.specs.Types.{Ty, bool_ty, int_ty, text_ty, list_ty, struct_ty}
-use Rattle.vx_dtype.specs.TypeRules.{same_ptype, same_type, is_plain, nullability_of, union}
+use Rattle.vx_dtype.specs.TypeRules.{same_ptype, alike, is_plain, nullability_of, union}
 use Rattle.vx_dtype.specs.Values.{Raw, Val, valued}
 use Rattle.vx_dtype.specs.Fits.{fits}
-use Rattle.vx_dtype.specs.Logic.{not3, is_true_val}
-use Rattle.vx_dtype.specs.Order.{order, compare3, bound_operator}
+use Rattle.vx_dtype.specs.Logic.{not3, is_true_val, is_null_val}
+use Rattle.vx_dtype.specs.Order.{order, compare3, bound_operator, compares}
 use Rattle.vx_expr.specs.declared.Operator.{Operator}
 use Rattle.vx_expr.specs.Trees.{Tree, binary, not_of, between}
 use Rattle.vx_expr.specs.Operators.{inverse_comparison, operator_of, range_as_binary}
 use Rattle.vx_semantics.specs.Typing.{and_then, equal_plain, compare_type, binary_type, not_type, between_type, union_of, typed_of}
 use Rattle.vx_semantics.specs.Meaning.{Slots, mean}
 use Rattle.vx_semantics.specs.Tables.{Zones, row_type}
-use Rattle.vx_semantics.specs.Honest.{is_null_val, compares}
 use Rattle.vx_semantics.specs.Pruning.{known_bound, known_compare, comparison_ruled_out, rules_out, rules_out_negation}
 use Rattle.vx_semantics.specs.Instances.{without_ranges, IsReplaced}
 use Rattle.vx_laws.proofs.Inverting.{and_then-ok, Ok-same}
 use Rattle.vx_laws.proofs.Comparing.{same_ptype-same, binary3-operator_of, not3-compare3}
 use Rattle.vx_laws.proofs.Fitting.{same_ptype-itself, valued-fits}
 use Rattle.vx_laws.proofs.Preserving.{one_test}
-use Rattle.vx_laws.proofs.Sound.{kind_of, same_type-kind, is_broken}
+use Rattle.vx_laws.proofs.Sound.{kind_of, alike-kind, is_broken}
 use Rattle.vx_laws_scan.specs.Exactness.{is_operand, is_plain_filter, PathsAreBounded}
 use Rattle.vx_laws_scan.proofs.Ordered.{stands-compares, IsAtMost, IsBelow-from_gt, IsAtMost-from_below, IsAtMost-itself, ordered-left, ordered-right}
 use Rattle.vx_laws_scan.proofs.Bounds.{IsWithin, ruled_out_apart}
@@ -46,8 +45,8 @@ pub record Pair (zones : Zones) (block : ℕ) (slots : Slots) (row : Val) (l r :
 pub record Operands (zones : Zones) (block : ℕ) (slots : Slots) (row : Val) (l r : Tree) : Type 0 where
   pub left : Operand zones block slots row l
   pub right : Operand zones block slots row r
-  pub same : same_type left.ty right.ty ≡ true
-  pub back : same_type right.ty left.ty ≡ true
+  pub same : alike left.ty right.ty ≡ true
+  pub back : alike right.ty left.ty ≡ true
   pub plain : is_plain left.ty ≡ true
 
 -- the pair of two constants
@@ -84,7 +83,7 @@ eq-itself v h = stands-compares Eq v v Equal (equal-stand v v h h) refl
 pub operands-order : (zones : Zones) (block : ℕ) (slots : Slots) (row : Val) (l r : Tree) (o : Operands zones block slots row l r) (x y : Raw) → fits x o.left.ty ≡ true → fits y o.right.ty ≡ true
     → is_null_val (valued x o.left.ty) ≡ false → is_null_val (valued y o.right.ty) ≡ false → is_some (order (valued x o.left.ty) (valued y o.right.ty)) ≡ true
 operands-order zones block slots row l r o x y h k i j =
-    order-plain (valued x o.left.ty) (valued y o.right.ty) o.left.ty o.right.ty (same_type-kind o.left.ty o.right.ty o.same) o.plain (valued-fits x o.left.ty h) (valued-fits y o.right.ty k) i j
+    order-plain (valued x o.left.ty) (valued y o.right.ty) o.left.ty o.right.ty (alike-kind o.left.ty o.right.ty o.same) o.plain (valued-fits x o.left.ty h) (valued-fits y o.right.ty k) i j
 
 pub kind-plain : (a b : Ty) → kind_of a ≡ kind_of b → is_plain a ≡ true → is_plain b ≡ true
 kind-plain (bool_ty n) (bool_ty m) e p = refl
@@ -105,7 +104,7 @@ equal-pair zones block slots row l r o h k = by-test (compares Lte left_low righ
 
     by-test : (b : Bool) → compares Lte (valued o.left.low o.left.ty) (valued o.right.low o.right.ty) ≡ b → Pair zones block slots row l r (λ v w. compares Eq v w ≡ true)
     by-test true e =
-        let c = carried o.right.low o.right.ty o.left.ty o.back (kind-plain o.left.ty o.right.ty (same_type-kind o.left.ty o.right.ty o.same) o.plain) o.right.low_fits o.right.low_known in
+        let c = carried o.right.low o.right.ty o.left.ty o.back (kind-plain o.left.ty o.right.ty (alike-kind o.left.ty o.right.ty o.same) o.plain) o.right.low_fits o.right.low_known in
         let x = valued o.right.low o.left.ty in
         let y = valued o.right.low o.right.ty in
         paired zones block slots row l r x y (λ v w. compares Eq v w ≡ true)
@@ -159,7 +158,7 @@ compare-complete zones block slots row l r o Eq k =
     let first = inverse-true Gt left_low right_high (operands-order zones block slots row l r o o.left.low o.right.high o.left.low_fits o.right.high_fits o.left.low_known o.right.high_known)
     (sym (known-both Gt (known_bound zones block Min l) (known_bound zones block Max r) left_low right_high o.left.least o.right.greatest) ∙ parts.0) in
     let turned : is_some (order right_low left_high) ≡ true =
-    order-plain right_low left_high o.right.ty o.left.ty (sym (same_type-kind o.left.ty o.right.ty o.same)) (kind-plain o.left.ty o.right.ty (same_type-kind o.left.ty o.right.ty o.same) o.plain)
+    order-plain right_low left_high o.right.ty o.left.ty (sym (alike-kind o.left.ty o.right.ty o.same)) (kind-plain o.left.ty o.right.ty (alike-kind o.left.ty o.right.ty o.same) o.plain)
     (valued-fits o.right.low o.right.ty o.right.low_fits) (valued-fits o.left.high o.left.ty o.left.high_fits) o.right.low_known o.left.high_known in
     let second = inverse-true Gt right_low left_high turned (sym (known-both Gt (known_bound zones block Min r) (known_bound zones block Max l) right_low left_high o.right.least o.left.greatest) ∙ parts.1) in
     equal-pair zones block slots row l r o first second
@@ -319,8 +318,8 @@ range-plain zones slots block row e lower upper options x =
     }
 
 -- equal plain types are equal the other way round
-pub plain-back : (a b : Ty) → same_type a b ≡ true → is_plain a ≡ true → same_type b a ≡ true
-unfolding same_type
+pub plain-back : (a b : Ty) → alike a b ≡ true → is_plain a ≡ true → alike b a ≡ true
+unfolding alike
 plain-back (bool_ty n) (bool_ty m) h p = refl
 plain-back (int_ty o n) (int_ty q m) h p = let same = same_ptype-same o q h in subst (λ (z : _). same_ptype z o ≡ true) same (same_ptype-itself o)
 plain-back (text_ty n) (text_ty m) h p = refl
@@ -330,14 +329,14 @@ plain-back _ _ h p = let no : ⊥ = cc (h) in absurd no
 
 -- two operands of equal plain types
 pub operands : (zones : Zones) (block : ℕ) (slots : Slots) (row : Val) (l r : Tree) (a b : Ty) → is_operand l ≡ true → is_operand r ≡ true → typed_of (row_type zones.columns) l ≡ Ok a
-    → typed_of (row_type zones.columns) r ≡ Ok b → same_type a b ≡ true → is_plain a ≡ true → PathsAreBounded zones block l → PathsAreBounded zones block r → Operands zones block slots row l r
+    → typed_of (row_type zones.columns) r ≡ Ok b → alike a b ≡ true → is_plain a ≡ true → PathsAreBounded zones block l → PathsAreBounded zones block r → Operands zones block slots row l r
 operands zones block slots row l r a b i j h k s p x y =
     let t = row_type zones.columns in
     let left = operand-ok zones block slots row l a i h p x in
-    let right = operand-ok zones block slots row r b j k (kind-plain a b (same_type-kind a b s) p) y in
+    let right = operand-ok zones block slots row r b j k (kind-plain a b (alike-kind a b s) p) y in
     let own = Ok-same (typed_of t l) a left.ty h left.typed in
     let other = Ok-same (typed_of t r) b right.ty k right.typed in
-    let same : same_type left.ty right.ty ≡ true = subst (λ (z : Ty). same_type z right.ty ≡ true) own (subst (λ (z : Ty). same_type a z ≡ true) other s) in
+    let same : alike left.ty right.ty ≡ true = subst (λ (z : Ty). alike z right.ty ≡ true) own (subst (λ (z : Ty). alike a z ≡ true) other s) in
     let plain : is_plain left.ty ≡ true = subst (λ (z : Ty). is_plain z ≡ true) own p in
     record { left = left; right = right; same = same; back = plain-back left.ty right.ty same plain; plain = plain }
 
@@ -370,7 +369,7 @@ pub compared-operands : (zones : Zones) (block : ℕ) (slots : Slots) (row : Val
     → Operands zones block slots row l r
 compared-operands zones block slots row l r u h c x y =
     let parts = and_parts (is_operand l) (is_operand r) h in
-    let equal = and_parts (same_type c.first c.second) (is_plain c.first) c.equal in
+    let equal = and_parts (alike c.first c.second) (is_plain c.first) c.equal in
     operands zones block slots row l r c.first c.second parts.0 parts.1 c.first_typed c.second_typed equal.0 equal.1 x y
 
 -- a plain filter is exact, and so is its negation
@@ -407,13 +406,13 @@ plain-exact zones slots block row (between d lower upper options) u h e b =
     let z = and_then-ok (typed_of t upper) (between_type x.given y.given) u y.gave in
     let test = one_test (equal_plain x.given y.given && equal_plain x.given z.given) (bool_ty (union (nullability_of x.given) (union_of y.given z.given))) u z.gave in
     let equal = and_parts (equal_plain x.given y.given) (equal_plain x.given z.given) test.0 in
-    let first = and_parts (same_type x.given y.given) (is_plain x.given) equal.0 in
-    let second = and_parts (same_type x.given z.given) (is_plain x.given) equal.1 in
+    let first = and_parts (alike x.given y.given) (is_plain x.given) equal.0 in
+    let second = and_parts (alike x.given z.given) (is_plain x.given) equal.1 in
     range-plain zones slots block row d lower upper options
     (and-plain zones slots block row (binary lower (operator_of (bound_operator options.lower_strict)) d) (binary d (operator_of (bound_operator options.upper_strict)) upper)
     (comparison-plain zones block slots row lower d (bound_operator options.lower_strict)
     (operands zones block slots row lower d y.given x.given more.0 parts.0 y.was x.was (plain-back x.given y.given first.0 first.1)
-    (kind-plain x.given y.given (same_type-kind x.given y.given first.0) first.1) b.1 b.0))
+    (kind-plain x.given y.given (alike-kind x.given y.given first.0) first.1) b.1 b.0))
     (comparison-plain zones block slots row d upper (bound_operator options.upper_strict)
     (operands zones block slots row d upper x.given z.given parts.0 more.1 x.was z.was second.0 second.1 b.0 b.2)))
 plain-exact zones slots block row _ u h e b = let no : ⊥ = cc (h) in absurd no

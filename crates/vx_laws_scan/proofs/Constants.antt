@@ -15,17 +15,18 @@ use Rattle.vx_dtype.specs.declared.CompareOperator.TheVariants.{Eq, NotEq, Gt, G
 use Rattle.vx_dtype.specs.declared.Stat.{Stat}
 use Rattle.vx_dtype.specs.declared.Stat.TheVariants.{Min, Max}
 use Rattle.vx_dtype.specs.Types.{Bytes, Ty, bool_ty, int_ty, text_ty, list_ty, struct_ty}
-use Rattle.vx_dtype.specs.TypeRules.{same_type, same_ptype, is_plain}
+use Rattle.vx_dtype.specs.TypeRules.{alike, same_ptype, is_plain}
 use Rattle.vx_dtype.specs.Values.{Raw, raw_bool, raw_int, raw_text, raw_list, raw_struct, Raws, Val, null_val, bool_val, int_val, text_val, list_val, struct_val, fault, Typed, valued, value_of}
 use Rattle.vx_dtype.specs.Fits.{fits, val_fits, in_range}
-use Rattle.vx_dtype.specs.Order.{order, meets}
+use Rattle.vx_dtype.specs.Order.{order, meets, compares}
 use Rattle.vx_expr.specs.Trees.{Tree, root, literal, get_item}
 use Rattle.vx_expr.specs.Operators.{inverse_comparison}
 use Rattle.vx_semantics.specs.Typing.{typed_of}
 use Rattle.vx_semantics.specs.Meaning.{Slots, mean}
 use Rattle.vx_semantics.specs.Tables.{Zones, row_type}
-use Rattle.vx_semantics.specs.Honest.{is_null_val, compares}
-use Rattle.vx_semantics.specs.Pruning.{path_of, known, known_at, known_bound, known_compare}
+use Rattle.vx_dtype.specs.Logic.{is_null_val}
+use Rattle.vx_semantics.specs.Pruning.{known, known_at, known_bound, known_compare}
+use Rattle.vx_semantics.specs.Paths.{path_of}
 use Rattle.vx_semantics.specs.Instances.{without_ranges, IsConstantFor, IsReplaced}
 use Rattle.vx_laws.proofs.Inverting.{bytes_same}
 use Rattle.vx_laws.proofs.Comparing.{same_ptype-same, order-swap, reversed}
@@ -290,8 +291,8 @@ unfolding fits
 no-struct c (struct_ty fs n) p h = cc
 no-struct c _ p h = cc
 
-pub carried : (x : Raw) (a b : Ty) → same_type a b ≡ true → is_plain a ≡ true → fits x a ≡ true → is_null_val (valued x a) ≡ false → Carried x a b
-unfolding same_type fits valued
+pub carried : (x : Raw) (a b : Ty) → alike a b ≡ true → is_plain a ≡ true → fits x a ≡ true → is_null_val (valued x a) ≡ false → Carried x a b
+unfolding alike fits valued
 carried (raw_bool c) (bool_ty n) (bool_ty m) e p h k = record { fit = refl; same = refl }
 carried (raw_text c) (text_ty n) (text_ty m) e p h k = record { fit = refl; same = refl }
 carried (raw_int c) (int_ty o n) (int_ty q m) e p h k =

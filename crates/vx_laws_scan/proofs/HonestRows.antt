@@ -7,7 +7,7 @@ use Rattle.std.specs.List.{list_all, filter, find, AllByRecursion}
 use Rattle.std.specs.Ordering.{int_cmp, MatchOrdering}
 use Rattle.std.proofs.lemmas.Cmp.{int_ranked}
 use Rattle.std.proofs.lemmas.Int.{ints}
-use Rattle.vx_dtype.specs.Order.{meets}
+use Rattle.vx_dtype.specs.Order.{meets, compares}
 use Rattle.std.proofs.lemmas.Bool.{and_parts}
 use Rattle.vx_dtype.specs.declared.PType.TheVariants.{U64}
 use Rattle.vx_dtype.specs.declared.CompareOperator.TheVariants.{Eq, Gte, Lte}
@@ -21,8 +21,10 @@ use Rattle.vx_dtype.specs.Equal.{names_eq}
 use Rattle.vx_dtype.specs.EqualLaws.{names_decides}
 use Rattle.vx_semantics.specs.Tables.{Table, ZoneStat, Zones, same_stat, joined_name}
 use Rattle.vx_dtype.specs.Structs.{field_of}
-use Rattle.vx_semantics.specs.Honest.{path_value, is_null_val, compares, null_rows, honest_value, honest_values, IsHonest}
-use Rattle.vx_semantics.specs.Pruning.{path_of, is_joined, is_statistic, available, known, value_in, known_in, known_at, known_bound}
+use Rattle.vx_semantics.specs.Honest.{null_rows, honest_value, honest_values, IsHonest}
+use Rattle.vx_semantics.specs.Paths.{path_value, path_of}
+use Rattle.vx_dtype.specs.Logic.{is_null_val}
+use Rattle.vx_semantics.specs.Pruning.{is_joined, is_statistic, available, known, value_in, known_in, known_at, known_bound}
 use Rattle.vx_laws_scan.proofs.Ordered.{compares-stands, IsAtMost, IsAtMost-trans, IsAtMost-from_gte, IsAtMost-from_eq, is_ordered}
 use Rattle.vx_laws_scan.proofs.Bounds.{IsWithin, itself-within}
 

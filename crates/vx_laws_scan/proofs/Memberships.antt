@@ -7,22 +7,23 @@ use Rattle.vx_dtype.specs.declared.CompareOperator.TheVariants.{Eq, Gt, Lt, Lte}
 use Rattle.vx_dtype.specs.declared.Stat.{Stat}
 use Rattle.vx_dtype.specs.declared.Stat.TheVariants.{Min, Max}
 use Rattle.vx_dtype.specs.Types.{Bytes, Ty, bool_ty, int_ty, text_ty, list_ty, struct_ty}
-use Rattle.vx_dtype.specs.TypeRules.{same_type, is_plain, nullability_of, union}
+use Rattle.vx_dtype.specs.TypeRules.{alike, is_plain, nullability_of, union}
 use Rattle.vx_dtype.specs.Values.{Raw, raw_null, raw_bool, raw_int, raw_text, raw_list, raw_struct, Raws, no_raws, raw, Val, null_val, bool_val, int_val, text_val, list_val, struct_val, fault, Vals, Typed, valued, all_valued, value_of}
 use Rattle.vx_dtype.specs.Fits.{fits, all_fit}
-use Rattle.vx_dtype.specs.Logic.{is_true_val}
+use Rattle.vx_dtype.specs.Logic.{is_true_val, is_null_val}
 use Rattle.vx_dtype.specs.Lists.{has_element, contains3}
 use Rattle.vx_expr.specs.Trees.{Tree, literal, list_contains}
 use Rattle.vx_semantics.specs.Typing.{and_then, equal_plain, contains_type, literal_type, typed_of}
 use Rattle.vx_semantics.specs.Meaning.{Slots, mean}
 use Rattle.vx_semantics.specs.Tables.{ZoneStat, Zones, row_type}
-use Rattle.vx_semantics.specs.Honest.{is_null_val, compares}
-use Rattle.vx_semantics.specs.Pruning.{path_of, known, available, known_in, available_at, known_at, known_bound, known_compare, all_outside, bound_available, elements_ruled_out, contains_ruled_out, rules_out}
+use Rattle.vx_dtype.specs.Order.{compares}
+use Rattle.vx_semantics.specs.Pruning.{known, available, known_in, available_at, known_at, known_bound, known_compare, all_outside, bound_available, elements_ruled_out, contains_ruled_out, rules_out}
+use Rattle.vx_semantics.specs.Paths.{path_of}
 use Rattle.vx_semantics.specs.Instances.{without_ranges, IsReplaced}
 use Rattle.vx_laws.proofs.Inverting.{and_then-ok, Ok-same}
 use Rattle.vx_laws.proofs.Fitting.{valued-fits}
 use Rattle.vx_laws.proofs.Preserving.{one_test, literal_type-ok}
-use Rattle.vx_laws.proofs.Sound.{same_type-kind}
+use Rattle.vx_laws.proofs.Sound.{alike-kind}
 use Rattle.vx_laws_scan.specs.Exactness.{is_operand, none_is_null, is_list_without_null, PathsAreBounded}
 use Rattle.vx_laws_scan.proofs.Ordered.{IsAtMost, IsAtMost-from_gte, is_ordered, IsAtMost-itself, ordered-left, ordered-right}
 use Rattle.vx_laws_scan.proofs.Ruling.{Holds, contains-apart}
@@ -147,7 +148,7 @@ elements-inside (raw x xs) d bounded least_known greatest_known b h k j =
 pub record Membership (zones : Zones) (block : ℕ) (slots : Slots) (row : Val) (s : Typed) (e : Tree) : Type 0 where
   pub operand : Operand zones block slots row e
   pub shape : ListShape (value_of s) s.ty
-  pub same : same_type shape.element operand.ty ≡ true
+  pub same : alike shape.element operand.ty ≡ true
   pub plain : is_plain shape.element ≡ true
 
 pub membership-witness : (zones : Zones) (block : ℕ) (slots : Slots) (row : Val) (s : Typed) (e : Tree) (P : Val → Type 0) (x : Val) → Membership zones block slots row s e
@@ -170,7 +171,7 @@ membership-complete zones block slots row s e o k =
     let r = elements-inside o.shape.items d (bound_available zones e Min && bound_available zones e Max) (known_bound zones block Min e) (known_bound zones block Max e) bounded o.shape.fit o.shape.known
     (subst (λ (v : Val). elements_ruled_out v (bound_available zones e Min && bound_available zones e Max) (known_bound zones block Min e) (known_bound zones block Max e) ≡ false) o.shape.value k) in
     let v = valued r.item d in
-    let kinds = same_type-kind d o.operand.ty o.same in
+    let kinds = alike-kind d o.operand.ty o.same in
     let plain = kind-plain d o.operand.ty kinds o.plain in
     let fit = valued-fits r.item d r.fit in
     let below = inverse-true Lt high v (order-plain high v o.operand.ty d (sym kinds) plain (valued-fits o.operand.high o.operand.ty o.operand.high_fits) fit o.operand.high_known r.not_null)
@@ -204,8 +205,8 @@ membership-exact zones block slots row s e o =
     }
 
 membership-from : (zones : Zones) (block : ℕ) (slots : Slots) (row : Val) (s : Typed) (v : Tree) (o : Operand zones block slots row v) (h : ListShape (value_of s) s.ty) (b : Ty) → b ≡ o.ty
-    → same_type h.element b ≡ true → is_plain h.element ≡ true → Membership zones block slots row s v
-membership-from zones block slots row s v o h b e k p = record { operand = o; shape = h; same = subst (λ (z : Ty). same_type h.element z ≡ true) e k; plain = p }
+    → alike h.element b ≡ true → is_plain h.element ≡ true → Membership zones block slots row s v
+membership-from zones block slots row s v o h b e k p = record { operand = o; shape = h; same = subst (λ (z : Ty). alike h.element z ≡ true) e k; plain = p }
 
 pub membership-ok : (zones : Zones) (block : ℕ) (slots : Slots) (row : Val) (s : Typed) (v : Tree) (u : Ty) → is_list_without_null (value_of s) ≡ true → is_operand v ≡ true
     → typed_of (row_type zones.columns) (list_contains (literal s) v) ≡ Ok u → PathsAreBounded zones block v → Membership zones block slots row s v
@@ -218,6 +219,6 @@ membership-ok zones block slots row s v u h o e b =
     let shape = list-shape s.value s.ty k.is_value h in
     let types : contains_type (list_ty shape.element shape.nullability) y.given ≡ Ok u = subst (λ (z : Ty). contains_type z y.given ≡ Ok u) (sym k.same ∙ shape.is) y.gave in
     let test = one_test (equal_plain shape.element y.given) (bool_ty (union shape.nullability (nullability_of y.given))) u types in
-    let equal = and_parts (same_type shape.element y.given) (is_plain shape.element) test.0 in
-    let operand = operand-ok zones block slots row v y.given o y.was (kind-plain shape.element y.given (same_type-kind shape.element y.given equal.0) equal.1) b in
+    let equal = and_parts (alike shape.element y.given) (is_plain shape.element) test.0 in
+    let operand = operand-ok zones block slots row v y.given o y.was (kind-plain shape.element y.given (alike-kind shape.element y.given equal.0) equal.1) b in
     membership-from zones block slots row s v operand shape y.given (Ok-same (typed_of t v) y.given operand.ty y.was operand.typed) equal.0 equal.1

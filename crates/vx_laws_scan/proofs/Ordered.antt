@@ -11,8 +11,7 @@ use Rattle.vx_dtype.specs.declared.CompareOperator.{CompareOperator}
 use Rattle.vx_dtype.specs.declared.CompareOperator.TheVariants.{Eq, NotEq, Gt, Gte, Lt, Lte}
 use Rattle.vx_dtype.specs.Values.{Val, null_val, bool_val, int_val, text_val, list_val, struct_val, fault}
 use Rattle.vx_dtype.specs.Logic.{is_true_val}
-use Rattle.vx_dtype.specs.Order.{order, meets, by_order, compare3}
-use Rattle.vx_semantics.specs.Honest.{compares}
+use Rattle.vx_dtype.specs.Order.{order, meets, by_order, compare3, compares}
 use Rattle.vx_laws.proofs.Comparing.{order-swap, reversed, compare3-swap}
 
 -- how two values stand, where a comparison of them is true

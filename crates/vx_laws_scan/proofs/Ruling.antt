@@ -11,7 +11,7 @@ use Rattle.vx_dtype.specs.declared.Stat.TheVariants.{Min, Max, NullCount}
 use Rattle.vx_dtype.specs.declared.BetweenOptions.{BetweenOptions}
 use Rattle.vx_dtype.specs.Types.{Bytes, Ty}
 use Rattle.vx_dtype.specs.Values.{Val, null_val, bool_val, list_val, fault, no_vals, val, value_of}
-use Rattle.vx_dtype.specs.Logic.{Tri, holds, fails, unknown, broken, tri, truth, and_tri, or_tri, not_tri, and3, or3, not3, is_null3, is_true_val}
+use Rattle.vx_dtype.specs.Logic.{Tri, holds, fails, unknown, broken, tri, truth, and_tri, or_tri, not_tri, and3, or3, not3, is_null3, is_true_val, is_null_val}
 use Rattle.vx_dtype.specs.Order.{compare3, between3, bound_operator}
 use Rattle.vx_dtype.specs.Lists.{has_element, contains3}
 use Rattle.vx_expr.specs.declared.Operator.{Operator}
@@ -19,8 +19,9 @@ use Rattle.vx_expr.specs.Trees.{Tree, literal, binary, not_of, is_null_of, betwe
 use Rattle.vx_expr.specs.Operators.{inverse_comparison}
 use Rattle.vx_semantics.specs.Meaning.{Slots, slot_value, default_answer, dynamic3, mean}
 use Rattle.vx_semantics.specs.Tables.{Table, Zones}
-use Rattle.vx_semantics.specs.Honest.{path_value, is_null_val, IsHonest}
-use Rattle.vx_semantics.specs.Pruning.{path_of, known_at, known_bound, comparison_ruled_out, range_ruled_out, range_negation_ruled_out, is_zero, all_outside, bound_available, elements_ruled_out, contains_ruled_out, slot_bound, needed_bound, dynamic_ruled_out_by, rules_out, rules_out_negation}
+use Rattle.vx_semantics.specs.Honest.{IsHonest}
+use Rattle.vx_semantics.specs.Paths.{path_value, path_of}
+use Rattle.vx_semantics.specs.Pruning.{known_at, known_bound, comparison_ruled_out, range_ruled_out, range_negation_ruled_out, is_zero, all_outside, bound_available, elements_ruled_out, contains_ruled_out, slot_bound, needed_bound, dynamic_ruled_out_by, rules_out, rules_out_negation}
 use Rattle.vx_laws.proofs.Kleene.{tri-truth}
 use Rattle.vx_laws.proofs.Comparing.{not3-compare3}
 use Rattle.vx_laws_scan.specs.Pruned.{RuledOutIsNeverTrue}

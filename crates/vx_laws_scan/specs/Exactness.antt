@@ -6,15 +6,16 @@ use Rattle.vx_dtype.specs.declared.Stat.TheVariants.{Min, Max}
 use Rattle.vx_dtype.specs.Types.{Ty}
 use Rattle.vx_dtype.specs.Values.{Raw, Val, list_val, Vals, no_vals, val, valued, value_of}
 use Rattle.vx_dtype.specs.Fits.{fits}
-use Rattle.vx_dtype.specs.Logic.{is_true_val}
+use Rattle.vx_dtype.specs.Logic.{is_true_val, is_null_val}
 use Rattle.vx_expr.specs.declared.Operator.{Operator}
 use Rattle.vx_expr.specs.Trees.{Tree, root, literal, get_item, binary, not_of, between, list_contains}
 use Rattle.vx_expr.specs.Operators.{comparison_of}
 use Rattle.vx_semantics.specs.Typing.{typed_of}
 use Rattle.vx_semantics.specs.Meaning.{Slots, mean}
 use Rattle.vx_semantics.specs.Tables.{Zones, row_type}
-use Rattle.vx_semantics.specs.Honest.{is_null_val, compares}
-use Rattle.vx_semantics.specs.Pruning.{path_of, known_at, rules_out}
+use Rattle.vx_dtype.specs.Order.{compares}
+use Rattle.vx_semantics.specs.Pruning.{known_at, rules_out}
+use Rattle.vx_semantics.specs.Paths.{path_of}
 use Rattle.vx_semantics.specs.Instances.{IsInstance}
 
 -- a path, or a constant that is not null

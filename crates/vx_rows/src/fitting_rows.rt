@@ -5,7 +5,7 @@ ghost use Rattle.std.specs.Prelude.{◌≡◌, [], ◌∷◌, codes, pos, true, 
 ghost use Rattle.vx_dtype.specs.declared.PType.TheVariants.{I32, I64};
 ghost use Rattle.vx_dtype.specs.declared.Nullability.TheVariants.{NonNullable, Nullable};
 ghost use Rattle.vx_dtype.specs.Types.{bool_ty, int_ty, text_ty, list_ty, struct_ty, no_fields, field};
-ghost use Rattle.vx_dtype.specs.TypeRules.{same_type};
+ghost use Rattle.vx_dtype.specs.TypeRules.{alike};
 ghost use Rattle.vx_dtype.specs.Values.{raw_null, raw_bool, raw_int, raw_list, no_raws, raw, bool_val, int_val, list_val, struct_val, fault, no_vals, val, no_members, member};
 ghost use Rattle.vx_dtype.specs.Fits.{fits, val_fits, fits_but_for_faults, holds_fault};
 ghost use Rattle.vx_expr.specs.Trees.{merge, pack, no_trees};
@@ -15,9 +15,9 @@ ghost use Rattle.vx_semantics.specs.Samples.{alone, only};
 
 /// Types are equal but for nullability in each part, of lists of lists and of every field.
 pub fn compares_types_in_each_part()
-    ensures lists { same_type (list_ty (list_ty (int_ty I32 NonNullable) NonNullable) NonNullable) (list_ty (list_ty (int_ty I32 Nullable) Nullable) NonNullable) ≡ true }
-    ensures elements { same_type (list_ty (int_ty I32 NonNullable) NonNullable) (list_ty (int_ty I64 NonNullable) NonNullable) ≡ false }
-    ensures last_field { same_type (struct_ty (field (codes "a") (int_ty I32 NonNullable) (only "b" (int_ty I32 NonNullable))) NonNullable) (struct_ty (field (codes "a") (int_ty I32 NonNullable) (only "b" (int_ty I32 Nullable))) NonNullable) ≡ true }
+    ensures lists { alike (list_ty (list_ty (int_ty I32 NonNullable) NonNullable) NonNullable) (list_ty (list_ty (int_ty I32 Nullable) Nullable) NonNullable) ≡ true }
+    ensures elements { alike (list_ty (int_ty I32 NonNullable) NonNullable) (list_ty (int_ty I64 NonNullable) NonNullable) ≡ false }
+    ensures last_field { alike (struct_ty (field (codes "a") (int_ty I32 NonNullable) (only "b" (int_ty I32 NonNullable))) NonNullable) (struct_ty (field (codes "a") (int_ty I32 NonNullable) (only "b" (int_ty I32 Nullable))) NonNullable) ≡ true }
 {}
 
 /// A list of a type holds values of its element type alone.

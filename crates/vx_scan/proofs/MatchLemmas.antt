@@ -5,16 +5,16 @@ use Rattle.std.proofs.lemmas.List.{drop_more}
 use Rattle.vx_dtype.specs.declared.ScalarValue.{ScalarValue}
 use Rattle.vx_dtype.specs.Fits.{fits}
 use Rattle.vx_dtype.specs.RawViews.{raw_view}
-use Rattle.vx_dtype.specs.TypeRules.{same_type}
+use Rattle.vx_dtype.specs.TypeRules.{alike}
 use Rattle.vx_dtype.specs.Types.{Ty}
 use Rattle.vx_dtype.specs.Values.{Val, null_val}
 use Rattle.vx_column.specs.Columns.{values_fit, seen, seen_rows, zip_rows}
 use Rattle.vx_scan.specs.FirstForm.{i64_ty}
 
 -- two types that are i64
-pub same_i64 : (t u : Ty) → t ≡ i64_ty → u ≡ i64_ty → same_type t u ≡ true
-unfolding same_type
-same_i64 t u h k = λ i. same_type (h i) (k i)
+pub same_i64 : (t u : Ty) → t ≡ i64_ty → u ≡ i64_ty → alike t u ≡ true
+unfolding alike
+same_i64 t u h k = λ i. alike (h i) (k i)
 
 -- the comparison of each value with one
 pub zip_repeated : (f : Val → Val → Val) (k : Val) (xs : List Val) → zip_rows f xs (replicate (length xs) k) ≡ map (λ v. f v k) xs

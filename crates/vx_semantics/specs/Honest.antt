@@ -6,25 +6,11 @@ use Rattle.vx_dtype.specs.declared.CompareOperator.{CompareOperator}
 use Rattle.vx_dtype.specs.declared.Stat.{Stat}
 use Rattle.vx_dtype.specs.declared.Stat.TheVariants.{Min, Max, NaNCount, NullCount}
 use Rattle.vx_dtype.specs.Types.{Bytes}
-use Rattle.vx_dtype.specs.Values.{Val, null_val, int_val, Typed, value_of}
-use Rattle.vx_dtype.specs.Logic.{is_true_val}
-use Rattle.vx_dtype.specs.Order.{compare3}
-use Rattle.vx_dtype.specs.Structs.{field_of}
+use Rattle.vx_dtype.specs.Values.{Val, int_val, Typed, value_of}
+use Rattle.vx_dtype.specs.Logic.{is_null_val}
+use Rattle.vx_dtype.specs.Order.{compares}
+use Rattle.vx_semantics.specs.Paths.{path_value}
 use Rattle.vx_semantics.specs.Tables.{Table, Zones}
-
--- the value of a path at a row: the field of the field, from the row on
-abbrev pub path_value : List Bytes → Val → Val
-path_value [] v = v
-path_value (f ∷ fs) v = path_value fs (field_of f v)
-
--- whether a value is null
-abbrev pub is_null_val : Val → Bool
-is_null_val null_val = true
-is_null_val _ = false
-
--- whether a comparison of two values is true
-abbrev pub compares : CompareOperator → Val → Val → Bool
-compares op l r = is_true_val (compare3 op l r)
 
 -- whether a bound is null, or stands so to every value of the path that is not null
 abbrev pub bounds_all : CompareOperator → Val → List Bytes → List Val → Bool

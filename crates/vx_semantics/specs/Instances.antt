@@ -8,7 +8,8 @@ use Rattle.vx_expr.specs.Trees.{Tree, root, literal, get_item, binary, not_of, i
 use Rattle.vx_expr.specs.Operators.{range_as_binary}
 use Rattle.vx_semantics.specs.Typing.{typed_of}
 use Rattle.vx_semantics.specs.Tables.{Zones, row_type}
-use Rattle.vx_semantics.specs.Pruning.{path_of, known_at, known_compare}
+use Rattle.vx_semantics.specs.Pruning.{known_at, known_compare}
+use Rattle.vx_semantics.specs.Paths.{path_of}
 
 unfoldable mutual
   -- the expression with each range written as its two comparisons

@@ -5,6 +5,7 @@ pub mod Slots
 pub mod Breaks
 pub mod Asked
 pub mod Tables
+pub mod Paths
 pub mod Honest
 pub mod Pruning
 pub mod Scans

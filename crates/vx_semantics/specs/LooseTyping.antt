@@ -6,7 +6,7 @@ use Rattle.std.specs.Prelude.{nat_eq, Bool, true, ◌&&◌, List, [], ◌∷◌,
 use Rattle.vx_dtype.specs.declared.Nullability.{Nullability}
 use Rattle.vx_dtype.specs.declared.Nullability.TheVariants.{NonNullable}
 use Rattle.vx_dtype.specs.Types.{Bytes, Ty, bool_ty, struct_ty, Fields}
-use Rattle.vx_dtype.specs.TypeRules.{union, nullability_of, same_type}
+use Rattle.vx_dtype.specs.TypeRules.{union, nullability_of, alike}
 use Rattle.vx_expr.specs.declared.Operator.{Operator}
 use Rattle.vx_expr.specs.declared.FieldSelection.{FieldSelection}
 use Rattle.vx_expr.specs.declared.FieldSelection.TheVariants.{Include, Exclude}
@@ -37,10 +37,10 @@ loose_binary_type _ a b = Ok (bool_ty (union_of a b))
 -- a range asks three equal types, a comparison with a slot two
 abbrev pub loose_between_type : Ty → Ty → Ty → Result Ty Refusal
 loose_between_type a lower upper =
-    unless (same_type a lower && same_type a upper) type_mismatch (Ok (bool_ty (union (nullability_of a) (union_of lower upper))))
+    unless (alike a lower && alike a upper) type_mismatch (Ok (bool_ty (union (nullability_of a) (union_of lower upper))))
 
 abbrev pub loose_dynamic_type : Ty → Ty → Result Ty Refusal
-loose_dynamic_type slot a = unless (same_type a slot) type_mismatch (Ok (bool_ty (union_of a slot)))
+loose_dynamic_type slot a = unless (alike a slot) type_mismatch (Ok (bool_ty (union_of a slot)))
 
 unfoldable mutual
   -- the type of an expression over the scope's type, by the looser rules

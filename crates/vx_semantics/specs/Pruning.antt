@@ -11,19 +11,13 @@ use Rattle.vx_dtype.specs.declared.Stat.TheVariants.{Min, Max, NullCount}
 use Rattle.vx_dtype.specs.Types.{Bytes}
 use Rattle.vx_dtype.specs.Values.{Val, null_val, int_val, list_val, Vals, no_vals, val, Typed, value_of}
 use Rattle.vx_dtype.specs.Equal.{names_eq}
-use Rattle.vx_dtype.specs.Order.{bound_operator}
+use Rattle.vx_dtype.specs.Order.{bound_operator, compares}
 use Rattle.vx_expr.specs.declared.Operator.{Operator}
 use Rattle.vx_expr.specs.Trees.{Tree, root, literal, get_item, binary, not_of, is_null_of, between, list_contains, dynamic}
 use Rattle.vx_expr.specs.Operators.{comparison_of, inverse_comparison}
 use Rattle.vx_semantics.specs.Meaning.{Slots, slot_value}
+use Rattle.vx_semantics.specs.Paths.{path_of}
 use Rattle.vx_semantics.specs.Tables.{ZoneStat, Zones, same_stat, joined_name}
-use Rattle.vx_semantics.specs.Honest.{compares}
-
--- the names from the row on of a chain of field accesses over the row, none where the expression is no such chain
-abbrev pub path_of : Tree → Option (List Bytes)
-path_of root = Some []
-path_of (get_item f e) = option_map (λ names. names ++ f ∷ []) (path_of e)
-path_of _ = None
 
 -- whether a statistic has this joined name, and whether it is of this path and kind
 abbrev pub is_joined : Bytes → ZoneStat → Bool

@@ -1,7 +1,7 @@
 -- When the slots of comparisons with a slot fit.
 use Rattle.std.specs.Prelude.{Bool, true, ◌&&◌, Option, Some, None, slice_get}
 use Rattle.vx_dtype.specs.Types.{Ty}
-use Rattle.vx_dtype.specs.TypeRules.{is_nullable, nullability_of, same_type}
+use Rattle.vx_dtype.specs.TypeRules.{is_nullable, nullability_of, alike}
 use Rattle.vx_dtype.specs.Values.{Raw, raw_null, Typed}
 use Rattle.vx_dtype.specs.Fits.{fits}
 use Rattle.vx_expr.specs.Trees.{Tree, root, literal, get_item, binary, not_of, is_null_of, like, between, cast, list_contains, pack, merge, select, dynamic, Trees, no_trees, tree}
@@ -16,7 +16,7 @@ null_allowed _ t = true
 abbrev pub held_fits : Option (Option Typed) → Ty → Bool
 held_fits None t = true
 held_fits (Some None) t = true
-held_fits (Some (Some s)) t = same_type s.ty t && (fits s.value s.ty && null_allowed s.value t)
+held_fits (Some (Some s)) t = alike s.ty t && (fits s.value s.ty && null_allowed s.value t)
 
 unfoldable mutual
   -- whether the slot of each comparison with a slot in an expression fits

@@ -5,7 +5,7 @@ use Rattle.std.specs.List.{list_all, flat_map}
 use Rattle.vx_dtype.specs.declared.Nullability.{Nullability}
 use Rattle.vx_dtype.specs.declared.Nullability.TheVariants.{NonNullable}
 use Rattle.vx_dtype.specs.Types.{Bytes, Ty, bool_ty, list_ty, struct_ty, Fields, no_fields, field}
-use Rattle.vx_dtype.specs.TypeRules.{is_nullable, union, nullability_of, with_nullability, widened, same_type, is_plain, is_bool_ty, is_int_ty, is_text_ty, fields_of, field_names, field_type, has_name, distinct_names, no_name_twice}
+use Rattle.vx_dtype.specs.TypeRules.{is_nullable, union, nullability_of, with_nullability, widened, alike, is_plain, is_bool_ty, is_int_ty, is_text_ty, fields_of, field_names, field_type, has_name, distinct_names, no_name_twice}
 use Rattle.vx_dtype.specs.StructTypes.{is_struct_ty}
 use Rattle.vx_dtype.specs.Zipped.{zipped}
 use Rattle.vx_dtype.specs.Values.{Typed}
@@ -129,7 +129,7 @@ union_of a b = union (nullability_of a) (nullability_of b)
 
 -- whether two types are equal but for nullability, and plain
 abbrev pub equal_plain : Ty → Ty → Bool
-equal_plain a b = same_type a b && is_plain a
+equal_plain a b = alike a b && is_plain a
 
 -- a comparison asks equal plain types, `and` and `or` two booleans, sums and differences equal integer types
 abbrev pub compare_type : Ty → Ty → Result Ty Refusal
@@ -139,7 +139,7 @@ abbrev pub logic_type : Ty → Ty → Result Ty Refusal
 logic_type a b = unless (is_bool_ty a && is_bool_ty b) type_mismatch (Ok (bool_ty (union_of a b)))
 
 abbrev pub sum_type : Ty → Ty → Result Ty Refusal
-sum_type a b = unless (same_type a b && is_int_ty a) type_mismatch (Ok (with_nullability a (union_of a b)))
+sum_type a b = unless (alike a b && is_int_ty a) type_mismatch (Ok (with_nullability a (union_of a b)))
 
 abbrev pub binary_type : Operator → Ty → Ty → Result Ty Refusal
 binary_type Operator.And a b = logic_type a b

@@ -11,7 +11,8 @@ ghost use Rattle.vx_dtype.specs.Values.{raw_null, raw_int, raw_list, raw, no_raw
 ghost use Rattle.vx_expr.specs.declared.Operator.TheVariants.{Eq, Gt, Gte, Lt, Lte, And, Or};
 ghost use Rattle.vx_expr.specs.Trees.{root, literal, get_item, not_of, is_null_of, between, list_contains, like, cast, select, pack, merge, tree, no_trees};
 ghost use Rattle.vx_semantics.specs.Tables.{joined_name};
-ghost use Rattle.vx_semantics.specs.Pruning.{path_of, rules_out};
+ghost use Rattle.vx_semantics.specs.Pruning.{rules_out};
+ghost use Rattle.vx_semantics.specs.Paths.{path_of};
 ghost use Rattle.vx_semantics.specs.Samples.{col, number, null_of, quoted, ◌⟨◌⟩◌, number_table, joined_twice, bounds, statistic, zones_of, number_list, pack_one, slot_of, five_to_nine, from_five, up_to_nine, comparisons, with_slot, operators};
 
 /// The column on the left of each operator, against the numbers at and beside its bounds.

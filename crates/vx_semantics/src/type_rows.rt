@@ -5,7 +5,7 @@ ghost use Rattle.std.specs.Prelude.{◌≡◌, ℕ, [], ◌∷◌, ◌++◌, cod
 ghost use Rattle.vx_dtype.specs.declared.PType.TheVariants.{U8, U16, U32, U64, I8, I16, I32, I64};
 ghost use Rattle.vx_dtype.specs.declared.Nullability.TheVariants.{NonNullable, Nullable};
 ghost use Rattle.vx_dtype.specs.Types.{bool_ty, int_ty, text_ty, list_ty, struct_ty, no_fields, field};
-ghost use Rattle.vx_dtype.specs.TypeRules.{union, nullability_of, with_nullability, widened, same_ptype, same_type, is_plain, is_bool_ty, is_int_ty, is_text_ty, no_name_twice, depth_of};
+ghost use Rattle.vx_dtype.specs.TypeRules.{union, nullability_of, with_nullability, widened, same_ptype, alike, is_plain, is_bool_ty, is_int_ty, is_text_ty, no_name_twice, depth_of};
 ghost use Rattle.vx_dtype.specs.Values.{raw_null, raw_bool, raw_int, raw_text, raw_list, raw_struct, no_raws, raw, null_val, bool_val, int_val, text_val, list_val, struct_val, fault, no_vals, val, no_members, member, valued};
 ghost use Rattle.vx_dtype.specs.Fits.{fits, val_fits, fits_but_for_faults, holds_fault};
 ghost use Rattle.vx_dtype.specs.Structs.{first_names};
@@ -41,7 +41,7 @@ pub fn tells_integer_types_apart()
 
 /// Each type is the same as itself alone, whatever is nullable.
 pub fn tells_types_apart()
-    ensures each { map (λ t. map (same_type t) kinds_of_types) kinds_of_types ≡
+    ensures each { map (λ t. map (alike t) kinds_of_types) kinds_of_types ≡
         (true ∷ replicate 8 false)
         ∷ (false ∷ true ∷ replicate 7 false)
         ∷ (replicate 2 false ++ (true ∷ replicate 6 false))
@@ -52,10 +52,10 @@ pub fn tells_types_apart()
         ∷ (replicate 7 false ++ (true ∷ false ∷ []))
         ∷ (replicate 8 false ++ (true ∷ []))
         ∷ [] }
-    ensures nullable { map (λ t. same_type t (with_nullability t Nullable)) kinds_of_types ≡ replicate 9 true }
-    ensures nullable_below { same_type (struct_ty (only "a" (list_ty (int_ty I32 Nullable) Nullable)) NonNullable) (struct_ty (only "a" (list_ty (int_ty I32 NonNullable) NonNullable)) Nullable) ≡ true }
-    ensures another_field { same_type (struct_ty (only "a" (bool_ty NonNullable)) NonNullable) (struct_ty (only "a" (text_ty NonNullable)) NonNullable) ≡ false }
-    ensures another_last_field { same_type (struct_ty (field (codes "a") (bool_ty NonNullable) (only "b" (bool_ty NonNullable))) NonNullable) (struct_ty (field (codes "a") (bool_ty NonNullable) (only "b" (text_ty NonNullable))) NonNullable) ≡ false }
+    ensures nullable { map (λ t. alike t (with_nullability t Nullable)) kinds_of_types ≡ replicate 9 true }
+    ensures nullable_below { alike (struct_ty (only "a" (list_ty (int_ty I32 Nullable) Nullable)) NonNullable) (struct_ty (only "a" (list_ty (int_ty I32 NonNullable) NonNullable)) Nullable) ≡ true }
+    ensures another_field { alike (struct_ty (only "a" (bool_ty NonNullable)) NonNullable) (struct_ty (only "a" (text_ty NonNullable)) NonNullable) ≡ false }
+    ensures another_last_field { alike (struct_ty (field (codes "a") (bool_ty NonNullable) (only "b" (bool_ty NonNullable))) NonNullable) (struct_ty (field (codes "a") (bool_ty NonNullable) (only "b" (text_ty NonNullable))) NonNullable) ≡ false }
 {}
 
 /// Which types are of which kind.

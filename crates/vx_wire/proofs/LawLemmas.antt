@@ -85,8 +85,8 @@ names_same a b p q e =
 same_piece : (a b : Bytes) → IsText a → IsText b → piece_bytes a ≡ piece_bytes b → a ≡ b
 same_piece a b p q e = (text_free a b [] [] p q (ap (λ (x : Bytes). x ++ []) e)).0
 
-same_type : (a b : Ty) → IsType a → IsType b → type_bytes a ≡ type_bytes b → a ≡ b
-same_type a b p q e = (type_free a b [] [] p q (ap (λ (x : Bytes). x ++ []) e)).0
+alike : (a b : Ty) → IsType a → IsType b → type_bytes a ≡ type_bytes b → a ≡ b
+alike a b p q e = (type_free a b [] [] p q (ap (λ (x : Bytes). x ++ []) e)).0
 
 same_literal : (a b : Typed) → IsLiteral a → IsLiteral b → literal_bytes a ≡ literal_bytes b → a ≡ b
 same_literal a b p q e =
@@ -140,7 +140,7 @@ same_node (like e x n f) (like d y o g) k p q m h =
     λ i. like (both.0 i) (both.1 i) (negated i) (fold_case i)
 same_node (between a b c o) (between x y z w) k p q m h =
     let options = same_bounds o w m in let all = all_children a b c x y z h in λ i. between (all.0 i) (all.1 i) (all.2 i) (options i)
-same_node (cast e t) (cast d u) k p q m h = let dtype = same_type t u p q m in let child = only_child e d h in λ i. cast (child i) (dtype i)
+same_node (cast e t) (cast d u) k p q m h = let dtype = alike t u p q m in let child = only_child e d h in λ i. cast (child i) (dtype i)
 same_node (list_contains l v) (list_contains x y) k p q m h = let both = both_children l v x y h in λ i. list_contains (both.0 i) (both.1 i)
 same_node (pack f es n) (pack g ds o) k p q m h =
     let one = heads (nullability_byte n) (nullability_byte o) (names_bytes f) (names_bytes g) m in

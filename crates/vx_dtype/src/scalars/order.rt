@@ -4,7 +4,7 @@ ghost use Rattle.std.specs.declared.cmp.Ordering.TheVariants.{Equal};
 ghost use Rattle.std.specs.Ordering.{nat_cmp};
 ghost use Rattle.std.specs.Cmp.Lexicographic.{slice_cmp};
 ghost use Rattle.vx_dtype.specs.Values.{raw_text};
-ghost use Rattle.vx_dtype.specs.TypeRules.{same_type, is_plain};
+ghost use Rattle.vx_dtype.specs.TypeRules.{alike, is_plain};
 ghost use Rattle.vx_dtype.specs.TypeViews.{type_view};
 ghost use Rattle.vx_dtype.specs.ScalarAnswers.{scalar_order};
 
@@ -15,9 +15,9 @@ use crate::values::ScalarValue;
 use std::cmp::Ordering;
 
 // Whether two types are equal but for nullability, and plain.
-#[tactic(auto, unfolding(crate::specs::TypeRules::same_type))]
+#[tactic(auto, unfolding(crate::specs::TypeRules::alike))]
 fn same_plain_type(left: &DType, right: &DType) -> bool
-    ensures { result ≡ (same_type (type_view left.now) (type_view right.now) && is_plain (type_view left.now)) }
+    ensures { result ≡ (alike (type_view left.now) (type_view right.now) && is_plain (type_view left.now)) }
 {
     match (left, right) {
         (DType::Bool(_), DType::Bool(_)) => true,

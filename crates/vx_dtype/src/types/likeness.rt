@@ -1,6 +1,6 @@
 // Types that are equal but for nullability, at every depth.
 ghost use Rattle.std.specs.Prelude.{◌≡◌};
-ghost use Rattle.vx_dtype.specs.TypeRules.{same_type, same_fields};
+ghost use Rattle.vx_dtype.specs.TypeRules.{alike, alike_fields};
 ghost use Rattle.vx_dtype.specs.TypeViews.{type_view};
 
 use super::{DType, ElementType, StructFields};
@@ -8,16 +8,16 @@ use super::{DType, ElementType, StructFields};
 impl DType {
     /// Whether the two types are equal but for nullability, at every depth.
     pub fn eq_ignore_nullability(&self, other: &DType) -> bool
-        ensures { result ≡ same_type (type_view self.now) (type_view other.now) }
+        ensures { result ≡ alike (type_view self.now) (type_view other.now) }
     {
         alike(self, other)
     }
 }
 
 #[cycle(alike)]
-#[tactic(auto, unfolding(crate::specs::TypeRules::same_type, crate::specs::TypeRules::depth_of))]
+#[tactic(auto, unfolding(crate::specs::TypeRules::alike, crate::specs::TypeRules::depth_of))]
 fn alike(left: &DType, right: &DType) -> bool
-    ensures { result ≡ same_type (type_view left.now) (type_view right.now) }
+    ensures { result ≡ alike (type_view left.now) (type_view right.now) }
 {
     match (left, right) {
         (DType::Bool(_), DType::Bool(_)) => true,
@@ -32,15 +32,15 @@ fn alike(left: &DType, right: &DType) -> bool
 #[cycle(alike)]
 #[tactic(auto, unfolding(crate::specs::TypeRules::depth_of))]
 fn alike_elements(left: &ElementType, right: &ElementType) -> bool
-    ensures { result ≡ same_type left.now right.now }
+    ensures { result ≡ alike left.now right.now }
 {
     alike(left.dtype(), right.dtype())
 }
 
 #[cycle(alike)]
-#[tactic(auto, using(crate::proofs::ZippedLemmas::same_fields_lengths), unfolding(crate::specs::TypeRules::same_fields, crate::specs::TypeRules::depth_of))]
+#[tactic(auto, using(crate::proofs::ZippedLemmas::alike_fields_lengths), unfolding(crate::specs::TypeRules::alike_fields, crate::specs::TypeRules::depth_of))]
 fn alike_fields(left: &StructFields, right: &StructFields) -> bool
-    ensures { result ≡ same_fields left.now right.now }
+    ensures { result ≡ alike_fields left.now right.now }
 {
     if left.dtypes.len() != right.dtypes.len() {
         return false;

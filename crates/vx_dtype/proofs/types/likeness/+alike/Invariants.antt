@@ -1,5 +1,5 @@
 use Rattle.std.proofs.Common.{◌≡◌, ◌+◌, ◌*◌, length}
-use Rattle.vx_dtype.specs.TypeRules.{same_fields, depth_of, depth_below}
+use Rattle.vx_dtype.specs.TypeRules.{alike_fields, depth_of, depth_below}
 use Rattle.vx_dtype.specs.TypeViews.{type_view}
 use Rattle.vx_dtype.proofs.ZippedLemmas.{fields_from}
 use Rattle.vx_dtype.proofs.types.likeness.+alike.Given as goal
@@ -18,4 +18,4 @@ decreases-alike_fields l = 2 * depth_below l.left.now + 1
 abbrev pub invariant-alike_fields-loop-i : goal.invariant-alike_fields-loop-i
 invariant-alike_fields-loop-i l =
     (length l.left-inside.dtypes.value.items ≡ length l.right-inside.dtypes.value.items)
-    × (same_fields l.left l.right ≡ same_fields (fields_from type_view l.i l.left-inside.names l.left-inside.dtypes.value.items) (fields_from type_view l.i l.right-inside.names l.right-inside.dtypes.value.items))
+    × (alike_fields l.left l.right ≡ alike_fields (fields_from type_view l.i l.left-inside.names l.left-inside.dtypes.value.items) (fields_from type_view l.i l.right-inside.names l.right-inside.dtypes.value.items))

@@ -1,0 +1,2 @@
+//! Tests of columns.
+#![tactic(auto)]

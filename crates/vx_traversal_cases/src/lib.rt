@@ -1,0 +1,2 @@
+//! Tests of walks, over expressions and over kinds of nodes of their own.
+#![tactic(auto)]
