@@ -5,3 +5,4 @@ mod build;
 mod display;
 mod dtype;
 mod expr;
+mod readme;

@@ -1,0 +1,25 @@
+// The sample of the README, compiled and run.
+use std::alloc::Global;
+use std::test::Fail;
+use vx_build::{col, gt, lit};
+use vx_dtype::{FieldName, Mem};
+use vx_expr::{BinaryExpr, ExprRef, Operator};
+
+// ($.x > 10i32)
+pub fn above_ten(alloc: Global) -> Mem<ExprRef> {
+    gt(
+        alloc,
+        col(alloc, FieldName::new(alloc, "x")?)?,
+        lit(alloc, 10i32)?,
+    )
+}
+
+#[test]
+fn the_sample_is_a_comparison(rt: HostRuntime) -> Result<(), Fail> {
+    let alloc = rt.alloc();
+    let made = above_ten(alloc)?;
+    let x = col(alloc, FieldName::new(alloc, "x")?)?;
+    let ten = lit(alloc, 10i32)?;
+    assert!(rt; made == BinaryExpr::new_expr(alloc, x, Operator::Gt, ten)?);
+    Ok(())
+}
