@@ -1,5 +1,5 @@
--- A node takes its own children back, and refuses exactly another number of them.
-use Rattle.std.proofs.Common.{◌≡◌, ◌≢◌, ℕ, ◌==◌, Bool, true, false, List, [], ◌∷◌, length, Some, None, option_map, refl, ap}
+-- A node takes its own children back, and no other number of them.
+use Rattle.std.proofs.Common.{◌≡◌, ◌≢◌, ℕ, arith, ◌==◌, Bool, true, false, List, [], ◌∷◌, length, Option, Some, None, option_map, is_some, refl, ◌∙◌}
 use Rattle.std.specs.Cmp.{unsigned_Decides}
 use Rattle.vx_expr.specs.Trees.{Tree, root, literal, get_item, binary, not_of, is_null_of, like, between, cast, list_contains, pack, merge, select, dynamic, trees_of, listed, children_of}
 use Rattle.vx_expr.specs.Children.{one_of, two_of, three_of, where_so, with_children_of}
@@ -22,45 +22,54 @@ with_own_children (merge es n) = λ i. where_so ((unsigned_Decides (length (list
 with_own_children (select s e) = refl
 with_own_children (dynamic e op k t default) = refl
 
-false_where_not : (b : Bool) → (b ≡ true → ⊥) → b ≡ false
-false_where_not true h = absurd (h refl)
-false_where_not false h = refl
+is_some_where : {A : Type 0} (b : Bool) (x : A) → is_some (where_so b x) ≡ b
+is_some_where true x = refl
+is_some_where false x = refl
 
-differs : (m n : ℕ) → m ≢ n → (m == n) ≡ false
-differs m n h = false_where_not (m == n) (λ e. h ((unsigned_Decides m n).0 e))
+is_some_map : {A B : Type 0} (f : A → B) (o : Option A) → is_some (option_map f o) ≡ is_some o
+is_some_map f None = refl
+is_some_map f (Some x) = refl
+
+false_where_not : (b : Bool) → (b ≡ true → ⊥) → false ≡ b
+false_where_not true not_so = absurd (not_so refl)
+false_where_not false not_so = refl
+
+-- two numbers that differ are not equal by the test
+differ : (m n : ℕ) → m ≢ n → false ≡ (m == n)
+differ m n h = false_where_not (m == n) (λ e. h ((unsigned_Decides m n).0 e))
 
 module _ {A : Type 0} where
-  not_one : (xs : List A) → length xs ≢ 1 → one_of xs ≡ None
-  not_one [] h = refl
-  not_one (x ∷ []) h = absurd (h refl)
-  not_one (x ∷ y ∷ xs) h = refl
+  one_taken : (xs : List A) → is_some (one_of xs) ≡ (length xs == 1)
+  one_taken [] = refl
+  one_taken (x ∷ []) = refl
+  one_taken (x ∷ y ∷ xs) = differ (length (x ∷ y ∷ xs)) 1 (λ e. omega (arith, e))
 
-  not_two : (xs : List A) → length xs ≢ 2 → two_of xs ≡ None
-  not_two [] h = refl
-  not_two (x ∷ []) h = refl
-  not_two (x ∷ y ∷ []) h = absurd (h refl)
-  not_two (x ∷ y ∷ z ∷ xs) h = refl
+  two_taken : (xs : List A) → is_some (two_of xs) ≡ (length xs == 2)
+  two_taken [] = refl
+  two_taken (x ∷ []) = refl
+  two_taken (x ∷ y ∷ []) = refl
+  two_taken (x ∷ y ∷ z ∷ xs) = differ (length (x ∷ y ∷ z ∷ xs)) 2 (λ e. omega (arith, e))
 
-  not_three : (xs : List A) → length xs ≢ 3 → three_of xs ≡ None
-  not_three [] h = refl
-  not_three (x ∷ []) h = refl
-  not_three (x ∷ y ∷ []) h = refl
-  not_three (x ∷ y ∷ z ∷ []) h = absurd (h refl)
-  not_three (x ∷ y ∷ z ∷ w ∷ xs) h = refl
+  three_taken : (xs : List A) → is_some (three_of xs) ≡ (length xs == 3)
+  three_taken [] = refl
+  three_taken (x ∷ []) = refl
+  three_taken (x ∷ y ∷ []) = refl
+  three_taken (x ∷ y ∷ z ∷ []) = refl
+  three_taken (x ∷ y ∷ z ∷ w ∷ xs) = differ (length (x ∷ y ∷ z ∷ w ∷ xs)) 3 (λ e. omega (arith, e))
 
--- another number of children is refused
-pub with_other_number : (e : Tree) (cs : List Tree) → length cs ≢ length (children_of e) → with_children_of e cs ≡ None
-with_other_number root cs h = ap (λ b. where_so b root) (differs (length cs) 0 h)
-with_other_number (literal s) cs h = ap (λ b. where_so b (literal s)) (differs (length cs) 0 h)
-with_other_number (get_item f e) cs h = ap (option_map (get_item f)) (not_one cs h)
-with_other_number (binary l op r) cs h = ap (option_map (λ c. binary c.0 op c.1)) (not_two cs h)
-with_other_number (not_of e) cs h = ap (option_map not_of) (not_one cs h)
-with_other_number (is_null_of e) cs h = ap (option_map is_null_of) (not_one cs h)
-with_other_number (like e p negated fold_case) cs h = ap (option_map (λ c. like c.0 c.1 negated fold_case)) (not_two cs h)
-with_other_number (between e lower upper options) cs h = ap (option_map (λ c. between c.0 c.1 c.2 options)) (not_three cs h)
-with_other_number (cast e t) cs h = ap (option_map (λ c. cast c t)) (not_one cs h)
-with_other_number (list_contains l v) cs h = ap (option_map (λ c. list_contains c.0 c.1)) (not_two cs h)
-with_other_number (pack names es n) cs h = ap (λ b. where_so b (pack names (trees_of cs) n)) (differs (length cs) (length (listed es)) h)
-with_other_number (merge es n) cs h = ap (λ b. where_so b (merge (trees_of cs) n)) (differs (length cs) (length (listed es)) h)
-with_other_number (select s e) cs h = ap (option_map (select s)) (not_one cs h)
-with_other_number (dynamic e op k t default) cs h = ap (option_map (λ c. dynamic c op k t default)) (not_one cs h)
+-- children are taken exactly where there are as many as the node has
+pub taken_where_as_many : (e : Tree) (cs : List Tree) → is_some (with_children_of e cs) ≡ (length cs == length (children_of e))
+taken_where_as_many root cs = is_some_where (length cs == 0) root
+taken_where_as_many (literal s) cs = is_some_where (length cs == 0) (literal s)
+taken_where_as_many (get_item f e) cs = is_some_map (get_item f) (one_of cs) ∙ one_taken cs
+taken_where_as_many (binary l op r) cs = is_some_map (λ c. binary c.0 op c.1) (two_of cs) ∙ two_taken cs
+taken_where_as_many (not_of e) cs = is_some_map not_of (one_of cs) ∙ one_taken cs
+taken_where_as_many (is_null_of e) cs = is_some_map is_null_of (one_of cs) ∙ one_taken cs
+taken_where_as_many (like e p negated fold_case) cs = is_some_map (λ c. like c.0 c.1 negated fold_case) (two_of cs) ∙ two_taken cs
+taken_where_as_many (between e lower upper options) cs = is_some_map (λ c. between c.0 c.1 c.2 options) (three_of cs) ∙ three_taken cs
+taken_where_as_many (cast e t) cs = is_some_map (λ c. cast c t) (one_of cs) ∙ one_taken cs
+taken_where_as_many (list_contains l v) cs = is_some_map (λ c. list_contains c.0 c.1) (two_of cs) ∙ two_taken cs
+taken_where_as_many (pack names es n) cs = is_some_where (length cs == length (listed es)) (pack names (trees_of cs) n)
+taken_where_as_many (merge es n) cs = is_some_where (length cs == length (listed es)) (merge (trees_of cs) n)
+taken_where_as_many (select s e) cs = is_some_map (select s) (one_of cs) ∙ one_taken cs
+taken_where_as_many (dynamic e op k t default) cs = is_some_map (λ c. dynamic c op k t default) (one_of cs) ∙ one_taken cs

@@ -1,4 +1,4 @@
--- Rows of expressions and lists of expressions; a node with its own children.
+-- Lists of expressions, and lists as the tree holds them.
 use Rattle.std.proofs.Common.{◌≡◌, ◌≢◌, ◌<◌, ◌≤◌, ℕ, zero, suc, arith, Bool, true, false, ◌&&◌, List, [], ◌∷◌, length, refl, ap, ◌∙◌}
 use Rattle.std.proofs.Math.ListN.{get_or}
 use Rattle.vx_expr.specs.Equal.{tree_eq, trees_eq}
@@ -17,7 +17,7 @@ and_false : (a : Bool) → (a && false) ≡ false
 and_false true = refl
 and_false false = refl
 
--- rows of other lengths differ
+-- lists of other lengths differ
 pub trees_eq_lengths : (es ds : List Tree) → length es ≢ length ds → trees_eq (trees_of es) (trees_of ds) ≡ false
 unfolding trees_eq
 trees_eq_lengths [] [] h = absurd (h refl)
@@ -26,7 +26,7 @@ trees_eq_lengths (e ∷ es) [] h = refl
 trees_eq_lengths (e ∷ es) (d ∷ ds) h =
     ap (λ b. tree_eq e d && b) (trees_eq_lengths es ds (λ m. h (ap suc m))) ∙ and_false (tree_eq e d)
 
--- no expression of a row is higher than the highest
+-- no expression of a list is higher than the highest
 pub height_at : (es : List Tree) (i : ℕ) (d : Tree) → i < length es → height (get_or es i d) ≤ highest (trees_of es)
 height_at [] i d h = absurd (omega (arith, h))
 height_at (e ∷ es) zero d h = omega arith

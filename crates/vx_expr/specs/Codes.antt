@@ -2,6 +2,7 @@
 use Rattle.std.proofs.Common.{◌≡◌, ℕ, zero, suc, false, eqb, List, refl, ap, arith}
 use Rattle.std.proofs.lemmas.Bool.Decides.{nat_tests}
 use Rattle.std.specs.Coded.{Coded, code_by, coded_ℕ, coded_bool, coded_list, coded×}
+use Rattle.std.specs.Option.{unwrap_or, option_and_then}
 use base.Stored.{Gv, gnil, gnum, gcons}
 use Rattle.vx_dtype.specs.declared.Nullability.{Nullability}
 use Rattle.vx_dtype.specs.declared.CompareOperator.{CompareOperator}
@@ -12,22 +13,13 @@ use Rattle.vx_dtype.specs.Codes.{coded_bytes, coded_null, coded_ty}
 use Rattle.vx_dtype.specs.ValueCodes.{coded_typed}
 use Rattle.vx_expr.specs.declared.operators.Operator.{Operator}
 use Rattle.vx_expr.specs.declared.selections.FieldSelection.{FieldSelection}
-use Rattle.vx_expr.specs.Operators.{operator_number, operator_of}
+use Rattle.vx_expr.specs.Operators.{operator_number, operator_numbered, operator_of, comparison_of}
 use Rattle.vx_expr.specs.Trees.{Tree, root, literal, get_item, binary, not_of, is_null_of, like, between, cast, list_contains, pack, merge, select, dynamic, Trees, no_trees, tree}
 use Rattle.vx_expr.specs.Packed.{Packed}
 
 -- the operator of a number, `-` beyond the last
 abbrev pub operator_at : ℕ → Operator
-operator_at zero = Operator.Eq
-operator_at (suc zero) = Operator.NotEq
-operator_at (suc (suc zero)) = Operator.Gt
-operator_at (suc (suc (suc zero))) = Operator.Gte
-operator_at (suc (suc (suc (suc zero)))) = Operator.Lt
-operator_at (suc (suc (suc (suc (suc zero))))) = Operator.Lte
-operator_at (suc (suc (suc (suc (suc (suc zero)))))) = Operator.And
-operator_at (suc (suc (suc (suc (suc (suc (suc zero))))))) = Operator.Or
-operator_at (suc (suc (suc (suc (suc (suc (suc (suc zero)))))))) = Operator.Add
-operator_at (suc (suc (suc (suc (suc (suc (suc (suc (suc n))))))))) = Operator.Sub
+operator_at n = unwrap_or (operator_numbered n) Operator.Sub
 
 pub operator_at-number : (op : Operator) → operator_at (operator_number op) ≡ op
 operator_at-number Operator.Eq = refl
@@ -50,12 +42,7 @@ comparison_number op = operator_number (operator_of op)
 
 -- the comparison of a number, `<=` beyond the last
 abbrev pub comparison_at : ℕ → CompareOperator
-comparison_at zero = CompareOperator.Eq
-comparison_at (suc zero) = CompareOperator.NotEq
-comparison_at (suc (suc zero)) = CompareOperator.Gt
-comparison_at (suc (suc (suc zero))) = CompareOperator.Gte
-comparison_at (suc (suc (suc (suc zero)))) = CompareOperator.Lt
-comparison_at (suc (suc (suc (suc (suc n))))) = CompareOperator.Lte
+comparison_at n = unwrap_or (option_and_then comparison_of (operator_numbered n)) CompareOperator.Lte
 
 pub comparison_at-number : (op : CompareOperator) → comparison_at (comparison_number op) ≡ op
 comparison_at-number CompareOperator.Eq = refl

@@ -68,7 +68,7 @@ unfoldable mutual
   tree_eq (dynamic e op k t b) (dynamic d oq j u c) = same_comparison op oq && (k == j && (ty_eq t u && (same_bool b c && tree_eq e d)))
   tree_eq _ _ = false
 
-  -- whether two rows of expressions are the same
+  -- whether two lists of expressions are the same
   pub trees_eq : Trees → Trees → Bool
   trees_eq no_trees no_trees = true
   trees_eq (tree e es) (tree d ds) = tree_eq e d && trees_eq es ds

@@ -1,4 +1,5 @@
--- What a hash takes in of expressions: their whole structure, each kind by a number of its own, each row with a mark before every part and another at its end.
+-- What a hash takes in of expressions: their whole structure, each kind by a number of its own, each list with a mark before every part
+-- and another at its end.
 use Rattle.std.specs.Prelude.{◌++◌}
 use Rattle.std.specs.Hash as fed
 use Rattle.std.specs.Hash.{HashWrites}
@@ -49,7 +50,7 @@ unfoldable mutual
   tree_feed (select s e) = own_feed (select s e) ++ tree_feed e
   tree_feed (dynamic e op k t b) = own_feed (dynamic e op k t b) ++ tree_feed e
 
-  -- each expression of a row
+  -- each expression of a list
   pub trees_feed : Trees → HashWrites
   trees_feed no_trees = fed.u8 0
   trees_feed (tree e es) = fed.u8 1 ++ tree_feed e ++ trees_feed es

@@ -5,7 +5,7 @@ use denote.Param.Weighed.{most}
 use Rattle.vx_expr.specs.Trees.{Tree, root, literal, get_item, binary, not_of, is_null_of, like, between, cast, list_contains, pack, merge, select, dynamic, Trees, no_trees, tree, trees_of}
 
 abbrev mutual
-  -- the number of edges from the node down to its farthest leaf, where a row of expressions counts as an edge
+  -- the number of edges from the node down to its farthest leaf, where a list of expressions counts as an edge
   pub height : Tree → ℕ
   height root = 0
   height (literal s) = 0
@@ -27,7 +27,7 @@ abbrev mutual
   highest no_trees = 0
   highest (tree e es) = max (height e) (highest es)
 
--- no expression of a row is higher than the highest
+-- no expression of a list is higher than the highest
 pub most_le-highest : (es : List Tree) → most (λ e. 2 * height e + 1) es ≤ 2 * highest (trees_of es) + 1
 most_le-highest [] = omega arith
 most_le-highest (e ∷ es) = omega (arith, most_le-highest es)

@@ -24,6 +24,7 @@ use Rattle.vx_expr.specs.declared.exprs.not.NotExpr.{NotExpr}
 use Rattle.vx_expr.specs.declared.exprs.root.RootExpr.{RootExpr}
 use Rattle.vx_expr.specs.declared.exprs.select.SelectExpr.{SelectExpr}
 use Rattle.vx_expr.specs.Trees.{Tree, root, literal, get_item, binary, not_of, is_null_of, like, between, cast, list_contains, merge, select, dynamic, trees_of}
+use Rattle.vx_expr.specs.Operators.{range_as_binary}
 use Rattle.vx_expr.specs.Packed.{pack_tree}
 
 -- a range: the value, its bounds, and whether each is strict
@@ -41,6 +42,10 @@ between_options x = x.options
 
 abbrev pub between_tree : BetweenExpr → Tree
 between_tree x = between (between_value x) (between_lower x) (between_upper x) (between_options x)
+
+-- the two comparisons that a range stands for
+abbrev pub between_as_binary : BetweenExpr → Tree
+between_as_binary x = range_as_binary (between_value x) (between_lower x) (between_upper x) (between_options x)
 
 -- two operands under an operator
 abbrev pub binary_left : BinaryExpr → Tree

@@ -1,22 +1,15 @@
--- How operators are printed, and the operators of numbers.
-use Rattle.std.specs.Prelude.{ℤ, pos, negsuc, cond, nat_lt, Option, Some, None, codes}
+-- How operators are printed.
+use Rattle.std.specs.Prelude.{[], codes}
+use Rattle.std.specs.Option.{option_map_or}
 use Rattle.vx_dtype.specs.Types.{Bytes}
+use Rattle.vx_dtype.specs.Texts as texts
 use Rattle.vx_expr.specs.declared.operators.Operator.{Operator}
-use Rattle.vx_expr.specs.Codes.{operator_at}
+use Rattle.vx_expr.specs.Operators.{comparison_of}
 
+-- the sign of a comparison, or the word or sign of another operator
 abbrev pub operator_text : Operator → Bytes
-operator_text Operator.Eq = codes "="
-operator_text Operator.NotEq = codes "!="
-operator_text Operator.Gt = codes ">"
-operator_text Operator.Gte = codes ">="
-operator_text Operator.Lt = codes "<"
-operator_text Operator.Lte = codes "<="
 operator_text Operator.And = codes "and"
 operator_text Operator.Or = codes "or"
 operator_text Operator.Add = codes "+"
 operator_text Operator.Sub = codes "-"
-
--- the operator with this number, none outside of 0 to 9
-abbrev pub operator_numbered : ℤ → Option Operator
-operator_numbered (pos n) = cond (nat_lt n 10) (Some (operator_at n)) None
-operator_numbered (negsuc n) = None
+operator_text op = option_map_or texts.operator_text (comparison_of op) []

@@ -1,5 +1,5 @@
 -- The tables of the operators.
-use Rattle.std.specs.Prelude.{ℕ, Option, Some, None}
+use Rattle.std.specs.Prelude.{ℕ, zero, suc, Option, Some, None, option_map}
 use Rattle.vx_dtype.specs.declared.CompareOperator.{CompareOperator}
 use Rattle.vx_dtype.specs.declared.BetweenOptions.{BetweenOptions}
 use Rattle.vx_dtype.specs.Order.{bound_operator}
@@ -18,6 +18,20 @@ operator_number Operator.And = 6
 operator_number Operator.Or = 7
 operator_number Operator.Add = 8
 operator_number Operator.Sub = 9
+
+-- the operator of a number, none from 10 on
+abbrev pub operator_numbered : ℕ → Option Operator
+operator_numbered zero = Some Operator.Eq
+operator_numbered (suc zero) = Some Operator.NotEq
+operator_numbered (suc (suc zero)) = Some Operator.Gt
+operator_numbered (suc (suc (suc zero))) = Some Operator.Gte
+operator_numbered (suc (suc (suc (suc zero)))) = Some Operator.Lt
+operator_numbered (suc (suc (suc (suc (suc zero))))) = Some Operator.Lte
+operator_numbered (suc (suc (suc (suc (suc (suc zero)))))) = Some Operator.And
+operator_numbered (suc (suc (suc (suc (suc (suc (suc zero))))))) = Some Operator.Or
+operator_numbered (suc (suc (suc (suc (suc (suc (suc (suc zero)))))))) = Some Operator.Add
+operator_numbered (suc (suc (suc (suc (suc (suc (suc (suc (suc zero))))))))) = Some Operator.Sub
+operator_numbered (suc (suc (suc (suc (suc (suc (suc (suc (suc (suc n)))))))))) = None
 
 -- the comparison that an operator is, none for the last four
 abbrev pub comparison_of : Operator → Option CompareOperator
@@ -38,17 +52,7 @@ operator_of CompareOperator.Gte = Operator.Gte
 operator_of CompareOperator.Lt = Operator.Lt
 operator_of CompareOperator.Lte = Operator.Lte
 
--- the operator that is true where this one is false, for comparisons alone
-abbrev pub inverse_of : Operator → Option Operator
-inverse_of Operator.Eq = Some Operator.NotEq
-inverse_of Operator.NotEq = Some Operator.Eq
-inverse_of Operator.Gt = Some Operator.Lte
-inverse_of Operator.Gte = Some Operator.Lt
-inverse_of Operator.Lt = Some Operator.Gte
-inverse_of Operator.Lte = Some Operator.Gt
-inverse_of _ = None
-
--- the same of two comparisons
+-- the comparison that is true where this one is false
 abbrev pub inverse_comparison : CompareOperator → CompareOperator
 inverse_comparison CompareOperator.Eq = CompareOperator.NotEq
 inverse_comparison CompareOperator.NotEq = CompareOperator.Eq
@@ -56,6 +60,10 @@ inverse_comparison CompareOperator.Gt = CompareOperator.Lte
 inverse_comparison CompareOperator.Gte = CompareOperator.Lt
 inverse_comparison CompareOperator.Lt = CompareOperator.Gte
 inverse_comparison CompareOperator.Lte = CompareOperator.Gt
+
+-- the operator of the inverse comparison, none for the last four
+abbrev pub inverse_of : Operator → Option Operator
+inverse_of op = option_map (λ c. operator_of (inverse_comparison c)) (comparison_of op)
 
 -- `and` and `or` exchanged, none for the rest
 abbrev pub logical_inverse_of : Operator → Option Operator
@@ -74,4 +82,7 @@ swapped op = op
 -- the two comparisons that a range stands for: the lower bound before the value, and the value before the upper bound
 abbrev pub range_as_binary : Tree → Tree → Tree → BetweenOptions → Tree
 range_as_binary e lower upper options =
-    binary (binary lower (operator_of (bound_operator options.lower_strict)) e) Operator.And (binary e (operator_of (bound_operator options.upper_strict)) upper)
+    binary
+    (binary lower (operator_of (bound_operator options.lower_strict)) e)
+    Operator.And
+    (binary e (operator_of (bound_operator options.upper_strict)) upper)

@@ -40,17 +40,17 @@ mutual
     -- a comparison with the value of a slot: the operand, the operator, the slot's number and type, the answer where the slot has no value
     dynamic : Tree → CompareOperator → ℕ → Ty → Bool → Tree
 
-  -- expressions in a row
+  -- a list of expressions
   pub data Trees : Type 0 where
     no_trees : Trees
     tree : Tree → Trees → Trees
 
--- the expressions of a list in a row
+-- a list of expressions, as the tree holds it
 abbrev pub trees_of : List Tree → Trees
 trees_of [] = no_trees
 trees_of (e ∷ es) = tree e (trees_of es)
 
--- the list of expressions in a row
+-- the expressions of such a list
 abbrev pub listed : Trees → List Tree
 listed no_trees = []
 listed (tree e es) = e ∷ listed es

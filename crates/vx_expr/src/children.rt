@@ -15,8 +15,8 @@ use vx_dtype::Mem;
 /// The name of a kind of expressions.
 pub type ExprId = &'static str;
 
-/// The only child, where there is one.
-pub(crate) fn one_of(mut children: Vec<ExprRef>) -> Option<ExprRef>
+/// The only child, and None where there are more or fewer.
+pub fn one_child(mut children: Vec<ExprRef>) -> Option<ExprRef>
     ensures { result ≡ one_of children.items }
 {
     let first = children.pop()?;
@@ -27,25 +27,25 @@ pub(crate) fn one_of(mut children: Vec<ExprRef>) -> Option<ExprRef>
     }
 }
 
-/// The two children in order, where there are two.
-pub(crate) fn two_of(mut children: Vec<ExprRef>) -> Option<(ExprRef, ExprRef)>
+/// The two children in order, and None where there are more or fewer.
+pub fn two_children(mut children: Vec<ExprRef>) -> Option<(ExprRef, ExprRef)>
     ensures { result ≡ two_of children.items }
 {
     let second = children.pop()?;
-    let first = one_of(children)?;
+    let first = one_child(children)?;
     Some((first, second))
 }
 
-/// The three children in order, where there are three.
-pub(crate) fn three_of(mut children: Vec<ExprRef>) -> Option<(ExprRef, ExprRef, ExprRef)>
+/// The three children in order, and None where there are more or fewer.
+pub fn three_children(mut children: Vec<ExprRef>) -> Option<(ExprRef, ExprRef, ExprRef)>
     ensures { result ≡ three_of children.items }
 {
     let third = children.pop()?;
-    let (first, second) = two_of(children)?;
+    let (first, second) = two_children(children)?;
     Some((first, second, third))
 }
 
-/// The child at this place of a row, counted from 0.
+/// The child at this place of a list, counted from 0.
 pub(crate) fn child_in(children: &[ExprRef], i: usize) -> &ExprRef
     requires { i < length children.now }
     ensures { slice_get children.now i ≡ Some result.now }

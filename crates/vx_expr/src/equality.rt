@@ -46,7 +46,7 @@ fn same_node(left: &Expr, right: &Expr) -> bool
         (Expr::ListContains(x), Expr::ListContains(y)) => same_contains(x, y),
         (Expr::Literal(x), Expr::Literal(y)) => x.value() == y.value(),
         (Expr::Merge(x), Expr::Merge(y)) => x.nullability() == y.nullability()
-            && same_row(x.values(), y.values()),
+            && same_list(x.values(), y.values()),
         (Expr::Not(x), Expr::Not(y)) => same(x.child(), y.child()),
         (Expr::Pack(x), Expr::Pack(y)) => same_pack(x, y),
         (Expr::Root(_), Expr::Root(_)) => true,
@@ -113,12 +113,12 @@ pub(crate) fn same_pack(left: &PackExpr, right: &PackExpr) -> bool
 {
     left.names() == right.names()
         && left.nullability() == right.nullability()
-        && same_row(left.values(), right.values())
+        && same_list(left.values(), right.values())
 }
 
 #[cycle(same)]
 #[tactic(auto, using(crate::proofs::TreeLemmas::trees_eq_lengths), unfolding(crate::specs::Equal::trees_eq))]
-pub(crate) fn same_row(left: &[ExprRef], right: &[ExprRef]) -> bool
+pub(crate) fn same_list(left: &[ExprRef], right: &[ExprRef]) -> bool
     ensures { result ≡ trees_eq (trees_of left.now) (trees_of right.now) }
 {
     if left.len() != right.len() {
@@ -204,16 +204,16 @@ fn feed_node<H: Hasher>(expr: &Expr, state: &mut H)
             feed(node.value(), state);
         }
         Expr::Literal(_) | Expr::Root(_) => {}
-        Expr::Merge(node) => feed_row(node.values(), state),
+        Expr::Merge(node) => feed_list(node.values(), state),
         Expr::Not(node) => feed(node.child(), state),
-        Expr::Pack(node) => feed_row(node.values(), state),
+        Expr::Pack(node) => feed_list(node.values(), state),
         Expr::Select(node) => feed(node.child(), state),
     }
 }
 
 #[cycle(feed)]
 #[tactic(auto, unfolding(crate::specs::Feeds::trees_feed))]
-pub(crate) fn feed_row<H: Hasher>(values: &[ExprRef], state: &mut H)
+pub(crate) fn feed_list<H: Hasher>(values: &[ExprRef], state: &mut H)
     ensures { state.new ≡ fold H.write state.old (trees_feed (trees_of values.now)) }
 {
     for i in 0..values.len() {

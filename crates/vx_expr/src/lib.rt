@@ -6,14 +6,13 @@ mod equality;
 mod errors;
 mod expressions;
 mod exprs;
+mod laws;
 mod operators;
 mod selection_texts;
 mod selections;
-#[cfg(test)]
-mod tests;
 mod vortex_expr;
 
-pub use children::ExprId;
+pub use children::{ExprId, one_child, three_children, two_children};
 pub use errors::ExprError;
 pub use expressions::{Expr, ExprRef};
 pub use exprs::between::BetweenExpr;
@@ -30,6 +29,7 @@ pub use exprs::not::NotExpr;
 pub use exprs::pack::PackExpr;
 pub use exprs::root::RootExpr;
 pub use exprs::select::SelectExpr;
+pub use laws::{another_number_of_children_is_refused, own_children_change_nothing};
 pub use operators::{Operator, operators_order_by_number};
 pub use selections::FieldSelection;
 pub use vortex_expr::VortexExpr;

@@ -1,12 +1,9 @@
 // The operators of a binary expression.
-ghost use Rattle.std.specs.Prelude.{◌≡◌, pos, Some};
+ghost use Rattle.std.specs.Prelude.{◌≡◌, Some};
 ghost use Rattle.std.specs.Ordering.{nat_cmp};
-ghost use Rattle.vx_expr.specs.Operators.{operator_number, operator_of, comparison_of, inverse_of, logical_inverse_of, swapped};
-ghost use Rattle.vx_expr.specs.OperatorTexts.{operator_text, operator_numbered};
-ghost use Rattle.vx_expr.specs.Answers.{Exactly};
-ghost use Rattle.vx_expr.specs.declared.errors.ExprError.TheVariants.{UnknownOperator, NotComparison};
+ghost use Rattle.vx_expr.specs.Operators.{operator_number, operator_numbered, operator_of, comparison_of, inverse_of, logical_inverse_of, swapped};
+ghost use Rattle.vx_expr.specs.OperatorTexts.{operator_text};
 
-use crate::errors::ExprError;
 use std::fmt;
 use vx_dtype::CompareOperator;
 
@@ -83,8 +80,8 @@ impl Operator {
         }
     }
 
-    /// The number of the operator, from 0 to 9.
-    pub(crate) fn number(self) -> u8
+    /// The number of the operator, from 0 to 9: the same for its order, for hashes and for the wire form.
+    pub fn number(self) -> u8
         ensures { result ≡ operator_number self }
     {
         match self {
@@ -100,20 +97,31 @@ impl Operator {
             Operator::Sub => 9,
         }
     }
+
+    /// The operator of a number, and None from 10 on.
+    pub fn from_number(number: u8) -> Option<Operator>
+        ensures { result ≡ operator_numbered number }
+    {
+        match number {
+            0 => Some(Operator::Eq),
+            1 => Some(Operator::NotEq),
+            2 => Some(Operator::Gt),
+            3 => Some(Operator::Gte),
+            4 => Some(Operator::Lt),
+            5 => Some(Operator::Lte),
+            6 => Some(Operator::And),
+            7 => Some(Operator::Or),
+            8 => Some(Operator::Add),
+            9 => Some(Operator::Sub),
+            _ => None,
+        }
+    }
 }
 
 /// Law: operators are ordered by their numbers.
 pub fn operators_order_by_number(left: Operator, right: Operator)
     ensures { ⟦<Operator as PartialOrd>⟧.partial_cmp left right ≡ Some (nat_cmp (operator_number left) (operator_number right)) }
 {}
-
-impl From<Operator> for i32 {
-    ghost from_gives = { λ operator number. number ≡ pos (operator_number operator) };
-
-    fn from(operator: Operator) -> i32 {
-        i32::from(operator.number())
-    }
-}
 
 impl From<CompareOperator> for Operator {
     ghost from_gives = { λ comparison operator. operator ≡ operator_of comparison };
@@ -130,55 +138,19 @@ impl From<CompareOperator> for Operator {
     }
 }
 
-impl TryFrom<i32> for Operator {
-    type Error = ExprError;
-
-    ghost try_from_gives = { λ number answer. Exactly UnknownOperator (operator_numbered number) answer };
-
-    fn try_from(number: i32) -> Result<Operator, ExprError> {
-        match number {
-            0 => Ok(Operator::Eq),
-            1 => Ok(Operator::NotEq),
-            2 => Ok(Operator::Gt),
-            3 => Ok(Operator::Gte),
-            4 => Ok(Operator::Lt),
-            5 => Ok(Operator::Lte),
-            6 => Ok(Operator::And),
-            7 => Ok(Operator::Or),
-            8 => Ok(Operator::Add),
-            9 => Ok(Operator::Sub),
-            _ => Err(ExprError::UnknownOperator),
-        }
-    }
-}
-
-impl TryFrom<Operator> for CompareOperator {
-    type Error = ExprError;
-
-    ghost try_from_gives = { λ operator answer. Exactly NotComparison (comparison_of operator) answer };
-
-    fn try_from(operator: Operator) -> Result<CompareOperator, ExprError> {
-        operator
-            .maybe_cmp_operator()
-            .ok_or(ExprError::NotComparison)
-    }
-}
-
 impl fmt::Display for Operator {
     ghost output = { λ operator. Some (operator_text operator) };
 
     fn fmt<W: fmt::Write>(&self, f: &mut fmt::Formatter<W>) -> fmt::Result {
         match self {
-            Operator::Eq => write!(f, "="),
-            Operator::NotEq => write!(f, "!="),
-            Operator::Gt => write!(f, ">"),
-            Operator::Gte => write!(f, ">="),
-            Operator::Lt => write!(f, "<"),
-            Operator::Lte => write!(f, "<="),
-            Operator::And => write!(f, "and"),
-            Operator::Or => write!(f, "or"),
-            Operator::Add => write!(f, "+"),
-            Operator::Sub => write!(f, "-"),
+            Operator::And => f.write_str("and"),
+            Operator::Or => f.write_str("or"),
+            Operator::Add => f.write_str("+"),
+            Operator::Sub => f.write_str("-"),
+            comparison => match comparison.maybe_cmp_operator() {
+                Some(comparison) => write!(f, "{comparison}"),
+                None => unreachable!(),
+            },
         }
     }
 }

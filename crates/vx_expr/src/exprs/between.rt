@@ -2,19 +2,17 @@
 ghost use Rattle.std.specs.Prelude.{◌≡◌, length, map, IfOk, ◌<◌, Some, Decides, fold};
 ghost use Rattle.std.specs.List.{slice_get};
 ghost use Rattle.vx_expr.specs.Trees.{between, children_of};
-ghost use Rattle.vx_expr.specs.Nodes.{between_tree, between_options, between_value, between_lower, between_upper};
+ghost use Rattle.vx_expr.specs.Nodes.{between_tree, between_as_binary, between_options, between_value, between_lower, between_upper};
 ghost use Rattle.vx_expr.specs.Children.{with_children_of};
 ghost use Rattle.vx_expr.specs.Answers.{AnswersBy};
 ghost use Rattle.vx_expr.specs.declared.errors.ExprError.TheVariants.{WrongChildren};
-ghost use Rattle.vx_expr.specs.Operators.{operator_of, range_as_binary};
-ghost use Rattle.vx_dtype.specs.Order.{bound_operator};
 ghost use Rattle.std.specs.Cmp.{on_per, on_equiv, partial_equiv_from_equiv};
 ghost use Rattle.std.proofs.Common.{ap};
 ghost use Rattle.vx_expr.specs.Equal.{tree_eq};
 ghost use Rattle.vx_expr.specs.EqualLaws.{tree_eq_equiv, tree_decides};
 ghost use Rattle.vx_expr.specs.Feeds.{own_feed, tree_feed};
 
-use crate::children::three_of;
+use crate::children::three_children;
 use crate::equality::{feed_strictness, same_between};
 use crate::errors::ExprError;
 use crate::expressions::{Expr, ExprRef};
@@ -22,7 +20,7 @@ use crate::exprs::binary::BinaryExpr;
 use crate::operators::Operator;
 use std::alloc::{AllocError, Global};
 use std::hash::{Hash, Hasher};
-use vx_dtype::{BetweenOptions, Mem, StrictComparison};
+use vx_dtype::{BetweenOptions, Mem};
 
 /// Whether a value lies in a range.
 #[cycle(exprs)]
@@ -72,10 +70,10 @@ impl BetweenExpr {
 
     /// The two comparisons that the range stands for: the lower bound before the value, and the value before the upper bound.
     pub fn to_binary_expr(&self, alloc: Global) -> Mem<ExprRef>
-        ensures { IfOk result (λ made. made ≡ range_as_binary (between_value self.now) (between_lower self.now) (between_upper self.now) (between_options self.now)) }
+        ensures { IfOk result (λ made. made ≡ between_as_binary self.now) }
     {
-        let from = bound_operator(self.options.lower_strict);
-        let to = bound_operator(self.options.upper_strict);
+        let from = Operator::from(self.options.lower_strict.to_operator());
+        let to = Operator::from(self.options.upper_strict.to_operator());
         let above = BinaryExpr::new_expr(alloc, self.lower.clone()?, from, self.arr.clone()?)?;
         let below = BinaryExpr::new_expr(alloc, self.arr.clone()?, to, self.upper.clone()?)?;
         BinaryExpr::new_expr(alloc, above, Operator::And, below)
@@ -106,7 +104,7 @@ impl BetweenExpr {
     pub fn with_children(&self, children: Vec<ExprRef>) -> Result<BetweenExpr, ExprError>
         ensures { AnswersBy between_tree WrongChildren (with_children_of (between_tree self.now) children.items) result }
     {
-        let Some((arr, lower, upper)) = three_of(children) else {
+        let Some((arr, lower, upper)) = three_children(children) else {
             return Err(ExprError::WrongChildren);
         };
         Ok(BetweenExpr {
@@ -158,16 +156,6 @@ impl Clone for BetweenExpr {
             upper: self.upper.clone()?,
             options: self.options,
         })
-    }
-}
-
-/// The operator that a bound asks: `<` where it is strict, else `<=`.
-fn bound_operator(strictness: StrictComparison) -> Operator
-    ensures { result ≡ operator_of (bound_operator strictness) }
-{
-    match strictness {
-        StrictComparison::Strict => Operator::Lt,
-        StrictComparison::NonStrict => Operator::Lte,
     }
 }
 

@@ -12,7 +12,7 @@ ghost use Rattle.vx_expr.specs.Equal.{tree_eq};
 ghost use Rattle.vx_expr.specs.EqualLaws.{tree_eq_equiv, tree_decides};
 ghost use Rattle.vx_expr.specs.Feeds.{own_feed, tree_feed};
 
-use crate::children::two_of;
+use crate::children::two_children;
 use crate::equality::same_binary;
 use crate::errors::ExprError;
 use crate::expressions::{Expr, ExprRef};
@@ -90,7 +90,7 @@ impl BinaryExpr {
     pub fn with_children(&self, children: Vec<ExprRef>) -> Result<BinaryExpr, ExprError>
         ensures { AnswersBy binary_tree WrongChildren (with_children_of (binary_tree self.now) children.items) result }
     {
-        let Some((lhs, rhs)) = two_of(children) else {
+        let Some((lhs, rhs)) = two_children(children) else {
             return Err(ExprError::WrongChildren);
         };
         Ok(BinaryExpr {

@@ -13,7 +13,7 @@ ghost use Rattle.vx_expr.specs.Equal.{tree_eq};
 ghost use Rattle.vx_expr.specs.EqualLaws.{tree_eq_equiv, tree_decides};
 ghost use Rattle.vx_expr.specs.Feeds.{own_feed, tree_feed};
 
-use crate::children::one_of;
+use crate::children::one_child;
 use crate::equality::same_dynamic;
 use crate::errors::ExprError;
 use crate::expressions::{Expr, ExprRef};
@@ -128,7 +128,7 @@ impl DynamicComparisonExpr {
     pub fn with_children(&self, children: Vec<ExprRef>) -> Result<DynamicComparisonExpr, ExprError>
         ensures { AnswersBy dynamic_tree WrongChildren (with_children_of (dynamic_tree self.now) children.items) result }
     {
-        let Some(lhs) = one_of(children) else {
+        let Some(lhs) = one_child(children) else {
             return Err(ExprError::WrongChildren);
         };
         Ok(DynamicComparisonExpr {

@@ -11,7 +11,7 @@ ghost use Rattle.vx_expr.specs.Equal.{tree_eq};
 ghost use Rattle.vx_expr.specs.EqualLaws.{tree_eq_equiv, tree_decides};
 ghost use Rattle.vx_expr.specs.Feeds.{tree_feed};
 
-use crate::children::one_of;
+use crate::children::one_child;
 use crate::errors::ExprError;
 use crate::expressions::{Expr, ExprRef};
 use std::alloc::{AllocError, Global};
@@ -60,7 +60,7 @@ impl IsNullExpr {
     pub fn with_children(&self, children: Vec<ExprRef>) -> Result<IsNullExpr, ExprError>
         ensures { AnswersBy is_null_tree WrongChildren (with_children_of (is_null_tree self.now) children.items) result }
     {
-        let Some(child) = one_of(children) else {
+        let Some(child) = one_child(children) else {
             return Err(ExprError::WrongChildren);
         };
         Ok(IsNullExpr { child })

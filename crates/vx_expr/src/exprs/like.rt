@@ -12,7 +12,7 @@ ghost use Rattle.vx_expr.specs.Equal.{tree_eq};
 ghost use Rattle.vx_expr.specs.EqualLaws.{tree_eq_equiv, tree_decides};
 ghost use Rattle.vx_expr.specs.Feeds.{own_feed, tree_feed};
 
-use crate::children::two_of;
+use crate::children::two_children;
 use crate::equality::same_like;
 use crate::errors::ExprError;
 use crate::expressions::{Expr, ExprRef};
@@ -111,7 +111,7 @@ impl LikeExpr {
     pub fn with_children(&self, children: Vec<ExprRef>) -> Result<LikeExpr, ExprError>
         ensures { AnswersBy like_tree WrongChildren (with_children_of (like_tree self.now) children.items) result }
     {
-        let Some((child, pattern)) = two_of(children) else {
+        let Some((child, pattern)) = two_children(children) else {
             return Err(ExprError::WrongChildren);
         };
         Ok(LikeExpr {

@@ -12,7 +12,7 @@ ghost use Rattle.vx_expr.specs.Equal.{tree_eq};
 ghost use Rattle.vx_expr.specs.EqualLaws.{tree_eq_equiv, tree_decides};
 ghost use Rattle.vx_expr.specs.Feeds.{tree_feed};
 
-use crate::children::two_of;
+use crate::children::two_children;
 use crate::equality::same_contains;
 use crate::errors::ExprError;
 use crate::expressions::{Expr, ExprRef};
@@ -84,7 +84,7 @@ impl ListContainsExpr {
     pub fn with_children(&self, children: Vec<ExprRef>) -> Result<ListContainsExpr, ExprError>
         ensures { AnswersBy contains_tree WrongChildren (with_children_of (contains_tree self.now) children.items) result }
     {
-        let Some((list, value)) = two_of(children) else {
+        let Some((list, value)) = two_children(children) else {
             return Err(ExprError::WrongChildren);
         };
         Ok(ListContainsExpr { list, value })

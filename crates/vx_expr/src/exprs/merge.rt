@@ -13,7 +13,7 @@ ghost use Rattle.vx_expr.specs.EqualLaws.{tree_eq_equiv, tree_decides};
 ghost use Rattle.vx_expr.specs.Feeds.{own_feed, tree_feed};
 
 use crate::children::child_in;
-use crate::equality::{feed_row, nullability_number, same_row};
+use crate::equality::{feed_list, nullability_number, same_list};
 use crate::errors::ExprError;
 use crate::expressions::{Expr, ExprRef};
 use std::alloc::{AllocError, Global};
@@ -132,7 +132,7 @@ impl PartialEq for MergeExpr {
 fn same_merge(left: &MergeExpr, right: &MergeExpr) -> bool
     ensures { result ≡ tree_eq (merge_tree left.now) (merge_tree right.now) }
 {
-    left.nullability == right.nullability && same_row(left.values(), right.values())
+    left.nullability == right.nullability && same_list(left.values(), right.values())
 }
 
 impl Eq for MergeExpr {
@@ -147,6 +147,6 @@ impl Hash for MergeExpr {
     #[tactic(auto, unfolding(crate::specs::Feeds::tree_feed))]
     fn hash<H: Hasher>(&self, state: &mut H) {
         self.feed_own(state);
-        feed_row(self.values(), state);
+        feed_list(self.values(), state);
     }
 }

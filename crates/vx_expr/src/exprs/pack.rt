@@ -13,7 +13,7 @@ ghost use Rattle.vx_expr.specs.EqualLaws.{tree_eq_equiv, tree_decides};
 ghost use Rattle.vx_expr.specs.Feeds.{own_feed, tree_feed};
 
 use crate::children::child_in;
-use crate::equality::{feed_row, nullability_number, same_pack};
+use crate::equality::{feed_list, nullability_number, same_pack};
 use crate::errors::ExprError;
 use crate::expressions::{Expr, ExprRef};
 use std::alloc::{AllocError, Global};
@@ -200,6 +200,6 @@ impl Hash for PackExpr {
     #[tactic(auto, unfolding(crate::specs::Feeds::tree_feed))]
     fn hash<H: Hasher>(&self, state: &mut H) {
         self.feed_own(state);
-        feed_row(self.values(), state);
+        feed_list(self.values(), state);
     }
 }

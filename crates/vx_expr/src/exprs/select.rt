@@ -1,12 +1,11 @@
 // Some fields of a struct.
-ghost use Rattle.std.specs.Prelude.{◌≡◌, length, map, IfOk, IsTrue, option_map, Decides, fold};
+ghost use Rattle.std.specs.Prelude.{◌≡◌, length, map, IfOk, Decides, fold};
 ghost use Rattle.vx_expr.specs.Trees.{select, children_of};
 ghost use Rattle.vx_expr.specs.Nodes.{select_tree, select_fields, select_child};
 ghost use Rattle.vx_expr.specs.Children.{with_children_of};
 ghost use Rattle.vx_expr.specs.Answers.{AnswersBy};
 ghost use Rattle.vx_expr.specs.declared.errors.ExprError.TheVariants.{WrongChildren, UnknownField};
-ghost use Rattle.vx_dtype.specs.TypeRules.{distinct_names};
-ghost use Rattle.vx_expr.specs.Selections.{names_where_known};
+ghost use Rattle.vx_expr.specs.Selections.{select_as_include};
 ghost use Rattle.vx_expr.specs.Answers.{Answers};
 ghost use Rattle.vx_expr.specs.declared.selections.FieldSelection.{FieldSelection};
 ghost use Rattle.std.specs.Cmp.{on_per, on_equiv, partial_equiv_from_equiv};
@@ -15,7 +14,7 @@ ghost use Rattle.vx_expr.specs.Equal.{tree_eq};
 ghost use Rattle.vx_expr.specs.EqualLaws.{tree_eq_equiv, tree_decides};
 ghost use Rattle.vx_expr.specs.Feeds.{own_feed, tree_feed};
 
-use crate::children::one_of;
+use crate::children::one_child;
 use crate::errors::ExprError;
 use crate::expressions::{Expr, ExprRef};
 use crate::selections::FieldSelection;
@@ -60,27 +59,25 @@ impl SelectExpr {
         &self.child
     }
 
-    /// These fields of the struct, in their listed order. No name may stand twice.
+    /// These fields of the struct, in their listed order. Typing refuses a name that stands twice.
     pub fn include_expr(alloc: Global, columns: FieldNames, child: ExprRef) -> Mem<ExprRef>
-        requires { IsTrue (distinct_names columns) }
         ensures { IfOk result (λ made. made ≡ select (FieldSelection.Include columns) child) }
     {
-        SelectExpr::new_expr(alloc, FieldSelection::include(columns), child)
+        SelectExpr::new_expr(alloc, FieldSelection::Include(columns), child)
     }
 
-    /// All fields of the struct but these, in the struct's order. No name may stand twice.
+    /// All fields of the struct but these, in the struct's order. A name may stand twice among these.
     pub fn exclude_expr(alloc: Global, columns: FieldNames, child: ExprRef) -> Mem<ExprRef>
-        requires { IsTrue (distinct_names columns) }
         ensures { IfOk result (λ made. made ≡ select (FieldSelection.Exclude columns) child) }
     {
-        SelectExpr::new_expr(alloc, FieldSelection::exclude(columns), child)
+        SelectExpr::new_expr(alloc, FieldSelection::Exclude(columns), child)
     }
 
     /// The same choice among these names, with the fields that it takes listed.
     ///
     /// Refuses with UnknownField exactly where a name of the choice, also an excluded one, isn't among these.
     pub fn as_include(&self, alloc: Global, names: &FieldNames) -> Result<ExprRef, ExprError>
-        ensures { Answers UnknownField (option_map (λ taken. select (FieldSelection.Include taken) (select_child self.now)) (names_where_known (select_fields self.now) names.now)) result }
+        ensures { Answers UnknownField (select_as_include (select_fields self.now) (select_child self.now) names.now) result }
     {
         let taken = self.fields.as_include_names(alloc, names)?;
         Ok(SelectExpr::new_expr(alloc, FieldSelection::Include(taken), self.child.clone()?)?)
@@ -99,7 +96,7 @@ impl SelectExpr {
     pub fn with_children(&self, children: Vec<ExprRef>) -> Result<SelectExpr, ExprError>
         ensures { AnswersBy select_tree WrongChildren (with_children_of (select_tree self.now) children.items) result }
     {
-        let Some(child) = one_of(children) else {
+        let Some(child) = one_child(children) else {
             return Err(ExprError::WrongChildren);
         };
         Ok(SelectExpr {

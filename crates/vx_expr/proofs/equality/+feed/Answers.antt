@@ -5,8 +5,8 @@ use Rattle.vx_expr.specs.Heights.{height, highest}
 use Rattle.vx_expr.proofs.TreeLemmas.{height_at}
 use Rattle.vx_expr.proofs.equality.+feed.Goals as goal
 
-pub feed_row-feed-requires : goal.feed_row-feed-requires
-feed_row-feed-requires g t c κs within =
+pub feed_list-feed-requires : goal.feed_list-feed-requires
+feed_list-feed-requires g t c κs within =
     let items = c.args.values.now in
     let x = c.index-values-i.result in
     let within_items : c.loop-i.i < length items = search rules in

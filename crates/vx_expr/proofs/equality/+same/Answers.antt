@@ -5,8 +5,8 @@ use Rattle.vx_expr.specs.Heights.{height, highest}
 use Rattle.vx_expr.proofs.TreeLemmas.{height_at}
 use Rattle.vx_expr.proofs.equality.+same.Goals as goal
 
-pub same_row-same-requires : goal.same_row-same-requires
-same_row-same-requires t c =
+pub same_list-same-requires : goal.same_list-same-requires
+same_list-same-requires t c =
     let items = c.args.left.now in
     let x = c.index-left-i.result in
     let within_items : c.loop-i.i < length items = search rules in

@@ -30,11 +30,11 @@ decreases-same_contains l = 4 * max (height (contains_list l.left.now)) (height 
 abbrev pub decreases-same_pack : goal.decreases-same_pack
 decreases-same_pack l = 4 * highest (trees_of l.left.now.values) + 3
 
-abbrev pub decreases-same_row : goal.decreases-same_row
-decreases-same_row l = 4 * highest (trees_of l.left.now) + 2
+abbrev pub decreases-same_list : goal.decreases-same_list
+decreases-same_list l = 4 * highest (trees_of l.left.now) + 2
 
 -- what is left to compare
-abbrev pub invariant-same_row-loop-i : goal.invariant-same_row-loop-i
-invariant-same_row-loop-i l =
+abbrev pub invariant-same_list-loop-i : goal.invariant-same_list-loop-i
+invariant-same_list-loop-i l =
     (length l.left ≡ length l.right)
     × (trees_eq (trees_of l.left) (trees_of l.right) ≡ trees_eq (trees_of (drop l.i l.left)) (trees_of (drop l.i l.right)))
