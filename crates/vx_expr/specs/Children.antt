@@ -6,7 +6,8 @@ use Rattle.std.specs.Str.{bytes_eq}
 use Rattle.vx_dtype.specs.declared.Nullability.{Nullability}
 use Rattle.vx_dtype.specs.Types.{Bytes}
 use Rattle.vx_dtype.specs.Values.{Typed}
-use Rattle.vx_expr.specs.Trees.{Tree, root, literal, get_item, binary, not_of, is_null_of, like, between, cast, list_contains, pack, merge, select, dynamic, trees_of, listed}
+use Rattle.vx_expr.specs.Trees.{Tree, root, literal, get_item, binary, not_of, is_null_of, like, between}
+use Rattle.vx_expr.specs.Trees.{cast, list_contains, pack, merge, select, dynamic, trees_of, listed}
 use Rattle.vx_expr.specs.Packed.{Packed}
 
 -- the elements of a list of one, of two, of three, and none of another list

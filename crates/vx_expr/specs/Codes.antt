@@ -1,3 +1,4 @@
+-- For the checker: no public clause cites this.
 -- A code of expressions: by it the checker tells the expressions that are seen apart.
 use Rattle.std.proofs.Common.{◌≡◌, ℕ, zero, suc, false, eqb, List, refl, ap, arith}
 use Rattle.std.proofs.lemmas.Bool.Decides.{nat_tests}
@@ -14,7 +15,8 @@ use Rattle.vx_dtype.specs.ValueCodes.{coded_typed}
 use Rattle.vx_expr.specs.declared.operators.Operator.{Operator}
 use Rattle.vx_expr.specs.declared.selections.FieldSelection.{FieldSelection}
 use Rattle.vx_expr.specs.Operators.{operator_number, operator_numbered, operator_of, comparison_of}
-use Rattle.vx_expr.specs.Trees.{Tree, root, literal, get_item, binary, not_of, is_null_of, like, between, cast, list_contains, pack, merge, select, dynamic, Trees, no_trees, tree}
+use Rattle.vx_expr.specs.Trees.{Tree, root, literal, get_item, binary, not_of, is_null_of, like, between}
+use Rattle.vx_expr.specs.Trees.{cast, list_contains, pack, merge, select, dynamic, Trees, no_trees, tree}
 use Rattle.vx_expr.specs.Packed.{Packed}
 
 -- the operator of a number, `-` beyond the last
@@ -74,7 +76,8 @@ coded_strictness = code_by ℕ coded_ℕ strictness_number strictness_at strictn
 
 abbrev pub coded_options : Coded BetweenOptions
 coded_options =
-    code_by (StrictComparison × StrictComparison) (coded× coded_strictness coded_strictness) (λ o. (o.lower_strict, o.upper_strict)) (λ p. record { lower_strict = p.0; upper_strict = p.1 }) (λ _. refl)
+    code_by (StrictComparison × StrictComparison) (coded× coded_strictness coded_strictness) (λ o. (o.lower_strict, o.upper_strict))
+    (λ p. record { lower_strict = p.0; upper_strict = p.1 }) (λ _. refl)
 
 abbrev pub coded_names : Coded (List Bytes)
 coded_names = coded_list coded_bytes
@@ -104,14 +107,17 @@ abbrev mutual
   tree_code (binary l op r) = gcons (gnum 3) (gcons (tree_code l) (gcons (coded_operator.code op) (tree_code r)))
   tree_code (not_of e) = gcons (gnum 4) (tree_code e)
   tree_code (is_null_of e) = gcons (gnum 5) (tree_code e)
-  tree_code (like e p negated fold_case) = gcons (gnum 6) (gcons (tree_code e) (gcons (tree_code p) (gcons (coded_bool.code negated) (coded_bool.code fold_case))))
-  tree_code (between e lower upper options) = gcons (gnum 7) (gcons (tree_code e) (gcons (tree_code lower) (gcons (tree_code upper) (coded_options.code options))))
+  tree_code (like e p negated fold_case) = gcons (gnum 6)
+      (gcons (tree_code e) (gcons (tree_code p) (gcons (coded_bool.code negated) (coded_bool.code fold_case))))
+  tree_code (between e lower upper options) = gcons (gnum 7)
+      (gcons (tree_code e) (gcons (tree_code lower) (gcons (tree_code upper) (coded_options.code options))))
   tree_code (cast e t) = gcons (gnum 8) (gcons (tree_code e) (coded_ty.code t))
   tree_code (list_contains l v) = gcons (gnum 9) (gcons (tree_code l) (tree_code v))
   tree_code (pack names es n) = gcons (gnum 10) (gcons (coded_names.code names) (gcons (trees_code es) (coded_null.code n)))
   tree_code (merge es n) = gcons (gnum 11) (gcons (trees_code es) (coded_null.code n))
   tree_code (select s e) = gcons (gnum 12) (gcons (selection_code s) (tree_code e))
-  tree_code (dynamic e op k t default) = gcons (gnum 13) (gcons (tree_code e) (gcons (coded_comparison.code op) (gcons (coded_ℕ.code k) (gcons (coded_ty.code t) (coded_bool.code default)))))
+  tree_code (dynamic e op k t default) = gcons (gnum 13)
+      (gcons (tree_code e) (gcons (coded_comparison.code op) (gcons (coded_ℕ.code k) (gcons (coded_ty.code t) (coded_bool.code default)))))
 
   pub trees_code : Trees → Gv
   trees_code no_trees = gnil
@@ -201,4 +207,5 @@ coded_tree = record { code = tree_code; inj = tree_code_inj }
 
 abbrev pub coded_packed : Coded Packed
 coded_packed =
-    code_by (List Bytes × (List Tree × Nullability)) (coded× coded_names (coded× (coded_list coded_tree) coded_null)) (λ p. (p.names, (p.values, p.nullability))) (λ q. record { names = q.0; values = q.1.0; nullability = q.1.1 }) (λ _. refl)
+    code_by (List Bytes × (List Tree × Nullability)) (coded× coded_names (coded× (coded_list coded_tree) coded_null))
+    (λ p. (p.names, (p.values, p.nullability))) (λ q. record { names = q.0; values = q.1.0; nullability = q.1.1 }) (λ _. refl)

@@ -1,8 +1,10 @@
+-- For the checker: no public clause cites this.
 -- A child is less high than its node: so recursions over expressions end.
 use Rattle.std.specs.Prelude.{◌*◌, ◌≤◌}
 use Rattle.std.proofs.Common.{arith}
 use Rattle.vx_expr.specs.declared.expressions.Expr.{Expr}
-use Rattle.vx_expr.specs.declared.expressions.Expr.TheVariants.{Between, Binary, Cast, Dynamic, GetItem, IsNull, Like, ListContains, Literal, Merge, Not, Pack, Root, Select}
+use Rattle.vx_expr.specs.declared.expressions.Expr.TheVariants.{Between, Binary, Cast, Dynamic, GetItem, IsNull, Like}
+use Rattle.vx_expr.specs.declared.expressions.Expr.TheVariants.{ListContains, Literal, Merge, Not, Pack, Root, Select}
 use Rattle.vx_expr.specs.declared.expressions.ExprRef.TheDeep.{deep-Expr}
 use Rattle.vx_expr.specs.Heights.{height, most_le-highest}
 use Rattle.vx_expr.specs.Nodes.{node_tree}

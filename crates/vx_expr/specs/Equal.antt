@@ -7,7 +7,8 @@ use Rattle.vx_dtype.specs.declared.BetweenOptions.{BetweenOptions}
 use Rattle.vx_dtype.specs.Equal.{names_eq, same_nullability, same_bool, ty_eq, typed_eq}
 use Rattle.vx_expr.specs.declared.operators.Operator.{Operator}
 use Rattle.vx_expr.specs.declared.selections.FieldSelection.{FieldSelection}
-use Rattle.vx_expr.specs.Trees.{Tree, root, literal, get_item, binary, not_of, is_null_of, like, between, cast, list_contains, pack, merge, select, dynamic, Trees, no_trees, tree}
+use Rattle.vx_expr.specs.Trees.{Tree, root, literal, get_item, binary, not_of, is_null_of, like, between}
+use Rattle.vx_expr.specs.Trees.{cast, list_contains, pack, merge, select, dynamic, Trees, no_trees, tree}
 
 -- whether two operators are the same
 abbrev pub same_operator : Operator → Operator → Bool

@@ -1,3 +1,4 @@
+-- For the checker: no public clause cites this.
 -- The tests of equality answer true exactly where the two sides are one.
 use Rattle.std.specs.Prelude.{◌≡◌, ◌==◌, true, ◌&&◌, refl, Decides}
 use Rattle.std.proofs.Common.{ap, subst}
@@ -10,7 +11,8 @@ use Rattle.vx_dtype.specs.Equal.{same_bool, ty_eq}
 use Rattle.vx_dtype.specs.EqualLaws.{names_decides, nullability_decides, bool_decides, ty_decides, typed_decides}
 use Rattle.vx_expr.specs.declared.operators.Operator.{Operator}
 use Rattle.vx_expr.specs.declared.selections.FieldSelection.{FieldSelection}
-use Rattle.vx_expr.specs.Trees.{Tree, root, literal, get_item, binary, not_of, is_null_of, like, between, cast, list_contains, pack, merge, select, dynamic, Trees, no_trees, tree}
+use Rattle.vx_expr.specs.Trees.{Tree, root, literal, get_item, binary, not_of, is_null_of, like, between}
+use Rattle.vx_expr.specs.Trees.{cast, list_contains, pack, merge, select, dynamic, Trees, no_trees, tree}
 use Rattle.vx_expr.specs.Equal.{same_operator, same_comparison, same_strictness, same_options, selection_eq, tree_eq, trees_eq}
 
 pub operator_decides : (o q : Operator) → Decides (same_operator o q) (o ≡ q)
@@ -42,7 +44,11 @@ strictness_decides _ _ = (λ e. cc, λ e. cc)
 
 pub options_same : (o q : BetweenOptions) → same_options o q ≡ true → o ≡ q
 options_same o q e =
-    λ i. record { lower_strict = (strictness_decides o.lower_strict q.lower_strict).0 (first_so _ _ e) i; upper_strict = (strictness_decides o.upper_strict q.upper_strict).0 (second_so _ _ e) i }
+    λ i. record {
+      lower_strict = (strictness_decides o.lower_strict q.lower_strict).0 (first_so _ _ e) i;
+      upper_strict =
+          (strictness_decides o.upper_strict q.upper_strict).0 (second_so _ _ e) i;
+    }
 
 pub options_own : (o : BetweenOptions) → same_options o o ≡ true
 options_own o = λ i. (strictness_decides o.lower_strict o.lower_strict).1 refl i && (strictness_decides o.upper_strict o.upper_strict).1 refl i
@@ -62,28 +68,34 @@ mutual
   tree_eq-same (literal s) (literal t) e = ap literal ((typed_decides s t).0 e)
   tree_eq-same (get_item f a) (get_item g b) e = λ i. get_item ((bytes_eq-Decides f g).0 (first_so _ _ e) i) (tree_eq-same a b (second_so _ _ e) i)
   tree_eq-same (binary l op r) (binary k oq q) e =
-      λ i. binary (tree_eq-same l k (first_so _ _ (second_so _ _ e)) i) ((operator_decides op oq).0 (first_so _ _ e) i) (tree_eq-same r q (second_so _ _ (second_so _ _ e)) i)
+      λ i. binary (tree_eq-same l k (first_so _ _ (second_so _ _ e)) i) ((operator_decides op oq).0 (first_so _ _ e) i)
+      (tree_eq-same r q (second_so _ _ (second_so _ _ e)) i)
   tree_eq-same (not_of a) (not_of b) e = ap not_of (tree_eq-same a b e)
   tree_eq-same (is_null_of a) (is_null_of b) e = ap is_null_of (tree_eq-same a b e)
   tree_eq-same (like a p m k) (like b q n j) e =
       let second : (same_bool k j && (tree_eq a b && tree_eq p q)) ≡ true = second_so (same_bool m n) _ e in
       let third : (tree_eq a b && tree_eq p q) ≡ true = second_so (same_bool k j) _ second in
-      λ i. like (tree_eq-same a b (first_so _ (tree_eq p q) third) i) (tree_eq-same p q (second_so (tree_eq a b) _ third) i) ((bool_decides m n).0 (first_so _ _ e) i) ((bool_decides k j).0 (first_so _ _ second) i)
+      λ i. like (tree_eq-same a b (first_so _ (tree_eq p q) third) i) (tree_eq-same p q (second_so (tree_eq a b) _ third) i)
+      ((bool_decides m n).0 (first_so _ _ e) i) ((bool_decides k j).0 (first_so _ _ second) i)
   tree_eq-same (between a l u o) (between b k v q) e =
       let second : (tree_eq a b && (tree_eq l k && tree_eq u v)) ≡ true = second_so (same_options o q) _ e in
       let third : (tree_eq l k && tree_eq u v) ≡ true = second_so (tree_eq a b) _ second in
-      λ i. between (tree_eq-same a b (first_so _ _ second) i) (tree_eq-same l k (first_so _ (tree_eq u v) third) i) (tree_eq-same u v (second_so (tree_eq l k) _ third) i) (options_same o q (first_so _ _ e) i)
+      λ i. between (tree_eq-same a b (first_so _ _ second) i) (tree_eq-same l k (first_so _ (tree_eq u v) third) i)
+      (tree_eq-same u v (second_so (tree_eq l k) _ third) i) (options_same o q (first_so _ _ e) i)
   tree_eq-same (cast a t) (cast b u) e = λ i. cast (tree_eq-same a b (second_so _ _ e) i) ((ty_decides t u).0 (first_so _ _ e) i)
   tree_eq-same (list_contains l v) (list_contains k w) e = λ i. list_contains (tree_eq-same l k (first_so _ _ e) i) (tree_eq-same v w (second_so _ _ e) i)
   tree_eq-same (pack fs es n) (pack gs ds m) e =
-      λ i. pack ((names_decides fs gs).0 (first_so _ _ e) i) (trees_eq-same es ds (second_so _ _ (second_so _ _ e)) i) ((nullability_decides n m).0 (first_so _ _ (second_so _ _ e)) i)
+      λ i. pack ((names_decides fs gs).0 (first_so _ _ e) i) (trees_eq-same es ds (second_so _ _ (second_so _ _ e)) i)
+      ((nullability_decides n m).0 (first_so _ _ (second_so _ _ e)) i)
   tree_eq-same (merge es n) (merge ds m) e = λ i. merge (trees_eq-same es ds (second_so _ _ e) i) ((nullability_decides n m).0 (first_so _ _ e) i)
   tree_eq-same (select s a) (select t b) e = λ i. select ((selection_decides s t).0 (first_so _ _ e) i) (tree_eq-same a b (second_so _ _ e) i)
   tree_eq-same (dynamic a op k t x) (dynamic b oq j u y) e =
       let second : (k == j && (ty_eq t u && (same_bool x y && tree_eq a b))) ≡ true = second_so (same_comparison op oq) _ e in
       let third : (ty_eq t u && (same_bool x y && tree_eq a b)) ≡ true = second_so (k == j) _ second in
       let fourth : (same_bool x y && tree_eq a b) ≡ true = second_so (ty_eq t u) _ third in
-      λ i. dynamic (tree_eq-same a b (second_so (same_bool x y) _ fourth) i) ((comparison_decides op oq).0 (first_so _ _ e) i) ((unsigned_Decides k j).0 (first_so _ _ second) i) ((ty_decides t u).0 (first_so _ _ third) i) ((bool_decides x y).0 (first_so _ (tree_eq a b) fourth) i)
+      λ i. dynamic (tree_eq-same a b (second_so (same_bool x y) _ fourth) i) ((comparison_decides op oq).0 (first_so _ _ e) i)
+      ((unsigned_Decides k j).0 (first_so _ _ second) i) ((ty_decides t u).0 (first_so _ _ third) i)
+      ((bool_decides x y).0 (first_so _ (tree_eq a b) fourth) i)
   tree_eq-same _ _ e = cc
 
   pub trees_eq-same : (es ds : Trees) → trees_eq es ds ≡ true → es ≡ ds
@@ -109,7 +121,8 @@ mutual
   tree_eq-own (merge es n) = λ i. (nullability_decides n n).1 refl i && trees_eq-own es i
   tree_eq-own (select s a) = λ i. (selection_decides s s).1 refl i && tree_eq-own a i
   tree_eq-own (dynamic a op k t x) =
-      λ i. (comparison_decides op op).1 refl i && ((unsigned_Decides k k).1 refl i && ((ty_decides t t).1 refl i && ((bool_decides x x).1 refl i && tree_eq-own a i)))
+      λ i. (comparison_decides op op).1 refl i &&
+      ((unsigned_Decides k k).1 refl i && ((ty_decides t t).1 refl i && ((bool_decides x x).1 refl i && tree_eq-own a i)))
 
   pub trees_eq-own : (es : Trees) → trees_eq es es ≡ true
   trees_eq-own no_trees = refl

@@ -1,3 +1,4 @@
+-- For the checker: no public clause cites this.
 -- What a hash takes in of expressions: their whole structure, each kind by a number of its own, each list with a mark before every part
 -- and another at its end.
 use Rattle.std.specs.Prelude.{◌++◌}
@@ -7,7 +8,8 @@ use Rattle.vx_dtype.specs.Codes.{null_number}
 use Rattle.vx_dtype.specs.Feeds.{bytes_feed, names_feed, ty_feed, typed_feed}
 use Rattle.vx_expr.specs.declared.selections.FieldSelection.{FieldSelection}
 use Rattle.vx_expr.specs.Operators.{operator_number}
-use Rattle.vx_expr.specs.Trees.{Tree, root, literal, get_item, binary, not_of, is_null_of, like, between, cast, list_contains, pack, merge, select, dynamic, Trees, no_trees, tree}
+use Rattle.vx_expr.specs.Trees.{Tree, root, literal, get_item, binary, not_of, is_null_of, like, between}
+use Rattle.vx_expr.specs.Trees.{cast, list_contains, pack, merge, select, dynamic, Trees, no_trees, tree}
 use Rattle.vx_expr.specs.Codes.{comparison_number, strictness_number}
 
 -- which of the two choices it is, and its names

@@ -1,8 +1,11 @@
+-- For the checker: no public clause cites this.
 -- How high an expression is: a node is higher than each of its children, so recursions over expressions end.
 use Rattle.std.specs.Prelude.{ℕ, ◌+◌, ◌*◌, ◌≤◌, max, List, [], ◌∷◌}
 use Rattle.std.proofs.Common.{arith}
 use denote.Param.Weighed.{most}
-use Rattle.vx_expr.specs.Trees.{Tree, root, literal, get_item, binary, not_of, is_null_of, like, between, cast, list_contains, pack, merge, select, dynamic, Trees, no_trees, tree, trees_of}
+use Rattle.vx_expr.specs.Trees.{Tree, root, literal, get_item, binary, not_of, is_null_of, like, between, cast}
+use Rattle.vx_expr.specs.Trees.{list_contains, pack, merge, select, dynamic, Trees, no_trees, tree, trees_of}
+use Rattle.vx_expr.specs.Packed.{Packed}
 
 abbrev mutual
   -- the number of edges from the node down to its farthest leaf, where a list of expressions counts as an edge
@@ -31,3 +34,7 @@ abbrev mutual
 pub most_le-highest : (es : List Tree) → most (λ e. 2 * height e + 1) es ≤ 2 * highest (trees_of es) + 1
 most_le-highest [] = omega arith
 most_le-highest (e ∷ es) = omega (arith, most_le-highest es)
+
+-- a number above that of each value and below that of the expression that makes the struct
+abbrev pub packed_size : Packed → ℕ
+packed_size p = 2 * highest (trees_of p.values) + 1

@@ -9,7 +9,8 @@ use Rattle.vx_dtype.specs.Values.{Typed}
 use Rattle.vx_expr.specs.declared.operators.Operator.{Operator}
 use Rattle.vx_expr.specs.declared.selections.FieldSelection.{FieldSelection}
 use Rattle.vx_expr.specs.declared.expressions.Expr.{Expr}
-use Rattle.vx_expr.specs.declared.expressions.Expr.TheVariants.{Between, Binary, Cast, Dynamic, GetItem, IsNull, Like, ListContains, Literal, Merge, Not, Pack, Root, Select}
+use Rattle.vx_expr.specs.declared.expressions.Expr.TheVariants.{Between, Binary, Cast, Dynamic, GetItem, IsNull, Like}
+use Rattle.vx_expr.specs.declared.expressions.Expr.TheVariants.{ListContains, Literal, Merge, Not, Pack, Root, Select}
 use Rattle.vx_expr.specs.declared.exprs.between.BetweenExpr.{BetweenExpr}
 use Rattle.vx_expr.specs.declared.exprs.binary.BinaryExpr.{BinaryExpr}
 use Rattle.vx_expr.specs.declared.exprs.cast.CastExpr.{CastExpr}
@@ -23,7 +24,8 @@ use Rattle.vx_expr.specs.declared.exprs.merge.MergeExpr.{MergeExpr}
 use Rattle.vx_expr.specs.declared.exprs.not.NotExpr.{NotExpr}
 use Rattle.vx_expr.specs.declared.exprs.root.RootExpr.{RootExpr}
 use Rattle.vx_expr.specs.declared.exprs.select.SelectExpr.{SelectExpr}
-use Rattle.vx_expr.specs.Trees.{Tree, root, literal, get_item, binary, not_of, is_null_of, like, between, cast, list_contains, merge, select, dynamic, trees_of}
+use Rattle.vx_expr.specs.Trees.{Tree, root, literal, get_item, binary, not_of, is_null_of, like}
+use Rattle.vx_expr.specs.Trees.{between, cast, list_contains, merge, select, dynamic, trees_of}
 use Rattle.vx_expr.specs.Operators.{range_as_binary}
 use Rattle.vx_expr.specs.Packed.{pack_tree}
 

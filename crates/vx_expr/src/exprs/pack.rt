@@ -33,8 +33,8 @@ pub struct PackExpr {
 impl Model for PackExpr {
     ghost use Rattle.std.specs.Prelude.{◌≡◌, length};
     ghost use Rattle.std.proofs.Common.{arith};
-    ghost use Rattle.vx_expr.specs.Heights.{most_le-highest};
-    ghost use Rattle.vx_expr.specs.Packed.{Packed, packed_size};
+    ghost use Rattle.vx_expr.specs.Heights.{most_le-highest, packed_size};
+    ghost use Rattle.vx_expr.specs.Packed.{Packed};
     ghost use Rattle.vx_expr.specs.Codes.{coded_packed};
 
     ghost Value = { Packed };
