@@ -1,1 +1,3 @@
 // Tests of vx_dtype.
+mod scalars;
+mod types;

@@ -5,7 +5,8 @@ use Rattle.std.specs.Str.{bytes_eq}
 use Rattle.vx_dtype.specs.Types.{Bytes, Ty, struct_ty, Fields, no_fields, field}
 use Rattle.vx_dtype.specs.declared.Nullability.{Nullability}
 use Rattle.vx_dtype.specs.TypeRules.{field_names, field_type, distinct_names, no_name_twice, no_name_twice_below}
-use Rattle.vx_dtype.specs.StructTypes.{before, types_named, projected}
+use Rattle.vx_dtype.specs.StructTypes.{projected}
+use Rattle.vx_dtype.proofs.ProjectionLemmas.{before, types_named, projected_named}
 use Rattle.vx_dtype.specs.Structs.{field_of, members_at, selected}
 use Rattle.vx_dtype.specs.Zipped.{zipped}
 use Rattle.vx_dtype.specs.Values.{Val, valued, members_valued, member, raw_struct, struct_val, fault}
@@ -91,7 +92,7 @@ projected_step fs gs xs ys made None e h = absurd cc
 projected_step fs gs xs ys made (Some ts) e h = let same : zipped fs ts ≡ made = cc in subst (AreMembers fs gs xs ys) same (h ts refl)
 
 pub projected_members : (fs : List Bytes) (gs : Fields) (ps : List ℕ) (xs ys : List ScalarValue) (made : Fields) → projected fs gs ≡ Some made → fields_fit (raws_of (map raw_view xs)) gs ≡ true → AllZip (IsPlaceOf gs) fs ps → AllZip (IsAtPlace xs) ps ys → AreMembers fs gs xs ys made
-projected_members fs gs ps xs ys made e h p a = projected_step fs gs xs ys made (types_named fs gs) e (λ ts k. members_taken fs gs ps xs ys ts k h p a)
+projected_members fs gs ps xs ys made e h p a = projected_step fs gs xs ys made (types_named fs gs) (sym (projected_named fs gs) ∙ e) (λ ts k. members_taken fs gs ps xs ys ts k h p a)
 
 -- a clone of the value at a place
 default_less : (xs : List ScalarValue) (p : ℕ) (d e : ScalarValue) → p < length xs → get_or xs p d ≡ get_or xs p e
@@ -136,12 +137,12 @@ names_projected_step fs gs made n (Some ts) e d h =
     subst (λ ms. no_name_twice (struct_ty ms n) ≡ true) same (of_both _ _ (ap distinct_names told.1 ∙ d) told.0)
 
 pub names_projected : (fs : List Bytes) (gs made : Fields) (n : Nullability) → no_name_twice_below gs ≡ true → projected fs gs ≡ Some made → distinct_names fs ≡ true → no_name_twice (struct_ty made n) ≡ true
-names_projected fs gs made n h e d = names_projected_step fs gs made n (types_named fs gs) e d (λ ts k. names_named fs gs ts h k)
+names_projected fs gs made n h e d = names_projected_step fs gs made n (types_named fs gs) (sym (projected_named fs gs) ∙ e) d (λ ts k. names_named fs gs ts h k)
 
 -- where there are fields of all the names, each name has a place
 there_step : (fs : List Bytes) (gs : Fields) (i : ℕ) (f : Bytes) (o : Option ℕ) → i < length fs → f ≡ get_or fs i f → IsSome (projected fs gs) → place_of gs f ≡ o → IsSome o
 there_step fs gs i f None h p s e =
-    let none : projected fs gs ≡ None = ap (option_map (zipped fs)) (named_missing fs gs i f h p (field_missing f gs e)) in
+    let none : projected fs gs ≡ None = projected_named fs gs ∙ ap (option_map (zipped fs)) (named_missing fs gs i f h p (field_missing f gs e)) in
     subst IsSome none s
 there_step fs gs i f (Some q) h p s e = refl
 

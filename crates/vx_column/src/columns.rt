@@ -75,7 +75,7 @@ impl ColumnRef {
         if !all_fit(&dtype, values.as_slice()) {
             return Err(ColumnError::WrongValue);
         }
-        if !dtype.has_distinct_names() {
+        if !dtype.has_distinct_names(alloc)? {
             return Err(ColumnError::DuplicateField);
         }
         Ok(ColumnRef::of_rows(alloc, dtype, values)?)

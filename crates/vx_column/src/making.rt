@@ -33,7 +33,7 @@ impl ColumnRef {
     pub fn constant(alloc: Global, value: &Scalar, len: usize) -> Result<ColumnRef, ColumnError>
         ensures { Answers result (unless (no_name_twice value.now.ty) DuplicateField (Ok (column value.now.ty (replicate len (value_of value.now))))) }
     {
-        if !value.dtype().has_distinct_names() {
+        if !value.dtype().has_distinct_names(alloc)? {
             return Err(ColumnError::DuplicateField);
         }
         let rows = repeated(alloc, value.value(), len)?;

@@ -53,7 +53,7 @@ impl ColumnRef {
             return Err(ColumnError::UnknownField);
         };
         let made = fields.project(alloc, names)?;
-        if !FieldName::are_distinct(names) {
+        if !FieldName::are_distinct(alloc, names)? {
             return Err(ColumnError::DuplicateField);
         }
         let places = places_of(alloc, fields, names)?;

@@ -39,7 +39,7 @@ impl ColumnRef {
         if !truths_number(len, truths) {
             return Err(ColumnError::WrongLength);
         }
-        if !FieldName::are_distinct(names.as_slice()) {
+        if !FieldName::are_distinct(alloc, names.as_slice())? {
             return Err(ColumnError::DuplicateField);
         }
         let rows = struct_rows(alloc, fields.as_slice(), len, truths)?;

@@ -1,10 +1,10 @@
 -- The value that a scalar stands for is a value of its type.
-use Rattle.std.proofs.Common.{◌≡◌, Bool, true, false, ◌&&◌, refl}
+use Rattle.std.proofs.Common.{◌≡◌, Bool, true, false, ◌&&◌, cond, refl, ap, ◌∙◌}
 use Rattle.std.specs.Str.{bytes_eq}
 use Rattle.std.proofs.lemmas.Slice.Eq.{bytes_eq-Decides}
-use Rattle.vx_dtype.specs.Types.{Bytes, Ty, bool_ty, int_ty, text_ty, list_ty, struct_ty, Fields, no_fields, field, PType, U8, U16, U32, U64, I8, I16, I32, I64}
+use Rattle.vx_dtype.specs.Types.{Bytes, Ty, bool_ty, int_ty, text_ty, list_ty, struct_ty, Fields, no_fields, field, PType, U8, U16, U32, U64, I8, I16, I32, I64, Nullability}
 use Rattle.vx_dtype.specs.TypeRules.{same_ptype}
-use Rattle.vx_dtype.specs.Values.{Raw, raw_null, raw_bool, raw_int, raw_text, raw_list, raw_struct, Raws, no_raws, raw, valued, all_valued, members_valued}
+use Rattle.vx_dtype.specs.Values.{Raw, raw_null, raw_bool, raw_int, raw_text, raw_list, raw_struct, Raws, no_raws, raw, Val, struct_val, fault, as_many, valued, all_valued, members_valued}
 use Rattle.vx_dtype.specs.Fits.{fits, all_fit, fields_fit, val_fits, vals_fit, members_fit}
 
 -- each integer type is the same as itself
@@ -33,6 +33,23 @@ and_right false b e = absurd cc
 and_both : (a b : Bool) → a ≡ true → b ≡ true → (a && b) ≡ true
 and_both a b p q = cc
 
+-- raw values of fields are as many as the fields
+pub as_many-fitting : (xs : Raws) (fs : Fields) → fields_fit xs fs ≡ true → as_many xs fs ≡ true
+unfolding fields_fit
+as_many-fitting no_raws no_fields h = refl
+as_many-fitting no_raws (field f t fs) h = absurd cc
+as_many-fitting (raw x xs) no_fields h = absurd cc
+as_many-fitting (raw x xs) (field f t fs) h = as_many-fitting xs fs (and_right (fits x t) (fields_fit xs fs) h)
+
+-- a raw struct of the fields of a type stands for the struct of the members
+pub valued-struct : (xs : Raws) (fs : Fields) (n : Nullability) → fields_fit xs fs ≡ true → valued (raw_struct xs) (struct_ty fs n) ≡ struct_val (members_valued xs fs)
+unfolding valued
+valued-struct xs fs n h = ap (λ b. cond b (struct_val (members_valued xs fs)) fault) (as_many-fitting xs fs h)
+
+struct-fits : (xs : Raws) (fs : Fields) (n : Nullability) (v : Val) → v ≡ struct_val (members_valued xs fs) → members_fit (members_valued xs fs) fs ≡ true → val_fits v (struct_ty fs n) ≡ true
+unfolding val_fits
+struct-fits xs fs n v e h = ap (λ (w : Val). val_fits w (struct_ty fs n)) e ∙ h
+
 mutual
   unfolding fits valued val_fits
 
@@ -43,7 +60,7 @@ mutual
   val_fits_valued (raw_int i) (int_ty p n) h = and_both (same_ptype p p) _ (same_ptype_refl p) h
   val_fits_valued (raw_text s) (text_ty n) h = refl
   val_fits_valued (raw_list xs) (list_ty e n) h = vals_fit_all_valued xs e h
-  val_fits_valued (raw_struct xs) (struct_ty fs n) h = members_fit_members_valued xs fs h
+  val_fits_valued (raw_struct xs) (struct_ty fs n) h = struct-fits xs fs n _ (valued-struct xs fs n h) (members_fit_members_valued xs fs h)
   val_fits_valued _ _ h = absurd cc
 
   -- the same of each value of a list

@@ -1,18 +1,11 @@
+-- For the checker: no public clause cites this.
 -- A code of types and of fields: by it the checker tells the types that are seen apart.
 use Rattle.std.proofs.Common.{◌≡◌, ℕ, zero, suc, refl, ap}
 use Rattle.std.specs.Coded.{Coded, code_by, coded_ℕ, coded_list}
 use base.Stored.{Gv, gnil, gcons}
-use Rattle.vx_dtype.specs.Types.{Bytes, Ty, bool_ty, int_ty, text_ty, list_ty, struct_ty, Fields, no_fields, field, PType, U8, U16, U32, U64, I8, I16, I32, I64, Nullability, NonNullable, Nullable}
-
-abbrev pub ptype_number : PType → ℕ
-ptype_number U8 = 0
-ptype_number U16 = 1
-ptype_number U32 = 2
-ptype_number U64 = 3
-ptype_number I8 = 4
-ptype_number I16 = 5
-ptype_number I32 = 6
-ptype_number I64 = 7
+use Rattle.vx_dtype.specs.Types.{Bytes, Ty, bool_ty, int_ty, text_ty, list_ty, struct_ty, Fields, no_fields, field}
+use Rattle.vx_dtype.specs.Types.{PType, U8, U16, U32, U64, I8, I16, I32, I64, Nullability, NonNullable, Nullable}
+use Rattle.vx_dtype.specs.TypeRules.{ptype_number, null_number}
 
 abbrev pub ptype_at : ℕ → PType
 ptype_at zero = U8
@@ -36,10 +29,6 @@ ptype_at-number I64 = refl
 
 abbrev pub coded_ptype : Coded PType
 coded_ptype = code_by ℕ coded_ℕ ptype_number ptype_at ptype_at-number
-
-abbrev pub null_number : Nullability → ℕ
-null_number NonNullable = 0
-null_number Nullable = 1
 
 abbrev pub null_at : ℕ → Nullability
 null_at zero = NonNullable

@@ -1,3 +1,4 @@
+-- For the checker: no public clause cites this.
 -- A part of a type is less deep than the type: so recursions over types end.
 use Rattle.std.specs.Prelude.{◌≡◌, ◌≤◌, List, [], ◌∷◌, length, map}
 use Rattle.std.proofs.Common.{arith}

@@ -50,7 +50,7 @@ unfoldable mutual
   raw_eq (raw_struct xs) (raw_struct ys) = raws_eq xs ys
   raw_eq _ _ = false
 
-  -- whether two rows of raw values are the same
+  -- whether two lists of raw values are the same
   pub raws_eq : Raws → Raws → Bool
   raws_eq no_raws no_raws = true
   raws_eq (raw x xs) (raw y ys) = raw_eq x y && raws_eq xs ys

@@ -1,10 +1,12 @@
+-- For the checker: no public clause cites this.
 -- The tests of equality answer true exactly where the two sides are one.
 use Rattle.std.specs.Prelude.{◌≡◌, Bool, true, false, ◌&&◌, List, refl, Decides}
 use Rattle.std.proofs.Common.{ap, subst}
 use Rattle.std.specs.Cmp.{IsEquivalence, decided, signed_Decides, first_so, second_so}
 use Rattle.std.specs.Str.{bytes_eq}
 use Rattle.std.proofs.lemmas.Slice.Eq.{bytes_eq-Decides, slice_eq-Decides}
-use Rattle.vx_dtype.specs.Types.{Bytes, Ty, bool_ty, int_ty, text_ty, list_ty, struct_ty, Fields, no_fields, field, PType, U8, U16, U32, U64, I8, I16, I32, I64, Nullability, NonNullable, Nullable}
+use Rattle.vx_dtype.specs.Types.{Bytes, Ty, bool_ty, int_ty, text_ty, list_ty, struct_ty, Fields, no_fields, field, PType, U8, U16, U32, U64, I8, I16}
+use Rattle.vx_dtype.specs.Types.{I32, I64, Nullability, NonNullable, Nullable}
 use Rattle.vx_dtype.specs.TypeRules.{same_ptype}
 use Rattle.vx_dtype.specs.Values.{Raw, raw_null, raw_bool, raw_int, raw_text, raw_list, raw_struct, Raws, no_raws, raw, Typed}
 use Rattle.vx_dtype.specs.Equal.{names_eq, same_nullability, same_bool, ty_eq, fields_eq, raw_eq, raws_eq, typed_eq}
@@ -47,7 +49,9 @@ mutual
   pub fields_eq-same : (fs gs : Fields) → fields_eq fs gs ≡ true → fs ≡ gs
   fields_eq-same no_fields no_fields e = refl
   fields_eq-same (field f t fs) (field g u gs) e =
-      λ i. field ((bytes_eq-Decides f g).0 (first_so _ _ e) i) (ty_eq-same t u (first_so _ _ (second_so _ _ e)) i) (fields_eq-same fs gs (second_so _ _ (second_so _ _ e)) i)
+      let types = first_so _ _ (second_so _ _ e) in
+      let rest = second_so _ _ (second_so _ _ e) in
+      λ i. field ((bytes_eq-Decides f g).0 (first_so _ _ e) i) (ty_eq-same t u types i) (fields_eq-same fs gs rest i)
   fields_eq-same _ _ e = cc
 
 mutual

@@ -1,9 +1,11 @@
--- What a hash takes in of types and values: their whole structure, each kind by a number of its own, each row with a mark before every part and another at its end.
+-- For the checker: no public clause cites this.
+-- What a hash takes in of types and values: their whole structure, each kind by a number of its own, each list with a mark before
+-- every part and another at its end.
 use Rattle.std.specs.Prelude.{List, ◌++◌}
 use Rattle.std.specs.Hash as fed
 use Rattle.std.specs.Hash.{HashWrites}
 use Rattle.vx_dtype.specs.Types.{Bytes, Ty, bool_ty, int_ty, text_ty, list_ty, struct_ty, Fields, no_fields, field}
-use Rattle.vx_dtype.specs.Codes.{ptype_number, null_number}
+use Rattle.vx_dtype.specs.TypeRules.{ptype_number, null_number}
 use Rattle.vx_dtype.specs.Values.{Raw, raw_null, raw_bool, raw_int, raw_text, raw_list, raw_struct, Raws, no_raws, raw, Typed}
 
 -- the bytes of a text or a name, and their end

@@ -3,7 +3,8 @@ use Rattle.std.specs.Prelude.{ℤ, pos, negsuc, int_le, Bool, true, false, ◌&&
 use Rattle.std.specs.Str.{bytes_eq}
 use Rattle.vx_dtype.specs.Types.{Ty, int_ty, list_ty, struct_ty, Fields, no_fields, field, PType, U8, U16, U32, U64, I8, I16, I32, I64}
 use Rattle.vx_dtype.specs.TypeRules.{is_nullable, nullability_of, is_plain, same_ptype, is_bool_ty, is_text_ty}
-use Rattle.vx_dtype.specs.Values.{Raw, raw_null, raw_bool, raw_int, raw_text, raw_list, raw_struct, Raws, no_raws, raw, Val, null_val, bool_val, int_val, text_val, list_val, struct_val, fault, Vals, no_vals, val, Members, no_members, member}
+use Rattle.vx_dtype.specs.Values.{Raw, raw_null, raw_bool, raw_int, raw_text, raw_list, raw_struct, Raws, no_raws, raw, Val, null_val, bool_val}
+use Rattle.vx_dtype.specs.Values.{int_val, text_val, list_val, struct_val, fault, Vals, no_vals, val, Members, no_members, member}
 
 -- the least and the greatest number of an integer type
 abbrev pub least : PType → ℤ

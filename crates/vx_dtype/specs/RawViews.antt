@@ -4,7 +4,7 @@ use Rattle.vx_dtype.specs.Values.{Raw, raw_null, raw_bool, raw_int, raw_text, ra
 use Rattle.vx_dtype.specs.declared.values.ScalarValue.{ScalarValue, fold-ScalarValue}
 use Rattle.vx_dtype.specs.declared.values.ScalarValue.TheOpen.{ScalarValue-F, Null, Bool, Int, Utf8, List as ListLayer, Struct}
 
--- the raw values of a list, in a row
+-- raw values, as a list of their own
 abbrev pub raws_of : List Raw → Raws
 raws_of [] = no_raws
 raws_of (x ∷ xs) = raw x (raws_of xs)

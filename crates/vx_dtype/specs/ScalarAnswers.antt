@@ -25,7 +25,7 @@ FittedInMemory t r (Ok s) = (fits r t ≡ true) × (s ≡ typed t r)
 FittedInMemory t r (Err WrongValue) = fits r t ≡ false
 FittedInMemory t r (Err NoMemory) = Unit {0}
 
--- the values of scalars, in a row
+-- the values of scalars, in order
 abbrev pub values_alone : List Typed → Raws
 values_alone ss = raws_of (map (λ s. s.value) ss)
 

@@ -11,6 +11,13 @@ abbrev pub number_suffix : Ty → Bytes
 number_suffix (int_ty p n) = ptype_text p
 number_suffix _ = []
 
+-- a text in brackets, and one in braces
+abbrev pub in_brackets : Bytes → Bytes
+in_brackets s = codes "[" ++ (s ++ codes "]")
+
+abbrev pub in_braces : Bytes → Bytes
+in_braces s = codes "{" ++ (s ++ codes "}")
+
 unfoldable mutual
   -- the text of a value of a type
   pub scalar_text : Raw → Ty → Bytes
@@ -18,9 +25,9 @@ unfoldable mutual
   scalar_text (raw_bool b) t = cond b (codes "true") (codes "false")
   scalar_text (raw_int i) t = signed_decimal i ++ number_suffix t
   scalar_text (raw_text s) t = quoted_text s
-  scalar_text (raw_list xs) (list_ty e n) = codes "[" ++ (items_text [] xs e ++ codes "]")
+  scalar_text (raw_list xs) (list_ty e n) = in_brackets (items_text [] xs e)
   scalar_text (raw_list xs) _ = []
-  scalar_text (raw_struct xs) (struct_ty fs n) = codes "{" ++ (members_text [] xs fs ++ codes "}")
+  scalar_text (raw_struct xs) (struct_ty fs n) = in_braces (members_text [] xs fs)
   scalar_text (raw_struct xs) _ = []
 
   -- the texts of values of one type, the first behind a given text, each other one behind `, `

@@ -1,8 +1,8 @@
 -- Struct types: which types are one, and their fields by place and by name.
-use Rattle.std.specs.Prelude.{Bool, true, false, List, [], ◌∷◌, Option, Some, None, option_map}
+use Rattle.std.specs.Prelude.{Bool, true, false, cond, List, [], ◌∷◌, Option, Some, None}
+use Rattle.std.specs.List.{list_all}
 use Rattle.vx_dtype.specs.Types.{Bytes, Ty, struct_ty, Fields, no_fields, field}
-use Rattle.vx_dtype.specs.TypeRules.{field_type}
-use Rattle.vx_dtype.specs.Zipped.{zipped}
+use Rattle.vx_dtype.specs.TypeRules.{field_type, field_names, has_name}
 
 -- whether a type is a struct
 abbrev pub is_struct_ty : Ty → Bool
@@ -19,16 +19,24 @@ abbrev pub field_types : Fields → List Ty
 field_types no_fields = []
 field_types (field f t fs) = t ∷ field_types fs
 
--- a type before others, where there are any
-abbrev pub before : Option Ty → Option (List Ty) → Option (List Ty)
-before (Some t) (Some ts) = Some (t ∷ ts)
-before _ _ = None
+-- a field before others, where it has a type
+abbrev pub with_field : Bytes → Option Ty → Fields → Fields
+with_field f None fs = fs
+with_field f (Some t) fs = field f t fs
 
--- the types of the first fields of these names, where no name is missing
-abbrev pub types_named : List Bytes → Fields → Option (List Ty)
-types_named [] gs = Some []
-types_named (f ∷ fs) gs = before (field_type f gs) (types_named fs gs)
+-- the fields with these names in the order of the names, each at its first type; a name that no field has is left out
+abbrev pub fields_at : List Bytes → Fields → Fields
+fields_at [] fs = no_fields
+fields_at (f ∷ names) fs = with_field f (field_type f fs) (fields_at names fs)
 
--- the first fields of these names in the order of the names, where no name is missing
+-- whether each of the first names is among the second ones
+abbrev pub all_named : List Bytes → List Bytes → Bool
+all_named names fs = list_all (λ f. has_name f fs) names
+
+-- whether each name is one of the fields'
+abbrev pub all_known : List Bytes → Fields → Bool
+all_known names fs = all_named names (field_names fs)
+
+-- the fields with these names, where each is one of the fields'
 abbrev pub projected : List Bytes → Fields → Option Fields
-projected fs gs = option_map (zipped fs) (types_named fs gs)
+projected names fs = cond (all_known names fs) (Some (fields_at names fs)) None

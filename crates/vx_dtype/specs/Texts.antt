@@ -2,7 +2,8 @@
 use lib.Chars.{codes}
 use Rattle.std.specs.Prelude.{ℕ, ◌+◌, ◌-◌, ◌/◌, ◌%◌, List, [], ◌∷◌, ◌++◌, ◌==◌, cond, nat_lt}
 use Rattle.std.specs.List.{flat_map}
-use Rattle.vx_dtype.specs.Types.{Bytes, Ty, bool_ty, int_ty, text_ty, list_ty, struct_ty, Fields, no_fields, field, PType, U8, U16, U32, U64, I8, I16, I32, I64, Nullability, NonNullable, Nullable}
+use Rattle.vx_dtype.specs.Types.{Bytes, Ty, bool_ty, int_ty, text_ty, list_ty, struct_ty, Fields, no_fields, field, PType, U8, U16, U32, U64, I8, I16}
+use Rattle.vx_dtype.specs.Types.{I32, I64, Nullability, NonNullable, Nullable}
 use Rattle.vx_dtype.specs.Order.{CompareOperator, Eq, NotEq, Gt, Gte, Lt, Lte}
 
 -- nothing, or `?` where null is a value
@@ -63,7 +64,14 @@ control_text b = codes "\\u00" ++ hex_digit (b / 16) ∷ hex_digit (b % 16) ∷ 
 -- a byte within quotes: quotes, backslashes and control characters are escaped
 abbrev pub escaped_byte : ℕ → Bytes
 escaped_byte b =
-    cond (b == 34) (codes "\\\"") (cond (b == 92) (codes "\\\\") (cond (b == 8) (codes "\\b") (cond (b == 9) (codes "\\t") (cond (b == 10) (codes "\\n") (cond (b == 12) (codes "\\f") (cond (b == 13) (codes "\\r") (cond (nat_lt b 32) (control_text b) (b ∷ []))))))))
+    cond (b == 34) (codes "\\\"")
+    (cond (b == 92) (codes "\\\\")
+    (cond (b == 8) (codes "\\b")
+    (cond (b == 9) (codes "\\t")
+    (cond (b == 10) (codes "\\n")
+    (cond (b == 12) (codes "\\f")
+    (cond (b == 13) (codes "\\r")
+    (cond (nat_lt b 32) (control_text b) (b ∷ []))))))))
 
 -- a text within quotes, with its escapes
 abbrev pub quoted_text : Bytes → Bytes

@@ -1,13 +1,48 @@
 -- The rules on types: nullability, equal types, plain types, fields, and names that stand once.
-use Rattle.std.specs.Prelude.{ℕ, ◌+◌, max, Bool, true, false, ◌&&◌, not, List, [], ◌∷◌, Option, Some, None, cond}
+use Rattle.std.specs.Prelude.{ℕ, zero, suc, ◌+◌, max, Bool, true, false, ◌&&◌, not, List, [], ◌∷◌, Option, Some, None, cond}
 use Rattle.std.specs.Str.{bytes_eq}
 use Rattle.std.specs.List.{list_any}
-use Rattle.vx_dtype.specs.Types.{Bytes, Ty, bool_ty, int_ty, text_ty, list_ty, struct_ty, Fields, no_fields, field, PType, U8, U16, U32, U64, I8, I16, I32, I64, Nullability, NonNullable, Nullable}
+use Rattle.vx_dtype.specs.Types.{Bytes, Ty, bool_ty, int_ty, text_ty, list_ty, struct_ty, Fields, no_fields, field}
+use Rattle.vx_dtype.specs.Types.{PType, U8, U16, U32, U64, I8, I16, I32, I64, Nullability, NonNullable, Nullable}
 
 -- whether null is a value of a type of this nullability
 abbrev pub is_nullable : Nullability → Bool
 is_nullable NonNullable = false
 is_nullable Nullable = true
+
+-- the number of a nullability
+abbrev pub null_number : Nullability → ℕ
+null_number NonNullable = 0
+null_number Nullable = 1
+
+-- the nullability of a number; from 2 on there is none
+abbrev pub null_numbered : ℕ → Option Nullability
+null_numbered zero = Some NonNullable
+null_numbered (suc zero) = Some Nullable
+null_numbered (suc (suc n)) = None
+
+-- the number of an integer type: U8 is 0, and so on to I64, which is 7
+abbrev pub ptype_number : PType → ℕ
+ptype_number U8 = 0
+ptype_number U16 = 1
+ptype_number U32 = 2
+ptype_number U64 = 3
+ptype_number I8 = 4
+ptype_number I16 = 5
+ptype_number I32 = 6
+ptype_number I64 = 7
+
+-- the integer type of a number; from 8 on there is none
+abbrev pub ptype_numbered : ℕ → Option PType
+ptype_numbered zero = Some U8
+ptype_numbered (suc zero) = Some U16
+ptype_numbered (suc (suc zero)) = Some U32
+ptype_numbered (suc (suc (suc zero))) = Some U64
+ptype_numbered (suc (suc (suc (suc zero)))) = Some I8
+ptype_numbered (suc (suc (suc (suc (suc zero))))) = Some I16
+ptype_numbered (suc (suc (suc (suc (suc (suc zero)))))) = Some I32
+ptype_numbered (suc (suc (suc (suc (suc (suc (suc zero))))))) = Some I64
+ptype_numbered (suc (suc (suc (suc (suc (suc (suc (suc n)))))))) = None
 
 -- nullable where one of the two is
 abbrev pub union : Nullability → Nullability → Nullability
@@ -129,3 +164,7 @@ unfoldable mutual
   pub depth_below : Fields → ℕ
   depth_below no_fields = 0
   depth_below (field f t fs) = max (depth_of t) (depth_below fs)
+
+-- how deep a type may be that has a wire form, or is a column's
+abbrev pub most_deep : ℕ
+most_deep = 64

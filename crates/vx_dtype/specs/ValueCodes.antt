@@ -1,3 +1,4 @@
+-- For the checker: no public clause cites this.
 -- A code of raw values and of scalars: by it the checker tells those that are seen apart.
 use Rattle.std.proofs.Common.{◌≡◌, refl, ap}
 use Rattle.std.specs.Coded.{Coded, coded_ℤ, coded_bool}

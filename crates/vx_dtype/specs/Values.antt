@@ -1,5 +1,5 @@
 -- Values as data. A raw value is what a scalar holds beside its type; a value has its names and integer types in itself, and may be a fault.
-use Rattle.std.specs.Prelude.{ℤ, Bool}
+use Rattle.std.specs.Prelude.{ℤ, Bool, true, false, cond}
 use Rattle.vx_dtype.specs.Types.{Bytes, Ty, bool_ty, int_ty, text_ty, list_ty, struct_ty, Fields, no_fields, field, PType}
 
 mutual
@@ -12,13 +12,13 @@ mutual
     raw_list : Raws → Raw
     raw_struct : Raws → Raw
 
-  -- raw values in a row
+  -- a list of raw values
   pub data Raws : Type 0 where
     no_raws : Raws
     raw : Raw → Raws → Raws
 
 mutual
-  -- a value at a row: null, a boolean, a number of an integer type, a text, a list, a struct of named members, or a fault
+  -- the value of an expression at a row: null, a boolean, a number of an integer type, a text, a list, a struct of named members, or a fault
   pub data Val : Type 0 where
     null_val : Val
     bool_val : Bool → Val
@@ -28,7 +28,7 @@ mutual
     struct_val : Members → Val
     fault : Val
 
-  -- values in a row
+  -- a list of values
   pub data Vals : Type 0 where
     no_vals : Vals
     val : Val → Vals → Vals
@@ -56,8 +56,14 @@ abbrev pub text_at : Bytes → Ty → Val
 text_at s (text_ty n) = text_val s
 text_at s _ = fault
 
+-- whether there are as many raw values as fields
+abbrev pub as_many : Raws → Fields → Bool
+as_many no_raws no_fields = true
+as_many (raw x xs) (field f t fs) = as_many xs fs
+as_many _ _ = false
+
 unfoldable mutual
-  -- the value that a raw value of a type stands for; a fault where the raw value has another shape
+  -- the value that a raw value of a type stands for; a fault where the raw value has another shape, or more parts than the type has fields, or fewer
   pub valued : Raw → Ty → Val
   valued raw_null t = null_val
   valued (raw_bool b) t = bool_at b t
@@ -65,7 +71,7 @@ unfoldable mutual
   valued (raw_text s) t = text_at s t
   valued (raw_list xs) (list_ty e n) = list_val (all_valued xs e)
   valued (raw_list xs) _ = fault
-  valued (raw_struct xs) (struct_ty fs n) = struct_val (members_valued xs fs)
+  valued (raw_struct xs) (struct_ty fs n) = cond (as_many xs fs) (struct_val (members_valued xs fs)) fault
   valued (raw_struct xs) _ = fault
 
   -- the values that raw values of one type stand for

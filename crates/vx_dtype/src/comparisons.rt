@@ -1,8 +1,9 @@
 // The comparisons of two plain values.
 ghost use Rattle.std.specs.Prelude.{◌≡◌, Some};
-ghost use Rattle.vx_dtype.specs.Order.{bound_operator};
+ghost use Rattle.vx_dtype.specs.Order.{bound_operator, meets};
 ghost use Rattle.vx_dtype.specs.Texts.{operator_text};
 
+use std::cmp::Ordering;
 use std::fmt;
 
 /// A comparison of two plain values.
@@ -43,6 +44,20 @@ impl StrictComparison {
 }
 
 impl CompareOperator {
+    /// Whether the comparison is true of values that stand so.
+    pub fn holds(self, ordering: Ordering) -> bool
+        ensures { result ≡ meets self ordering }
+    {
+        match self {
+            CompareOperator::Eq => ordering.is_eq(),
+            CompareOperator::NotEq => ordering.is_ne(),
+            CompareOperator::Gt => ordering.is_gt(),
+            CompareOperator::Gte => ordering.is_ge(),
+            CompareOperator::Lt => ordering.is_lt(),
+            CompareOperator::Lte => ordering.is_le(),
+        }
+    }
+
     /// The sign of the comparison.
     fn sign(self) -> &'static str
         ensures { result.now ≡ operator_text self }

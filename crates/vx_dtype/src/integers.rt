@@ -1,7 +1,7 @@
 // The integer types.
 ghost use Rattle.std.specs.Prelude.{◌≡◌};
-ghost use Rattle.vx_dtype.specs.Codes.{ptype_number};
-ghost use Rattle.vx_dtype.specs.Fits.{least, greatest};
+ghost use Rattle.vx_dtype.specs.TypeRules.{ptype_number, ptype_numbered};
+ghost use Rattle.vx_dtype.specs.Fits.{least, greatest, in_range};
 ghost use Rattle.vx_dtype.specs.Texts.{ptype_text};
 
 /// An integer type: its width in bits, and whether it has a sign.
@@ -47,8 +47,15 @@ impl PType {
         }
     }
 
-    /// The place of the type in the order of this enum, counted from 0.
-    pub(crate) fn number(self) -> u8
+    /// Whether the number is one of the type.
+    pub fn in_range(self, i: i128) -> bool
+        ensures { result ≡ in_range self i }
+    {
+        self.least() <= i && i <= self.greatest()
+    }
+
+    /// The number of the type, from 0 for `U8` to 7 for `I64`, in hashes and in wire form.
+    pub fn number(self) -> u8
         ensures { result ≡ ptype_number self }
     {
         match self {
@@ -60,6 +67,23 @@ impl PType {
             PType::I16 => 5,
             PType::I32 => 6,
             PType::I64 => 7,
+        }
+    }
+
+    /// The type of this number. None exactly from 8 on.
+    pub fn from_number(number: u8) -> Option<PType>
+        ensures { result ≡ ptype_numbered number }
+    {
+        match number {
+            0 => Some(PType::U8),
+            1 => Some(PType::U16),
+            2 => Some(PType::U32),
+            3 => Some(PType::U64),
+            4 => Some(PType::I8),
+            5 => Some(PType::I16),
+            6 => Some(PType::I32),
+            7 => Some(PType::I64),
+            _ => None,
         }
     }
 

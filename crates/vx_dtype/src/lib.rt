@@ -1,4 +1,4 @@
-//! Types, scalars, names and paths of a columnar store, and the rules at one row.
+//! Types, scalars, names and paths of a columnar store, and the rules on values.
 #![tactic(auto)]
 
 mod comparisons;
@@ -9,8 +9,6 @@ mod nulls;
 mod paths;
 mod scalars;
 mod statistics;
-#[cfg(test)]
-mod tests;
 mod types;
 mod values;
 mod writing;
@@ -24,6 +22,7 @@ pub use paths::{Field, FieldPath, FieldPathSet};
 pub use scalars::Scalar;
 pub use scalars::errors::{ScalarError, WrongValue};
 pub use statistics::Stat;
+pub use types::depth::MOST_DEEP;
 pub use types::{DType, ElementType, StructFields};
 pub use values::ScalarValue;
 pub use writing::Quoted;

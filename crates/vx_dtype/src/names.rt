@@ -2,8 +2,10 @@
 ghost use Rattle.std.specs.Prelude.{◌≡◌, [], ◌++◌, Some, length, map, position, IfOk, Decides, option_copied};
 ghost use Rattle.std.specs.List.{slice_get};
 ghost use Rattle.std.specs.Str.{bytes_eq};
+ghost use Rattle.std.specs.Ordering.{nat_cmp};
 ghost use Rattle.std.specs.Cmp.{partial_equiv_from_equiv};
-ghost use Rattle.std.proofs.Common.{ap};
+ghost use Rattle.std.specs.Cmp.Lexicographic.{slice_cmp, nat_list_cmp_total, texts_ties, texts_po};
+ghost use Rattle.std.proofs.Common.{ap, refl};
 ghost use Rattle.std.proofs.lemmas.Slice.Eq.{bytes_eq-Decides};
 ghost use Rattle.vx_dtype.specs.Equal.{names_eq};
 ghost use Rattle.vx_dtype.specs.EqualLaws.{bytes_eq_equiv, names_eq_equiv, names_decides};
@@ -15,6 +17,8 @@ ghost use Rattle.vx_dtype.specs.Texts.{separator_at, quoted_text, quoted_names, 
 use crate::memory::Mem;
 use crate::writing::{separator, write_quoted};
 use std::alloc::{AllocError, Global};
+use std::cmp::Ordering;
+use std::collections::BTreeSet;
 use std::fmt;
 use std::hash::{Hash, Hasher};
 use std::marker::Model;
@@ -102,16 +106,19 @@ impl FieldName {
         names.iter().any(|other| self.as_str() == other.as_str())
     }
 
-    /// Whether no name stands twice among these.
-    pub fn are_distinct(names: &[FieldName]) -> bool
-        ensures { result ≡ distinct_names names.now }
+    /// Whether no name stands twice among these: in the time of a sort, so that a hostile list of names does not hold up the caller.
+    pub fn are_distinct(alloc: Global, names: &[FieldName]) -> Mem<bool>
+        ensures { IfOk result (λ distinct. distinct ≡ distinct_names names.now) }
     {
-        for i in 0..names.len() {
-            if names[i].is_among(&names[i + 1..]) {
-                return false;
+        let mut behind = BTreeSet::new(alloc);
+        let mut left = names.len();
+        while left > 0 {
+            left -= 1;
+            if !behind.insert(names[left].clone()?)? {
+                return Ok(false);
             }
         }
-        true
+        Ok(true)
     }
 }
 
@@ -233,6 +240,30 @@ impl PartialEq for FieldName {
 
 impl Eq for FieldName {
     ghost laws = { bytes_eq_equiv };
+}
+
+impl PartialOrd for FieldName {
+    ghost partial_cmp = { λ x y. Some (slice_cmp nat_cmp x y) };
+
+    ghost laws = { texts_po };
+
+    fn partial_cmp(&self, other: &FieldName) -> Option<Ordering> {
+        Some(self.cmp(other))
+    }
+}
+
+impl Ord for FieldName {
+    ghost cmp = { slice_cmp nat_cmp };
+
+    ghost total = { nat_list_cmp_total };
+
+    ghost matches_partial_cmp = { λ x y. refl };
+
+    ghost matches_eq = { texts_ties };
+
+    fn cmp(&self, other: &FieldName) -> Ordering {
+        self.as_str().cmp(other.as_str())
+    }
 }
 
 impl Hash for FieldName {

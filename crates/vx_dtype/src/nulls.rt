@@ -1,7 +1,6 @@
 // Whether a type has the null.
 ghost use Rattle.std.specs.Prelude.{◌≡◌, Some};
-ghost use Rattle.vx_dtype.specs.Codes.{null_number};
-ghost use Rattle.vx_dtype.specs.TypeRules.{is_nullable, union};
+ghost use Rattle.vx_dtype.specs.TypeRules.{null_number, null_numbered, union};
 ghost use Rattle.vx_dtype.specs.Texts.{nullability_text};
 
 use std::fmt;
@@ -11,18 +10,6 @@ use std::fmt;
 pub enum Nullability {
     NonNullable,
     Nullable,
-}
-
-impl From<bool> for Nullability {
-    ghost from_gives = { λ nullable n. is_nullable n ≡ nullable };
-
-    fn from(nullable: bool) -> Nullability {
-        if nullable {
-            Nullability::Nullable
-        } else {
-            Nullability::NonNullable
-        }
-    }
 }
 
 impl Nullability {
@@ -36,13 +23,24 @@ impl Nullability {
         }
     }
 
-    /// 1 where null is a value, else 0.
-    pub(crate) fn number(self) -> u8
+    /// The number of the nullability, in hashes and in wire form: 1 where null is a value, else 0.
+    pub fn number(self) -> u8
         ensures { result ≡ null_number self }
     {
         match self {
             Nullability::NonNullable => 0,
             Nullability::Nullable => 1,
+        }
+    }
+
+    /// The nullability of this number. None exactly from 2 on.
+    pub fn from_number(number: u8) -> Option<Nullability>
+        ensures { result ≡ null_numbered number }
+    {
+        match number {
+            0 => Some(Nullability::NonNullable),
+            1 => Some(Nullability::Nullable),
+            _ => None,
         }
     }
 }

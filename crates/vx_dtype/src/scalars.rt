@@ -21,8 +21,6 @@ pub(crate) mod errors;
 mod making;
 mod order;
 mod printing;
-#[cfg(test)]
-mod tests;
 
 /// A value of a type. The value is one of the type. A scalar is seen as both together.
 #[derive(Debug, Drop)]

@@ -12,7 +12,7 @@ use std::alloc::{AllocError, Global};
 use std::marker::Model;
 use std::rc::Rc;
 
-mod depth;
+pub(crate) mod depth;
 mod display;
 mod distinct;
 mod equality;

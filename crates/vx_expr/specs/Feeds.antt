@@ -4,7 +4,7 @@
 use Rattle.std.specs.Prelude.{◌++◌}
 use Rattle.std.specs.Hash as fed
 use Rattle.std.specs.Hash.{HashWrites}
-use Rattle.vx_dtype.specs.Codes.{null_number}
+use Rattle.vx_dtype.specs.TypeRules.{null_number}
 use Rattle.vx_dtype.specs.Feeds.{bytes_feed, names_feed, ty_feed, typed_feed}
 use Rattle.vx_expr.specs.declared.selections.FieldSelection.{FieldSelection}
 use Rattle.vx_expr.specs.Operators.{operator_number}

@@ -3,7 +3,7 @@ ghost use Rattle.std.specs.Prelude.{◌≡◌, Decides, fold};
 ghost use Rattle.std.specs.Cmp.{on_per, on_equiv, partial_equiv_from_equiv};
 ghost use Rattle.std.proofs.Common.{ap};
 ghost use Rattle.std.specs.Hash as fed;
-ghost use Rattle.vx_dtype.specs.Codes.{null_number};
+ghost use Rattle.vx_dtype.specs.TypeRules.{null_number};
 ghost use Rattle.vx_expr.specs.Codes.{strictness_number};
 ghost use Rattle.vx_expr.specs.Trees.{trees_of};
 ghost use Rattle.vx_expr.specs.Nodes.{node_tree, between_tree, binary_tree, dynamic_tree, like_tree, contains_tree};

@@ -16,10 +16,10 @@ use Rattle.vx_expr.specs.declared.Operator.{Operator}
 use Rattle.vx_expr.specs.declared.FieldSelection.{FieldSelection}
 use Rattle.vx_expr.specs.declared.FieldSelection.TheVariants.{Include, Exclude}
 use Rattle.vx_expr.specs.Trees.{Tree, root, literal, get_item, binary, not_of, is_null_of, like, between, cast, list_contains, pack, merge, select, dynamic, Trees, no_trees, tree}
-use Rattle.vx_dtype.specs.StructTypes.{is_struct_ty}
+use Rattle.vx_dtype.specs.StructTypes.{is_struct_ty, with_field, fields_at, all_known}
 use Rattle.vx_dtype.specs.Zipped.{zipped}
 use Rattle.vx_expr.specs.Selections.{listed_names}
-use Rattle.vx_semantics.specs.Typing.{Refusal, not_struct, nullable_select, unknown_field, duplicate_field, type_mismatch, and_then, unless, distinct_type, item_type, with_field, fields_at, fields_without, selected_fields, included_once, all_known, select_type, pack_type, names_in, merged_names, some_has_field, widened_in, merged_type_at, merged_fields_at, merge_type, union_of, equal_plain, binary_type, not_type, like_type, between_type, contains_type, cast_type, dynamic_type, typed_of, all_typed}
+use Rattle.vx_semantics.specs.Typing.{Refusal, not_struct, nullable_select, unknown_field, duplicate_field, type_mismatch, and_then, unless, distinct_type, item_type, fields_without, selected_fields, included_once, select_type, pack_type, names_in, merged_names, some_has_field, widened_in, merged_type_at, merged_fields_at, merge_type, union_of, equal_plain, binary_type, not_type, like_type, between_type, contains_type, cast_type, dynamic_type, typed_of, all_typed}
 use Rattle.vx_laws.proofs.Inverting.{and_then-ok, unless-ok, Ok-same, bytes_same, bytes_eq-itself}
 use Rattle.vx_laws.proofs.Fitting.{takes_cast-plain}
 use Rattle.vx_laws.proofs.Structs.{member-fits, no-member-fits, no-field-fits, item_type-ok, has_field, all-given, all-first_names}

@@ -9,7 +9,8 @@ use Rattle.vx_dtype.specs.Values.{Val, struct_val, fault, Members, no_members, m
 use Rattle.vx_dtype.specs.Structs.{member_named, field_of, members_at, members_without}
 use Rattle.vx_expr.specs.declared.FieldSelection.{FieldSelection}
 use Rattle.vx_expr.specs.declared.FieldSelection.TheVariants.{Include, Exclude}
-use Rattle.vx_semantics.specs.Typing.{with_field, fields_at, fields_without, selected_fields, merged_type_at, merged_fields_at}
+use Rattle.vx_semantics.specs.Typing.{fields_without, selected_fields, merged_type_at, merged_fields_at}
+use Rattle.vx_dtype.specs.StructTypes.{with_field, fields_at}
 use Rattle.vx_semantics.specs.Meaning.{select3, Source, merged_value, merged_members}
 use Rattle.vx_laws.proofs.Inverting.{bytes_same}
 

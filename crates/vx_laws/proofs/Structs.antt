@@ -13,10 +13,10 @@ use Rattle.vx_dtype.specs.Fits.{fits_but_for_faults, members_fit_but_for_faults}
 use Rattle.vx_dtype.specs.Structs.{member_named, field_of, members_at, members_without, first_names}
 use Rattle.vx_expr.specs.declared.FieldSelection.{FieldSelection}
 use Rattle.vx_expr.specs.declared.FieldSelection.TheVariants.{Include, Exclude}
-use Rattle.vx_dtype.specs.StructTypes.{is_struct_ty}
+use Rattle.vx_dtype.specs.StructTypes.{is_struct_ty, fields_at, all_known}
 use Rattle.vx_dtype.specs.Zipped.{zipped}
 use Rattle.vx_expr.specs.Selections.{listed_names}
-use Rattle.vx_semantics.specs.Typing.{Refusal, not_struct, nullable_select, unknown_field, duplicate_field, type_mismatch, unless, item_type, field_type_in, fields_at, fields_without, selected_fields, included_once, all_known, select_type, pack_type, names_in, merged_names, some_has_field, widened_in, merged_type_at, merged_fields_at, merge_type}
+use Rattle.vx_semantics.specs.Typing.{Refusal, not_struct, nullable_select, unknown_field, duplicate_field, type_mismatch, unless, item_type, field_type_in, fields_without, selected_fields, included_once, select_type, pack_type, names_in, merged_names, some_has_field, widened_in, merged_type_at, merged_fields_at, merge_type}
 use Rattle.vx_semantics.specs.Meaning.{select3, Source, some_gives, merged_value, merged_members, merged, zip_members}
 use Rattle.vx_laws.proofs.Inverting.{unless-ok, Ok-same, bytes_same, bytes_eq-itself}
 use Rattle.vx_laws.proofs.Fitting.{is_nullable-left, is_nullable-right, null-fits}

@@ -7,18 +7,14 @@ use Rattle.vx_dtype.specs.declared.Nullability.TheVariants.{NonNullable, Nullabl
 use Rattle.vx_dtype.specs.declared.Stat.{Stat}
 use Rattle.vx_dtype.specs.declared.Stat.TheVariants.{Min, Max, NaNCount, NullCount}
 use Rattle.vx_dtype.specs.Types.{Bytes, Ty, int_ty, struct_ty, Fields, no_fields, field}
-use Rattle.vx_dtype.specs.TypeRules.{with_nullability, is_plain, field_type, no_name_twice, depth_of}
+use Rattle.vx_dtype.specs.TypeRules.{with_nullability, is_plain, field_type, no_name_twice, depth_of, most_deep}
 use Rattle.vx_dtype.specs.Values.{Typed}
 use Rattle.vx_dtype.specs.Equal.{ty_eq, names_eq}
 use Rattle.vx_semantics.specs.Tables.{ZoneStat, Zones, row_type, same_stat}
 use Rattle.vx_prune.specs.declared.errors.ZoneError.{ZoneError}
 use Rattle.vx_prune.specs.declared.errors.ZoneError.TheVariants as errors
 
--- how deep a column's type may be
-abbrev pub most_deep : ℕ
-most_deep = 64
-
--- whether no column's type is deeper than that
+-- whether no column's type is deeper than 64
 abbrev pub are_shallow : Fields → Bool
 are_shallow no_fields = true
 are_shallow (field f t fs) = nat_le (depth_of t) most_deep && are_shallow fs

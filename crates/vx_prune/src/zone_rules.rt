@@ -11,21 +11,20 @@ ghost use Rattle.vx_prune.specs.ZoneViews.{stat_view};
 use crate::errors::ZoneError;
 use crate::leaves::leaf_type;
 use crate::zones::ZoneStat;
-use vx_dtype::{DType, Mem, Nullability, PType, Scalar, Stat, StructFields};
-
-/// How deep a column's type may be.
-const MOST_DEEP: usize = 64;
+use std::alloc::Global;
+use vx_dtype::{DType, MOST_DEEP, Mem, Nullability, PType, Scalar, Stat, StructFields};
 
 /// The first rule that columns, lengths and statistics break, and None where they are zones.
 #[tactic(auto, unfolding(crate::specs::Zoning::broken_rule, vx_dtype::specs::TypeRules::no_name_twice))]
 pub(crate) fn broken_rule(
+    alloc: Global,
     columns: &StructFields,
     lengths: &[u32],
     stats: &[ZoneStat],
 ) -> Mem<Option<ZoneError>>
     ensures { IfOk result (λ rule. rule ≡ broken_rule (record { columns = columns.now; lengths = lengths.now; stats = map stat_view stats.now })) }
 {
-    if !columns.has_distinct_names() {
+    if !columns.has_distinct_names(alloc)? {
         return Ok(Some(ZoneError::DuplicateName));
     }
     if !are_shallow(columns) {

@@ -99,7 +99,7 @@ impl ZoneMap {
     /// The zones of a table with these columns, whose blocks have these numbers of rows. It is refused exactly where a
     /// rule is broken, by the first one in the order of [`ZoneError`].
     pub fn try_new(
-        _alloc: Global,
+        alloc: Global,
         fields: StructFields,
         lengths: Vec<u32>,
         stats: Vec<ZoneStat>,
@@ -107,7 +107,7 @@ impl ZoneMap {
         requires { length lengths.items < 2 ^ 32 }
         ensures { Answers (record { columns = fields; lengths = lengths.items; stats = map stat_view stats.items }) result }
     {
-        match broken_rule(&fields, lengths.as_slice(), stats.as_slice())? {
+        match broken_rule(alloc, &fields, lengths.as_slice(), stats.as_slice())? {
             Some(error) => Err(error),
             None => Ok(ZoneMap {
                 dtype: DType::Struct(fields, Nullability::NonNullable),

@@ -11,7 +11,7 @@ ghost use Rattle.vx_dtype.specs.Like.{text_matches};
 ghost use Rattle.vx_dtype.specs.Casts.{takes_cast, cast3};
 ghost use Rattle.vx_dtype.specs.Lists.{contains3};
 ghost use Rattle.vx_dtype.specs.Structs.{field_of, selected, deselected};
-ghost use Rattle.vx_dtype.specs.StructTypes.{is_struct_ty, struct_fields, field_types, types_named, projected};
+ghost use Rattle.vx_dtype.specs.StructTypes.{is_struct_ty, struct_fields, field_types, projected};
 ghost use Rattle.vx_expr.specs.declared.FieldSelection.TheVariants.{Include};
 ghost use Rattle.vx_semantics.specs.Typing.{selected_fields};
 ghost use Rattle.vx_semantics.specs.Meaning.{binary3};
@@ -83,11 +83,9 @@ pub fn takes_fields_of_struct_types()
     ensures structs { map is_struct_ty kinds_of_types ≡ replicate 6 false ++ replicate 3 true }
     ensures all { map struct_fields kinds_of_types ≡ replicate 6 None ++ (Some no_fields ∷ Some (only "a" (bool_ty NonNullable)) ∷ Some (only "b" (bool_ty NonNullable)) ∷ []) }
     ensures types { field_types (field (codes "a") (bool_ty NonNullable) (only "b" (text_ty Nullable))) ≡ bool_ty NonNullable ∷ text_ty Nullable ∷ [] }
-    ensures named { types_named (codes "b" ∷ codes "a" ∷ []) (field (codes "a") (bool_ty NonNullable) (only "b" (text_ty Nullable))) ≡ Some (text_ty Nullable ∷ bool_ty NonNullable ∷ []) }
-    ensures missing_first { types_named (codes "z" ∷ codes "a" ∷ []) (only "a" (bool_ty NonNullable)) ≡ None }
-    ensures missing_last { types_named (codes "a" ∷ codes "z" ∷ []) (only "a" (bool_ty NonNullable)) ≡ None }
     ensures some { projected (codes "b" ∷ codes "a" ∷ []) (field (codes "a") (bool_ty NonNullable) (only "b" (text_ty Nullable))) ≡ Some (field (codes "b") (text_ty Nullable) (only "a" (bool_ty NonNullable))) }
     ensures left_out { selected_fields (Include (codes "z" ∷ codes "a" ∷ [])) (only "a" (bool_ty NonNullable)) ≡ only "a" (bool_ty NonNullable) }
+    ensures of_a_missing_first { projected (codes "z" ∷ codes "b" ∷ []) (only "b" (text_ty Nullable)) ≡ None }
     ensures of_a_missing_name { projected (codes "b" ∷ codes "z" ∷ []) (only "b" (text_ty Nullable)) ≡ None }
 {}
 

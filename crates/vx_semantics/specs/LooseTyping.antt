@@ -12,7 +12,8 @@ use Rattle.vx_expr.specs.declared.FieldSelection.{FieldSelection}
 use Rattle.vx_expr.specs.declared.FieldSelection.TheVariants.{Include, Exclude}
 use Rattle.vx_expr.specs.Trees.{Tree, root, literal, get_item, binary, not_of, is_null_of, like, between, cast, list_contains, pack, merge, select, dynamic, Trees, no_trees, tree}
 use Rattle.vx_dtype.specs.Zipped.{zipped}
-use Rattle.vx_semantics.specs.Typing.{Refusal, not_struct, unknown_field, type_mismatch, and_then, unless, item_type, selected_fields, all_known, merge_type, union_of, sum_type, not_type}
+use Rattle.vx_semantics.specs.Typing.{Refusal, not_struct, unknown_field, type_mismatch, and_then, unless, item_type, selected_fields, merge_type, union_of, sum_type, not_type}
+use Rattle.vx_dtype.specs.StructTypes.{all_known}
 
 -- whether each included name is one of the fields'
 abbrev pub included_known : FieldSelection → Fields → Bool

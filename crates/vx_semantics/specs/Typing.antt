@@ -6,7 +6,7 @@ use Rattle.vx_dtype.specs.declared.Nullability.{Nullability}
 use Rattle.vx_dtype.specs.declared.Nullability.TheVariants.{NonNullable}
 use Rattle.vx_dtype.specs.Types.{Bytes, Ty, bool_ty, list_ty, struct_ty, Fields, no_fields, field}
 use Rattle.vx_dtype.specs.TypeRules.{is_nullable, union, nullability_of, with_nullability, widened, alike, is_plain, is_bool_ty, is_int_ty, is_text_ty, fields_of, field_names, field_type, has_name, distinct_names, no_name_twice}
-use Rattle.vx_dtype.specs.StructTypes.{is_struct_ty}
+use Rattle.vx_dtype.specs.StructTypes.{is_struct_ty, with_field, fields_at, all_known}
 use Rattle.vx_dtype.specs.Zipped.{zipped}
 use Rattle.vx_dtype.specs.Values.{Typed}
 use Rattle.vx_dtype.specs.Fits.{fits}
@@ -53,15 +53,6 @@ abbrev pub item_type : Bytes → Ty → Result Ty Refusal
 item_type f (struct_ty fs n) = field_type_in (field_type f fs) n
 item_type f _ = Err not_struct
 
--- the fields with these names in the order of the names, each at its first type; a name that no field has is left out
-abbrev pub with_field : Bytes → Option Ty → Fields → Fields
-with_field f None fs = fs
-with_field f (Some t) fs = field f t fs
-
-abbrev pub fields_at : List Bytes → Fields → Fields
-fields_at [] fs = no_fields
-fields_at (f ∷ names) fs = with_field f (field_type f fs) (fields_at names fs)
-
 -- the fields whose names are not among these
 abbrev pub fields_without : List Bytes → Fields → Fields
 fields_without names no_fields = no_fields
@@ -76,10 +67,6 @@ selected_fields (Exclude names) fs = fields_without names fs
 abbrev pub included_once : FieldSelection → Bool
 included_once (Include names) = distinct_names names
 included_once (Exclude names) = true
-
--- whether each name is one of the fields'
-abbrev pub all_known : List Bytes → Fields → Bool
-all_known names fs = list_all (λ f. has_name f (field_names fs)) names
 
 -- the struct of the selected fields, not nullable
 abbrev pub select_type : FieldSelection → Ty → Result Ty Refusal

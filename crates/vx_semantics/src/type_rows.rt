@@ -97,12 +97,12 @@ pub fn gives_values_their_types()
     ensures word { valued (raw_text (codes "a")) (text_ty NonNullable) ≡ text_val (codes "a") }
     ensures list { valued (raw_list (raw (raw_int (pos 5)) (raw raw_null no_raws))) (list_ty (int_ty I8 Nullable) NonNullable) ≡ list_val (val (int_val I8 (pos 5)) (val null_val no_vals)) }
     ensures members { valued (raw_struct (raw (raw_int (pos 5)) (raw (raw_bool false) no_raws))) (struct_ty (field (codes "a") (int_ty I8 NonNullable) (only "b" (bool_ty NonNullable))) NonNullable) ≡ struct_val (member (codes "a") (int_val I8 (pos 5)) (member (codes "b") (bool_val false) no_members)) }
-    ensures fewer_fields { valued (raw_struct (raw (raw_int (pos 5)) (raw (raw_bool false) no_raws))) (struct_ty (only "a" (int_ty I8 NonNullable)) NonNullable) ≡ alone "a" (int_val I8 (pos 5)) }
+    ensures fewer_fields { valued (raw_struct (raw (raw_int (pos 5)) (raw (raw_bool false) no_raws))) (struct_ty (only "a" (int_ty I8 NonNullable)) NonNullable) ≡ fault }
     ensures boolean_elsewhere { map (valued (raw_bool true)) kinds_of_types ≡ bool_val true ∷ replicate 8 fault }
     ensures number_elsewhere { map (valued (raw_int (pos 5))) kinds_of_types ≡ fault ∷ int_val I32 (pos 5) ∷ int_val I64 (pos 5) ∷ replicate 6 fault }
     ensures word_elsewhere { map (valued (raw_text (codes "a"))) kinds_of_types ≡ replicate 3 fault ++ (text_val (codes "a") ∷ replicate 5 fault) }
     ensures list_elsewhere { map (valued (raw_list no_raws)) kinds_of_types ≡ replicate 4 fault ++ (list_val no_vals ∷ list_val no_vals ∷ replicate 3 fault) }
-    ensures struct_elsewhere { map (valued (raw_struct no_raws)) kinds_of_types ≡ replicate 6 fault ++ replicate 3 (struct_val no_members) }
+    ensures struct_elsewhere { map (valued (raw_struct no_raws)) kinds_of_types ≡ replicate 6 fault ++ (struct_val no_members ∷ replicate 2 fault) }
 {}
 
 /// Which raw values a type has: a number in its range, null where it is nullable, one value per field.

@@ -7,7 +7,8 @@ use Rattle.vx_dtype.specs.Types.{Bytes}
 use Rattle.vx_wire_text.specs.Numbers.{number_bytes, piece_bytes}
 use Rattle.vx_wire_text.specs.Fields.{Stands, IsFieldAt, IsNumber, IsText}
 use Rattle.vx_wire_text.specs.Reading.{number_at, text_at}
-use Rattle.vx_wire_text.specs.TypeForms.{type_bytes, IsType, most_deep}
+use Rattle.vx_wire_text.specs.TypeForms.{type_bytes, IsType}
+use Rattle.vx_dtype.specs.TypeRules.{most_deep}
 use Rattle.vx_wire_text.specs.TypeReading.{type_at}
 use Rattle.vx_wire_text.proofs.NumberLemmas.{number_again}
 use Rattle.vx_wire_text.proofs.HeadLemmas.{text_again}

@@ -1,10 +1,9 @@
 // Wire trees of expressions.
 ghost use Rattle.std.specs.Prelude.{◌≡◌, ◌≤◌, true, Decides, IfOk, IfErr};
 ghost use Rattle.vx_dtype.specs.TypeViews.{type_view};
-ghost use Rattle.vx_dtype.specs.TypeRules.{depth_of};
+ghost use Rattle.vx_dtype.specs.TypeRules.{depth_of, most_deep};
 ghost use Rattle.vx_expr.specs.Trees.{Tree};
 ghost use Rattle.vx_wire_text.specs.NodeViews.{tree_view};
-ghost use Rattle.vx_wire_text.specs.TypeForms.{most_deep};
 ghost use Rattle.vx_wire.specs.Encodings.{is_default_kind};
 ghost use Rattle.vx_wire.specs.Forms.{wire_of, Everywhere};
 ghost use Rattle.vx_wire.specs.Metadata.{HasMetadata, IsSerializable, HasShortMetadata, IsNoEmptyMerge};
@@ -13,12 +12,9 @@ ghost use Rattle.vx_wire.specs.Serializing.{IsWritten, IsUnwrittenLong, IsUnseri
 
 use crate::spelling::metadata_of;
 use std::alloc::Global;
-use vx_dtype::{DType, Text};
+use vx_dtype::{DType, MOST_DEEP, Text};
 use vx_expr::{Expr, ExprRef, VortexExpr};
 use vx_wire_text::{WireError, WireTree};
-
-/// How deep a type in the wire form may be.
-const MOST_DEEP: usize = 64;
 
 /// Whether a type is no deeper than the wire form allows.
 fn is_shallow(dtype: &DType) -> bool

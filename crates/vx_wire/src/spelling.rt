@@ -3,13 +3,13 @@ ghost use Rattle.std.specs.Prelude.{◌≡◌, ◌<◌, ◌≤◌, ◌^◌, ◌+
 ghost use Rattle.std.specs.List.{AllByRecursion};
 ghost use Rattle.vx_dtype.specs.TypeViews.{type_view};
 ghost use Rattle.vx_dtype.specs.RawViews.{raw_view};
-ghost use Rattle.vx_dtype.specs.TypeRules.{depth_of};
+ghost use Rattle.vx_dtype.specs.TypeRules.{depth_of, most_deep};
 ghost use Rattle.vx_expr.specs.Trees.{children_of};
 ghost use Rattle.vx_expr.specs.Operators.{operator_number};
 ghost use Rattle.vx_expr.specs.Selections.{listed_names};
 ghost use Rattle.vx_wire_text.specs.Fields.{IsShort, IsText};
 ghost use Rattle.vx_wire_text.specs.Numbers.{piece_bytes};
-ghost use Rattle.vx_wire_text.specs.TypeForms.{nullability_byte, type_bytes, NamesAre, IsType, most_deep};
+ghost use Rattle.vx_wire_text.specs.TypeForms.{nullability_byte, type_bytes, NamesAre, IsType};
 ghost use Rattle.vx_wire_text.specs.ValueForms.{truth_byte, value_bytes, TextsAre, IsValue};
 ghost use Rattle.vx_wire.specs.Metadata.{strictness_byte, choice_byte, texts_bytes, names_bytes, AreNames, metadata_bytes, HasMetadata, takes, IsSerializable, HasShortMetadata, IsNoEmptyMerge};
 ghost use Rattle.vx_wire.specs.ReadBack.{literal_bytes, IsLiteral, packing_bytes, selection_bytes, IsSelection};

@@ -3,7 +3,8 @@ use Rattle.std.proofs.Common.{◌≡◌, ℕ, ◌+◌, ◌-◌, ◌≤◌, ◌++
 use Rattle.std.proofs.lemmas.List.{length-append, length-drop, drop_at, drop-drop, get_or-drop}
 use Rattle.std.proofs.lemmas.Option.{none-some}
 use Rattle.vx_dtype.specs.Types.{Bytes, Ty}
-use Rattle.vx_wire_text.specs.TypeForms.{type_bytes, IsType, most_deep}
+use Rattle.vx_wire_text.specs.TypeForms.{type_bytes, IsType}
+use Rattle.vx_dtype.specs.TypeRules.{most_deep}
 use Rattle.vx_wire_text.specs.TypeReading.{type_at}
 use Rattle.vx_dtype.specs.Values.{Raw}
 use Rattle.vx_wire_text.specs.ValueForms.{value_bytes, IsValue}

@@ -5,7 +5,7 @@ use Rattle.vx_dtype.specs.declared.PType.{PType}
 use Rattle.vx_dtype.specs.declared.PType.TheVariants.{U8, U16, U32, U64, I8, I16, I32, I64}
 use Rattle.vx_dtype.specs.declared.Nullability.{Nullability}
 use Rattle.vx_dtype.specs.declared.Nullability.TheVariants.{NonNullable, Nullable}
-use Rattle.vx_dtype.specs.TypeRules.{depth_of}
+use Rattle.vx_dtype.specs.TypeRules.{depth_of, most_deep}
 use Rattle.vx_wire_text.specs.Numbers.{number_bytes, piece_bytes}
 use Rattle.vx_wire_text.specs.Fields.{IsText}
 
@@ -63,10 +63,6 @@ HasNames t = NamesAre IsText t
 
 abbrev pub HaveNames : Fields → Type 0
 HaveNames fs = FieldNamesAre IsText fs
-
--- how deep a type with a spelling may be
-abbrev pub most_deep : ℕ
-most_deep = 64
 
 -- a type that has a spelling
 pub record IsType (t : Ty) : Type 0 where

@@ -1,7 +1,6 @@
 // Why a scalar isn't made.
 ghost use Rattle.std.specs.Prelude.{◌≡◌};
 
-use crate::memory::NoMemory;
 use std::alloc::{AllocError, AllocFailed};
 
 /// The value isn't one of the type.
@@ -33,16 +32,6 @@ impl<T: Drop> From<AllocFailed<T>> for ScalarError {
     ghost from_gives = { λ _ e. e ≡ OutOfMemory };
 
     fn from(_error: AllocFailed<T>) -> ScalarError {
-        ScalarError::NoMemory
-    }
-}
-
-impl From<NoMemory> for ScalarError {
-    ghost use Rattle.vx_dtype.specs.declared.scalars.errors.ScalarError.TheVariants.{NoMemory as OutOfMemory};
-
-    ghost from_gives = { λ _ e. e ≡ OutOfMemory };
-
-    fn from(_error: NoMemory) -> ScalarError {
         ScalarError::NoMemory
     }
 }

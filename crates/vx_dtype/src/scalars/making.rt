@@ -20,7 +20,8 @@ use std::alloc::{AllocError, Global};
 use std::rc::Rc;
 
 impl Scalar {
-    /// The value beside its type. WrongValue exactly where the value isn't one of the type: null where the type isn't nullable, a number out of range, a value of another kind, an element that isn't one of the element type, not one value per field.
+    /// The value beside its type. WrongValue exactly where the value isn't one of the type: null where the type isn't nullable, a
+    /// number out of range, a value of another kind, an element that isn't one of the element type, not one value per field.
     pub fn try_new(dtype: DType, value: ScalarValue) -> Result<Scalar, WrongValue>
         ensures { Fitted (type_view dtype) (raw_view value) result }
     {
@@ -86,7 +87,8 @@ impl Scalar {
         Ok(Scalar::try_new(dtype, ScalarValue::List(values))?)
     }
 
-    /// The struct of the values of the fields in order, whatever types those have. WrongValue exactly where the type isn't a struct, has more or fewer fields, or a value isn't one of its field's type.
+    /// The struct of the values of the fields in order, whatever types those have. WrongValue exactly where the type isn't a struct,
+    /// has more or fewer fields, or a value isn't one of its field's type.
     pub fn struct_(alloc: Global, dtype: DType, fields: Vec<Scalar>) -> Result<Scalar, ScalarError>
         ensures { FittedInMemory (type_view dtype) (raw_struct (values_alone fields.items)) result }
     {

@@ -37,7 +37,8 @@ fn compare_texts(left: &Text, right: &Text) -> Ordering
 }
 
 impl Scalar {
-    /// How the two stand: false before true, integers by number, texts by their bytes. None where their types aren't equal but for nullability, a type is a list or a struct, or one of the two is null.
+    /// How the two stand: false before true, integers by number, texts by their bytes. None where their types aren't equal but for
+    /// nullability, a type is a list or a struct, or one of the two is null.
     #[tactic(auto, using(crate::proofs::OrderLemmas::bool_cmp_equal, crate::proofs::OrderLemmas::int_cmp_equal), unfolding(crate::specs::Fits::fits, crate::specs::Values::valued))]
     pub fn compare(&self, other: &Scalar) -> Option<Ordering>
         ensures stands { result ≡ scalar_order self.now other.now }

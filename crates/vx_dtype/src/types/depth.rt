@@ -5,8 +5,12 @@ ghost use Rattle.vx_dtype.specs.TypeViews.{type_view};
 
 use super::{DType, ElementType, StructFields};
 
+/// How deep a type may be that has a wire form, or is a column's: so recursions over types need little stack.
+pub const MOST_DEEP: usize = 64;
+
 impl DType {
-    /// How deep the type is: a plain type and a struct without fields have 1, a list or another struct one more than its deepest part. The greatest `usize` stands for every greater number.
+    /// How deep the type is: a plain type and a struct without fields have 1, a list or another struct one more than its deepest
+    /// part. The greatest `usize` stands for every greater number.
     pub fn depth(&self) -> usize
         ensures { result ≡ min (depth_of (type_view self.now)) usize.MAX }
     {

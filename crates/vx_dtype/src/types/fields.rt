@@ -2,7 +2,8 @@
 ghost use Rattle.std.specs.Prelude.{◌≡◌, Some, None, length, map, IfOk, IsErrOf, IsNone, option_map, option_copied};
 ghost use Rattle.std.specs.List.{slice_get};
 ghost use Rattle.vx_dtype.specs.TypeRules.{field_names, field_type};
-ghost use Rattle.vx_dtype.specs.StructTypes.{field_types, types_named, projected};
+ghost use Rattle.vx_dtype.specs.StructTypes.{field_types, projected};
+ghost use Rattle.vx_dtype.specs.Zipped.{zipped};
 ghost use Rattle.vx_dtype.specs.TypeViews.{type_view};
 
 use super::{DType, StructFields};
@@ -61,9 +62,9 @@ impl StructFields {
     /// The types of the first fields of these names. UnknownField exactly where a name is missing.
     #[tactic(auto, using(crate::proofs::ProjectionLemmas::joined_before))]
     fn dtypes_named(&self, alloc: Global, names: &[FieldName]) -> Result<Vec<DType>, FieldsError>
-        ensures ok { IfOk result (λ dtypes. types_named names.now self.now ≡ Some (map type_view dtypes.items)) }
+        ensures ok { IfOk result (λ dtypes. projected names.now self.now ≡ Some (zipped names.now (map type_view dtypes.items))) }
         ensures len { IfOk result (λ dtypes. length dtypes.items ≡ length names.now) }
-        ensures unknown { IsErrOf result FieldsError.UnknownField → types_named names.now self.now ≡ None }
+        ensures unknown { IsErrOf result FieldsError.UnknownField → projected names.now self.now ≡ None }
     {
         let mut dtypes = Vec::new(alloc);
         for name in names {

@@ -1,19 +1,11 @@
 // Whether a value is one of a type.
 ghost use Rattle.std.specs.Prelude.{◌≡◌, map};
-ghost use Rattle.vx_dtype.specs.Fits.{in_range, fits, all_fit, fields_fit};
+ghost use Rattle.vx_dtype.specs.Fits.{fits, all_fit, fields_fit};
 ghost use Rattle.vx_dtype.specs.TypeViews.{type_view};
 ghost use Rattle.vx_dtype.specs.RawViews.{raw_view, raws_of};
 
-use crate::integers::PType;
 use crate::types::{DType, StructFields};
 use crate::values::ScalarValue;
-
-// Whether a number is one of an integer type.
-pub(crate) fn in_range(p: PType, i: i128) -> bool
-    ensures { result ≡ in_range p i }
-{
-    p.least() <= i && i <= p.greatest()
-}
 
 // Whether a value is one of a type: null where it is nullable, an integer in range, each element, one value per field.
 #[cycle(fitting)]
@@ -25,7 +17,7 @@ pub(crate) fn fits(value: &ScalarValue, dtype: &DType) -> bool
         ScalarValue::Null => dtype.is_nullable(),
         ScalarValue::Bool(_) => matches!(dtype, DType::Bool(_)),
         ScalarValue::Int(i) => match dtype {
-            DType::Primitive(p, _) => in_range(*p, *i),
+            DType::Primitive(p, _) => p.in_range(*i),
             _ => false,
         },
         ScalarValue::Utf8(_) => matches!(dtype, DType::Utf8(_)),

@@ -1,8 +1,7 @@
 // How values of types print.
-ghost use Rattle.std.specs.Prelude.{◌≡◌, map, [], ◌++◌};
-ghost use lib.Chars.{codes};
+ghost use Rattle.std.specs.Prelude.{◌≡◌, map, []};
 ghost use Rattle.std.specs.Fmt.{WritesOnOk};
-ghost use Rattle.vx_dtype.specs.ScalarTexts.{number_suffix, scalar_text, items_text, members_text};
+ghost use Rattle.vx_dtype.specs.ScalarTexts.{number_suffix, scalar_text, in_brackets, in_braces, items_text, members_text};
 ghost use Rattle.vx_dtype.specs.TypeViews.{type_view};
 ghost use Rattle.vx_dtype.specs.RawViews.{raw_view, raws_of};
 
@@ -58,7 +57,7 @@ fn write_list<W: fmt::Write>(
     dtype: &DType,
     f: &mut fmt::Formatter<W>,
 ) -> fmt::Result
-    ensures { WritesOnOk W.write_str_gives f.old result (codes "[" ++ (items_text [] (raws_of (map raw_view values.now)) (type_view dtype.now) ++ codes "]")) f.new }
+    ensures { WritesOnOk W.write_str_gives f.old result (in_brackets (items_text [] (raws_of (map raw_view values.now)) (type_view dtype.now))) f.new }
 {
     f.write_str("[")?;
     write_items(values, dtype, f)?;
@@ -92,7 +91,7 @@ fn write_struct<W: fmt::Write>(
     fields: &StructFields,
     f: &mut fmt::Formatter<W>,
 ) -> fmt::Result
-    ensures { WritesOnOk W.write_str_gives f.old result (codes "{" ++ (members_text [] (raws_of (map raw_view values.now)) fields.now ++ codes "}")) f.new }
+    ensures { WritesOnOk W.write_str_gives f.old result (in_braces (members_text [] (raws_of (map raw_view values.now)) fields.now)) f.new }
 {
     f.write_str("{")?;
     write_members(values, fields, f)?;

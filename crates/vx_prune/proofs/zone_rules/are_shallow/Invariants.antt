@@ -1,8 +1,8 @@
 use Rattle.std.proofs.Common.{◌≡◌, nat_le, map, drop}
 use Rattle.std.specs.List.{list_all}
-use Rattle.vx_dtype.specs.TypeRules.{depth_of}
+use Rattle.vx_dtype.specs.TypeRules.{depth_of, most_deep}
 use Rattle.vx_dtype.specs.TypeViews.{type_view}
-use Rattle.vx_prune.specs.Zoning.{are_shallow, most_deep}
+use Rattle.vx_prune.specs.Zoning.{are_shallow}
 use Rattle.vx_prune.proofs.zone_rules.are_shallow.Given as goal
 
 -- what is left to test

@@ -1,7 +1,7 @@
 use Rattle.std.proofs.Common.{sym, ap, ◌∙◌, arith}
 use Rattle.std.specs.Prelude.{option_map}
 use Rattle.vx_dtype.specs.TypeViews.{type_view}
-use Rattle.vx_wire_text.specs.TypeForms.{most_deep}
+use Rattle.vx_dtype.specs.TypeRules.{most_deep}
 use Rattle.vx_wire_text.specs.TypeReading.{type_at}
 use Rattle.vx_wire_text.proofs.PlaceFields.{type_there, no_type_there, type_shorter}
 use Rattle.vx_wire_text.proofs.types.read_type.Goals as goal

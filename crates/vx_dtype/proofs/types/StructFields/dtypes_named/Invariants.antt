@@ -1,7 +1,6 @@
 use Rattle.std.proofs.Common.{◌≡◌, length, map, drop}
-use Rattle.vx_dtype.specs.StructTypes.{types_named}
 use Rattle.vx_dtype.specs.TypeViews.{type_view}
-use Rattle.vx_dtype.proofs.ProjectionLemmas.{joined}
+use Rattle.vx_dtype.proofs.ProjectionLemmas.{types_named, joined}
 use Rattle.vx_dtype.proofs.types.StructFields.dtypes_named.Given as goal
 
 -- what was collected, and what is left to find

@@ -1,35 +1,13 @@
-// Tables of printed texts and of ends, and each call that takes memory once with ample memory.
+// Types, names and paths: tables of printed texts, names that stand once, and each call that takes memory with ample memory.
 ghost use Rattle.std.specs.Prelude.{◌≡◌, length, IfOk};
 
-use crate::{
-    CompareOperator, DType, ElementType, FieldName, FieldNames, FieldPath, FieldPathSet, Mem,
-    Nullability, PType, Stat, StructFields, Text,
-};
 use std::alloc::Global;
 use std::rc::Rc;
 use std::test::Fail;
-
-#[test]
-fn integer_types_have_their_ends(rt: HostRuntime) {
-    let table = [
-        (PType::U8, 0, 255),
-        (PType::U16, 0, 65_535),
-        (PType::U32, 0, 4_294_967_295),
-        (PType::U64, 0, 18_446_744_073_709_551_615),
-        (PType::I8, -128, 127),
-        (PType::I16, -32_768, 32_767),
-        (PType::I32, -2_147_483_648, 2_147_483_647),
-        (
-            PType::I64,
-            -9_223_372_036_854_775_808,
-            9_223_372_036_854_775_807,
-        ),
-    ];
-    for (ptype, least, greatest) in table {
-        assert_eq!(rt; ptype.least(), least);
-        assert_eq!(rt; ptype.greatest(), greatest);
-    }
-}
+use vx_dtype::{
+    CompareOperator, DType, ElementType, FieldName, FieldNames, FieldPath, FieldPathSet, Mem,
+    Nullability, PType, Stat, StructFields, Text,
+};
 
 fn names(alloc: Global, first: &str, second: &str) -> Mem<FieldNames>
     ensures { IfOk result (λ names. length names ≡ 2) }
@@ -115,31 +93,16 @@ fn names_stand_once(rt: HostRuntime) -> Result<(), Fail> {
     ];
     for (first, second, want) in table {
         let names = names(alloc, first, second)?;
-        assert_eq!(rt; FieldName::are_distinct(names.as_slice()), want);
+        assert_eq!(rt; FieldName::are_distinct(alloc, names.as_slice())?, want);
         let name = FieldName::new(alloc, first)?;
         assert_eq!(rt; name.is_among(&names.as_slice()[1..]), !want);
         let inner = fields(alloc, first, second, DType::Utf8(Nullability::Nullable))?;
-        assert_eq!(rt; inner.has_distinct_names(), want);
+        assert_eq!(rt; inner.has_distinct_names(alloc)?, want);
         let item = DType::Struct(inner, Nullability::NonNullable);
         let items = list(alloc, item, Nullability::Nullable)?;
-        assert_eq!(rt; items.has_distinct_names(), want);
+        assert_eq!(rt; items.has_distinct_names(alloc)?, want);
         let outer = fields(alloc, "a", "b", items)?;
-        assert_eq!(rt; outer.has_distinct_names(), want);
-    }
-    Ok(())
-}
-
-#[test]
-fn types_stand_in_order(rt: HostRuntime) -> Result<(), Fail> {
-    let alloc = rt.alloc();
-    let texts = fields(alloc, "a", "b", DType::Utf8(Nullability::NonNullable))?;
-    let table = [
-        DType::Utf8(Nullability::NonNullable),
-        DType::Bool(Nullability::Nullable),
-    ];
-    assert_eq!(rt; texts.dtypes().len(), table.len());
-    for i in 0..table.len() {
-        assert_eq!(rt; texts.dtypes().get(i), table.get(i));
+        assert_eq!(rt; outer.has_distinct_names(alloc)?, want);
     }
     Ok(())
 }
@@ -186,4 +149,27 @@ fn ample(rt: HostRuntime) -> Result<(), Fail> {
     let picked = fields.project(alloc, &names.as_slice()[1..])?;
     assert_eq!(rt; picked.nfields(), 1);
     Ok(())
+}
+
+#[test]
+fn numbers_name_one_type_each(rt: HostRuntime) {
+    let table = [
+        PType::U8,
+        PType::U16,
+        PType::U32,
+        PType::U64,
+        PType::I8,
+        PType::I16,
+        PType::I32,
+        PType::I64,
+    ];
+    for (number, ptype) in (0..8).zip(table) {
+        assert_eq!(rt; ptype.number(), number);
+        assert_eq!(rt; PType::from_number(number), Some(ptype));
+    }
+    assert_eq!(rt; PType::from_number(8), None);
+    for n in [Nullability::NonNullable, Nullability::Nullable] {
+        assert_eq!(rt; Nullability::from_number(n.number()), Some(n));
+    }
+    assert_eq!(rt; Nullability::from_number(2), None);
 }

@@ -1,17 +1,13 @@
-// Scalars at their ends, their printed texts, their order, and ample memory.
-use super::Scalar;
-use super::errors::{ScalarError, WrongValue};
-use crate::integers::PType;
-use crate::names::{FieldName, FieldNames};
-use crate::nulls::Nullability::{NonNullable, Nullable};
-use crate::types::{DType, StructFields};
-use crate::values::ScalarValue;
-use crate::writing::Quoted;
+// Scalars: the ends of integer types, printed texts, order, and ample memory.
 use std::alloc::Global;
 use std::cmp::Ordering;
 use std::fmt::Write;
 use std::process::Abort;
 use std::test::Fail;
+use vx_dtype::Nullability::{NonNullable, Nullable};
+use vx_dtype::{
+    DType, FieldName, FieldNames, PType, Quoted, Scalar, ScalarError, ScalarValue, StructFields,
+};
 
 fn fits_in(p: PType, v: i128) -> bool {
     Scalar::primitive(p, v, NonNullable).is_ok()
@@ -114,16 +110,6 @@ fn lists_look_at_values(rt: HostRuntime) -> Result<(), Fail> {
 }
 
 #[test]
-fn values_that_fit(rt: HostRuntime) {
-    let null = Scalar::try_new(DType::Bool(NonNullable), ScalarValue::Null);
-    assert!(rt; matches!(null, Err(WrongValue)));
-    let null = Scalar::try_new(DType::Utf8(Nullable), ScalarValue::Null);
-    assert!(rt; null.is_ok());
-    let other = Scalar::try_new(DType::Utf8(Nullable), ScalarValue::Bool(true));
-    assert!(rt; matches!(other, Err(WrongValue)));
-}
-
-#[test]
 fn orders(rt: HostRuntime) -> Result<(), Fail> {
     let alloc = rt.alloc();
     let one = Scalar::from(1i32);
@@ -148,23 +134,8 @@ fn orders(rt: HostRuntime) -> Result<(), Fail> {
 }
 
 #[test]
-fn values_fit_their_types(rt: HostRuntime) -> Result<(), Fail> {
-    let alloc = rt.alloc();
-    let number = DType::Primitive(PType::I8, NonNullable);
-    assert!(rt; ScalarValue::Int(127).fits(&number));
-    assert!(rt; !ScalarValue::Int(128).fits(&number));
-    assert!(rt; !ScalarValue::Null.fits(&number));
-    assert!(rt; ScalarValue::Null.fits(&DType::Bool(Nullable)));
-    assert!(rt; !ScalarValue::Bool(true).fits(&number));
-    let list = list_of(alloc, number)??;
-    assert!(rt; list.value().fits(list.dtype()));
-    assert!(rt; !list.value().fits(&DType::Utf8(NonNullable)));
-    Ok(())
-}
-
-#[test]
 fn texts_within_quotes(rt: HostRuntime) -> Result<(), Fail> {
-    let rows = [
+    let table = [
         ("", "\"\""),
         ("a b", "\"a b\""),
         ("\"\\/", "\"\\\"\\\\/\""),
@@ -172,7 +143,7 @@ fn texts_within_quotes(rt: HostRuntime) -> Result<(), Fail> {
         ("\0\u{1f}\u{7f}", "\"\\u0000\\u001f\u{7f}\""),
         ("\u{e9}", "\"\u{e9}\""),
     ];
-    for (plain, quoted) in &rows {
+    for (plain, quoted) in &table {
         let mut text = String::new(rt.alloc());
         write!(text, "{}", Quoted(plain))?;
         assert_eq!(rt; text.as_str(), *quoted);
