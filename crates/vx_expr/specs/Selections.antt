@@ -1,8 +1,9 @@
 -- Choices of a struct's fields.
 use Rattle.std.specs.Prelude.{Bool, true, false, not, List, Option, option_map}
-use Rattle.std.specs.List.{filter, list_all}
+use Rattle.std.specs.List.{filter}
 use Rattle.vx_dtype.specs.Types.{Bytes}
 use Rattle.vx_dtype.specs.TypeRules.{has_name}
+use Rattle.vx_dtype.specs.StructTypes.{all_named}
 use Rattle.vx_expr.specs.declared.selections.FieldSelection.{FieldSelection}
 use Rattle.vx_expr.specs.Trees.{Tree, select}
 use Rattle.vx_expr.specs.Children.{where_so}
@@ -24,7 +25,7 @@ taken_names (FieldSelection.Exclude fs) names = filter (λ g. not (has_name g fs
 
 -- the same, where each name that the choice lists is one of these
 abbrev pub names_where_known : FieldSelection → List Bytes → Option (List Bytes)
-names_where_known s names = where_so (list_all (λ f. has_name f names) (listed_names s)) (taken_names s names)
+names_where_known s names = where_so (all_named (listed_names s) names) (taken_names s names)
 
 -- the choice of a struct's fields with those that are taken of these names listed, where each name of the choice is one of these
 abbrev pub select_as_include : FieldSelection → Tree → List Bytes → Option Tree

@@ -3,7 +3,6 @@ ghost use Rattle.std.specs.Prelude.{◌≡◌, Decides, fold};
 ghost use Rattle.std.specs.Cmp.{on_per, on_equiv, partial_equiv_from_equiv};
 ghost use Rattle.std.proofs.Common.{ap};
 ghost use Rattle.std.specs.Hash as fed;
-ghost use Rattle.vx_dtype.specs.TypeRules.{null_number};
 ghost use Rattle.vx_expr.specs.Codes.{strictness_number};
 ghost use Rattle.vx_expr.specs.Trees.{trees_of};
 ghost use Rattle.vx_expr.specs.Nodes.{node_tree, between_tree, binary_tree, dynamic_tree, like_tree, contains_tree};
@@ -20,7 +19,7 @@ use crate::exprs::like::LikeExpr;
 use crate::exprs::list_contains::ListContainsExpr;
 use crate::exprs::pack::PackExpr;
 use std::hash::{Hash, Hasher};
-use vx_dtype::{Nullability, StrictComparison};
+use vx_dtype::StrictComparison;
 
 #[cycle(same)]
 fn same(left: &ExprRef, right: &ExprRef) -> bool
@@ -274,15 +273,5 @@ pub(crate) fn feed_strictness<H: Hasher>(strictness: StrictComparison, state: &m
     match strictness {
         StrictComparison::Strict => state.write_u8(0),
         StrictComparison::NonStrict => state.write_u8(1),
-    }
-}
-
-/// 1 where null is a value, else 0.
-pub(crate) fn nullability_number(nullability: Nullability) -> u8
-    ensures { result ≡ null_number nullability }
-{
-    match nullability {
-        Nullability::NonNullable => 0,
-        Nullability::Nullable => 1,
     }
 }

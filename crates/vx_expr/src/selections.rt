@@ -1,9 +1,9 @@
 // Choices of a struct's fields.
 ghost use Rattle.std.specs.Prelude.{◌≡◌, Decides, not, filter, IsTrue, IfOk, IfErr};
-ghost use Rattle.std.specs.List.{list_all};
 ghost use Rattle.std.specs.Cmp.{partial_equiv_from_equiv};
 ghost use Rattle.std.proofs.Common.{ap};
 ghost use Rattle.vx_dtype.specs.TypeRules.{distinct_names, has_name};
+ghost use Rattle.vx_dtype.specs.StructTypes.{all_named};
 ghost use Rattle.vx_expr.specs.Selections.{is_included, listed_names, names_where_known};
 ghost use Rattle.vx_expr.specs.Equal.{selection_eq};
 ghost use Rattle.vx_expr.specs.EqualLaws.{selection_eq_equiv, selection_decides};
@@ -26,7 +26,7 @@ pub enum FieldSelection {
 
 /// Whether the names hold each of the asked ones.
 fn has_all(names: &FieldNames, asked: &FieldNames) -> bool
-    ensures { result ≡ list_all (λ name. has_name name names.now) asked.now }
+    ensures { result ≡ all_named asked.now names.now }
 {
     asked
         .as_slice()

@@ -13,7 +13,7 @@ ghost use Rattle.vx_expr.specs.EqualLaws.{tree_eq_equiv, tree_decides};
 ghost use Rattle.vx_expr.specs.Feeds.{own_feed, tree_feed};
 
 use crate::children::child_in;
-use crate::equality::{feed_list, nullability_number, same_list};
+use crate::equality::{feed_list, same_list};
 use crate::errors::ExprError;
 use crate::expressions::{Expr, ExprRef};
 use std::alloc::{AllocError, Global};
@@ -98,7 +98,7 @@ impl MergeExpr {
         ensures { state.new ≡ fold H.write state.old (own_feed (merge_tree self.now)) }
     {
         state.write_u8(11);
-        state.write_u8(nullability_number(self.nullability));
+        state.write_u8(self.nullability.number());
     }
 }
 

@@ -13,7 +13,7 @@ ghost use Rattle.vx_expr.specs.EqualLaws.{tree_eq_equiv, tree_decides};
 ghost use Rattle.vx_expr.specs.Feeds.{own_feed, tree_feed};
 
 use crate::children::child_in;
-use crate::equality::{feed_list, nullability_number, same_pack};
+use crate::equality::{feed_list, same_pack};
 use crate::errors::ExprError;
 use crate::expressions::{Expr, ExprRef};
 use std::alloc::{AllocError, Global};
@@ -158,7 +158,7 @@ impl PackExpr {
     {
         state.write_u8(10);
         self.names.hash(state);
-        state.write_u8(nullability_number(self.nullability));
+        state.write_u8(self.nullability.number());
     }
 }
 
