@@ -1,7 +1,6 @@
 // One constructor for each kind of expression.
-ghost use Rattle.std.specs.Prelude.{◌≡◌, map, IfOk, IsTrue};
+ghost use Rattle.std.specs.Prelude.{◌≡◌, map, IfOk};
 ghost use Rattle.vx_dtype.specs.TypeViews.{type_view};
-ghost use Rattle.vx_dtype.specs.TypeRules.{distinct_names};
 ghost use Rattle.vx_dtype.specs.Values.{Typed};
 ghost use Rattle.vx_expr.specs.declared.Operator.{Operator};
 ghost use Rattle.vx_expr.specs.declared.FieldSelection.{FieldSelection};
@@ -183,17 +182,15 @@ pub fn merge(alloc: Global, elements: Vec<ExprRef>, nullability: Nullability) ->
     MergeExpr::new_expr(alloc, elements, nullability)
 }
 
-/// These fields of the struct, in their listed order. No name may stand twice.
+/// These fields of the struct, in their listed order. Typing refuses a name that stands twice.
 pub fn select(alloc: Global, names: FieldNames, child: ExprRef) -> Mem<ExprRef>
-    requires { IsTrue (distinct_names names) }
     ensures { IfOk result (λ made. made ≡ tree.select (FieldSelection.Include names) child) }
 {
     SelectExpr::include_expr(alloc, names, child)
 }
 
-/// All fields of the struct but these, in the struct's order. No name may stand twice.
+/// All fields of the struct but these, in the struct's order. A name may stand twice among these.
 pub fn select_exclude(alloc: Global, names: FieldNames, child: ExprRef) -> Mem<ExprRef>
-    requires { IsTrue (distinct_names names) }
     ensures { IfOk result (λ made. made ≡ tree.select (FieldSelection.Exclude names) child) }
 {
     SelectExpr::exclude_expr(alloc, names, child)

@@ -1,7 +1,8 @@
 // The expression that a node of a kind is.
 ghost use Rattle.std.specs.Prelude.{◌≡◌, IfOk};
 ghost use Rattle.vx_expr.specs.Trees.{Tree};
-ghost use Rattle.vx_expr.specs.Nodes.{between_tree, binary_tree, cast_tree, dynamic_tree, item_tree, is_null_tree, like_tree, contains_tree, literal_tree, merge_tree, not_tree, root_tree, select_tree};
+ghost use Rattle.vx_expr.specs.Nodes.{between_tree, binary_tree, cast_tree, dynamic_tree, item_tree, is_null_tree, like_tree};
+ghost use Rattle.vx_expr.specs.Nodes.{contains_tree, literal_tree, merge_tree, not_tree, root_tree, select_tree};
 ghost use Rattle.vx_expr.specs.Packed.{pack_tree};
 
 use std::alloc::Global;

@@ -6,8 +6,6 @@ mod conjunctions;
 mod constructors;
 mod into_expr;
 mod samples;
-#[cfg(test)]
-mod tests;
 
 pub use collectors::{and_collect, and_collect_right, or_collect};
 pub use conjunctions::{conjuncts, split_conjunction};
