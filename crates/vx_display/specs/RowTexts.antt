@@ -1,4 +1,5 @@
--- Rows as texts: values in the form of JSON, without spaces.
+-- For the checker: no public clause cites this.
+-- The texts of raw values beside their types.
 use Rattle.std.specs.Prelude.{cond, [], ◌++◌, codes}
 use Rattle.std.specs.Fmt.{signed_decimal}
 use Rattle.vx_dtype.specs.Types.{Bytes, Ty, list_ty, struct_ty, Fields, no_fields, field}
@@ -27,3 +28,11 @@ unfoldable mutual
   members_text before no_raws fs = []
   members_text before (raw x xs) no_fields = []
   members_text before (raw x xs) (field f t fs) = before ++ (quoted_text f ++ (codes ":" ++ (row_text_of x t ++ members_text (codes ",") xs fs)))
+
+-- the text of a list of values of one type
+abbrev pub list_text : Raws → Ty → Bytes
+list_text xs t = codes "[" ++ (elements_text [] xs t ++ codes "]")
+
+-- the text of a struct with these fields
+abbrev pub struct_text : Raws → Fields → Bytes
+struct_text xs fs = codes "{" ++ (members_text [] xs fs ++ codes "}")

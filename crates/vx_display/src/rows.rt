@@ -1,5 +1,5 @@
 // Rows as texts.
-ghost use Rattle.std.specs.Prelude.{◌≡◌, true, map, [], ◌++◌, codes, OnOk, IfOk};
+ghost use Rattle.std.specs.Prelude.{◌≡◌, true, map, ◌++◌, OnOk, IfOk};
 ghost use Rattle.std.specs.String.{string_bytes};
 ghost use Rattle.vx_dtype.specs.Fits.{fits};
 ghost use Rattle.vx_dtype.specs.TypeViews.{type_view};
@@ -7,11 +7,11 @@ ghost use Rattle.vx_dtype.specs.RawViews.{raw_view, raws_of};
 ghost use Rattle.vx_dtype.specs.Texts.{quoted_text};
 ghost use Rattle.vx_dtype.specs.Values.{valued};
 ghost use Rattle.vx_display.specs.ValueTexts.{value_text};
-ghost use Rattle.vx_display.specs.RowTexts.{row_text_of, elements_text, members_text};
+ghost use Rattle.vx_display.specs.RowTexts.{row_text_of, list_text, struct_text};
 
 use std::alloc::Global;
 use std::fmt::Write;
-use vx_dtype::{DType, Mem, NoMemory, Quoted, ScalarValue, StructFields};
+use vx_dtype::{DType, Mem, Quoted, ScalarValue, StructFields};
 
 /// A value of a type as a text in the form of JSON, without spaces: `null`, `true`, a decimal number, a text within quotes, `[v,v]`,
 /// `{"name":v,"name":v}` in the order of the type's fields.
@@ -34,10 +34,7 @@ fn push_value(out: &mut String, value: &ScalarValue, dtype: &DType) -> Mem<()>
     match value {
         ScalarValue::Null => Ok(out.push_str("null")?),
         ScalarValue::Bool(b) => Ok(out.push_str(if *b { "true" } else { "false" })?),
-        ScalarValue::Int(i) => match write!(out, "{i}") {
-            Ok(()) => Ok(()),
-            Err(_) => Err(NoMemory),
-        },
+        ScalarValue::Int(i) => Ok(write!(out, "{i}")?),
         ScalarValue::Utf8(text) => push_quoted(out, text.as_str()),
         ScalarValue::List(items) => match dtype {
             DType::List(element, _) => push_elements(out, items.as_slice(), element.dtype()),
@@ -54,16 +51,13 @@ fn push_value(out: &mut String, value: &ScalarValue, dtype: &DType) -> Mem<()>
 fn push_quoted(out: &mut String, text: &str) -> Mem<()>
     ensures { OnOk result (string_bytes out.new ≡ string_bytes out.old ++ quoted_text text.now) }
 {
-    match write!(out, "{}", Quoted(text)) {
-        Ok(()) => Ok(()),
-        Err(_) => Err(NoMemory),
-    }
+    Ok(write!(out, "{}", Quoted(text))?)
 }
 
 /// Writes values of one type in brackets at the end, as far as there is memory.
 #[cycle(push)]
 fn push_elements(out: &mut String, values: &[ScalarValue], dtype: &DType) -> Mem<()>
-    ensures { OnOk result (string_bytes out.new ≡ string_bytes out.old ++ (codes "[" ++ (elements_text [] (raws_of (map raw_view values.now)) (type_view dtype.now) ++ codes "]"))) }
+    ensures { OnOk result (string_bytes out.new ≡ string_bytes out.old ++ list_text (raws_of (map raw_view values.now)) (type_view dtype.now)) }
 {
     out.push_str("[")?;
     let mut separator = "";
@@ -78,7 +72,7 @@ fn push_elements(out: &mut String, values: &[ScalarValue], dtype: &DType) -> Mem
 /// Writes the values of fields in braces at the end, each behind its quoted name, as far as there is memory.
 #[cycle(push)]
 fn push_members(out: &mut String, values: &[ScalarValue], fields: &StructFields) -> Mem<()>
-    ensures { OnOk result (string_bytes out.new ≡ string_bytes out.old ++ (codes "{" ++ (members_text [] (raws_of (map raw_view values.now)) fields.now ++ codes "}"))) }
+    ensures { OnOk result (string_bytes out.new ≡ string_bytes out.old ++ struct_text (raws_of (map raw_view values.now)) fields.now) }
 {
     out.push_str("{")?;
     let mut separator = "";
