@@ -1,5 +1,5 @@
 -- Elements that containers hand over, one container after another.
-use Rattle.std.specs.Prelude.{◌≡◌, ℕ, ◌+◌, ◌≤◌, List, [], ◌∷◌, ◌++◌, Bool, true, false, ◌||◌, Ok, Err, Option, Some, MatchOption, slice_get, length}
+use Rattle.std.specs.Prelude.{◌≡◌, ℕ, ◌+◌, ◌≤◌, List, [], ◌∷◌, ◌++◌, Bool, true, false, ◌||◌, Ok, Err, Option, Some, MatchOption, slice_get, length, map}
 use Rattle.std.specs.List.{flat_map}
 use denote.Ref.{Bor}
 use Rattle.std.proofs.Common.{drop, refl, sym, ap, ◌∙◌, subst, append_assoc, arith}
@@ -10,6 +10,7 @@ use Rattle.vx_traversal.specs.declared.order.TraversalOrder.{TraversalOrder}
 use Rattle.vx_traversal.specs.declared.order.TraversalOrder.TheVariants.{Skip, Stop, Continue}
 use Rattle.vx_traversal.specs.declared.transform.Transformed.{Transformed}
 use Rattle.vx_traversal.specs.Rewrites.{Walk, RewriteStep, UnlessStopped, MapsInTurn, with_one}
+use Rattle.vx_traversal.specs.Shapes.{Shape}
 use Rattle.vx_traversal.specs.Containers.{left_of_each, left_of_pair, MapsElements, none_after}
 use Rattle.vx_traversal.proofs.Steps.{drop-next, drop-past}
 use Rattle.vx_traversal.proofs.RewriteLemmas.{or-false}
@@ -37,11 +38,11 @@ module _ {S T E : Type 0} (Each : RewriteStep S T E) where
   MapsInTurn-append (x ∷ xs) ys so_far s m u r t (Err e, v, step, (is, stays)) rest = absurd (cc)
   MapsInTurn-append (x ∷ xs) ys so_far s m u r t (Ok y, v, step, more) rest = (Ok y, v, step, MapsInTurn-append xs ys (with_one so_far y) v m u r t more rest)
 
-  -- a fault among the first ends it
-  MapsInTurn-append-fault : (xs ys : List T) (so_far : Transformed (List T)) (s : S) (e : WalkError E) (u : S) → MapsInTurn Each so_far s xs (Err e) u → MapsInTurn Each so_far s (xs ++ ys) (Err e) u
-  MapsInTurn-append-fault [] ys so_far s e u (is, stays) = absurd (cc)
-  MapsInTurn-append-fault (x ∷ xs) ys so_far s e u (Err f, v, step, ends) = (Err f, v, step, ends)
-  MapsInTurn-append-fault (x ∷ xs) ys so_far s e u (Ok y, v, step, more) = (Ok y, v, step, MapsInTurn-append-fault xs ys (with_one so_far y) v e u more)
+  -- an error among the first ends it
+  MapsInTurn-append-error : (xs ys : List T) (so_far : Transformed (List T)) (s : S) (e : WalkError E) (u : S) → MapsInTurn Each so_far s xs (Err e) u → MapsInTurn Each so_far s (xs ++ ys) (Err e) u
+  MapsInTurn-append-error [] ys so_far s e u (is, stays) = absurd (cc)
+  MapsInTurn-append-error (x ∷ xs) ys so_far s e u (Err f, v, step, ends) = (Err f, v, step, ends)
+  MapsInTurn-append-error (x ∷ xs) ys so_far s e u (Ok y, v, step, more) = (Ok y, v, step, MapsInTurn-append-error xs ys (with_one so_far y) v e u more)
 
   joined-one : (before : List T) (ch : Bool) (m : Transformed (List T)) (y : Transformed T) → with_one (joined before ch m) y ≡ joined before ch (with_one m y)
   joined-one before ch m y = λ i. record { value = append_assoc before m.value (y.value ∷ []) i; order = y.order; changed = or_assoc ch m.changed y.changed i }
@@ -59,16 +60,16 @@ module _ {S T E : Type 0} (Each : RewriteStep S T E) where
         subst P (sym (joined-one before ch so_far y)) (MapsInTurn-joined before ch xs (with_one so_far y) v m t more),
   )
 
-  MapsInTurn-joined-fault : (before : List T) (ch : Bool) (xs : List T) (so_far : Transformed (List T)) (s : S) (e : WalkError E) (t : S) →
+  MapsInTurn-joined-error : (before : List T) (ch : Bool) (xs : List T) (so_far : Transformed (List T)) (s : S) (e : WalkError E) (t : S) →
       MapsInTurn Each so_far s xs (Err e) t → MapsInTurn Each (joined before ch so_far) s xs (Err e) t
-  MapsInTurn-joined-fault before ch [] so_far s e t (is, stays) = absurd (cc)
-  MapsInTurn-joined-fault before ch (x ∷ xs) so_far s e t (Err f, v, step, ends) = (Err f, v, step, ends)
-  MapsInTurn-joined-fault before ch (x ∷ xs) so_far s e t (Ok y, v, step, more) = (
+  MapsInTurn-joined-error before ch [] so_far s e t (is, stays) = absurd (cc)
+  MapsInTurn-joined-error before ch (x ∷ xs) so_far s e t (Err f, v, step, ends) = (Err f, v, step, ends)
+  MapsInTurn-joined-error before ch (x ∷ xs) so_far s e t (Ok y, v, step, more) = (
     Ok y,
     v,
     step,
     let P : Transformed (List T) → Type 0 = λ k. MapsInTurn Each k v xs (Err e) t in
-        subst P (sym (joined-one before ch so_far y)) (MapsInTurn-joined-fault before ch xs (with_one so_far y) v e t more),
+        subst P (sym (joined-one before ch so_far y)) (MapsInTurn-joined-error before ch xs (with_one so_far y) v e t more),
   )
 
   joined-none : (before : List T) (ch : Bool) (last : TraversalOrder) → joined before ch (none_after last) ≡ record { value = before; order = last; changed = ch }
@@ -84,9 +85,9 @@ module _ {S T E : Type 0} (Each : RewriteStep S T E) where
         let P : Transformed (List T) → Type 0 = λ k. MapsInTurn Each (none_after last) s (elements c) (Ok k) t in
         subst P (sym listed) turns
 
-    MapsElements-fault : (last : TraversalOrder) (s : S) (c : C) (e : WalkError E) (t : S) → MapsElements elements Each last s c (Err e) t → MapsInTurn Each (none_after last) s (elements c) (Err e) t
-    MapsElements-fault last s c e t (Ok m, turns, (refilled, holds, is)) = absurd (cc)
-    MapsElements-fault last s c e t (Err f, turns, is) = let P : Walk (Transformed (List T)) E → Type 0 = λ q. MapsInTurn Each (none_after last) s (elements c) q t in subst P (ap (λ x. Err x) (let same : f ≡ e = cc in same)) turns
+    MapsElements-error : (last : TraversalOrder) (s : S) (c : C) (e : WalkError E) (t : S) → MapsElements elements Each last s c (Err e) t → MapsInTurn Each (none_after last) s (elements c) (Err e) t
+    MapsElements-error last s c e t (Ok m, turns, (refilled, holds, is)) = absurd (cc)
+    MapsElements-error last s c e t (Err f, turns, is) = let P : Walk (Transformed (List T)) E → Type 0 = λ q. MapsInTurn Each (none_after last) s (elements c) q t in subst P (ap (λ x. Err x) (let same : f ≡ e = cc in same)) turns
 
     -- one more container of a vector
     pub MapsEach-next : (so_far : List T) (order : TraversalOrder) (ch : Bool) (s : S) (c : C) (rest : List T) (y : Transformed C) (u : S) (r : Walk (Transformed (List T)) E) (t : S) →
@@ -98,12 +99,12 @@ module _ {S T E : Type 0} (Each : RewriteStep S T E) where
         subst P (joined-none so_far ch order) (MapsInTurn-joined so_far ch (elements c) (none_after order) s (as_list elements y) u (MapsElements-turns order s c y u mapped)))
         more
 
-    pub MapsEach-fault : (so_far : List T) (order : TraversalOrder) (ch : Bool) (s : S) (c : C) (rest : List T) (e : WalkError E) (u : S) →
+    pub MapsEach-error : (so_far : List T) (order : TraversalOrder) (ch : Bool) (s : S) (c : C) (rest : List T) (e : WalkError E) (u : S) →
         MapsElements elements Each order s c (Err e) u → MapsInTurn Each (record { value = so_far; order = order; changed = ch }) s (elements c ++ rest) (Err e) u
-    MapsEach-fault so_far order ch s c rest e u mapped =
-        MapsInTurn-append-fault (elements c) rest (record { value = so_far; order = order; changed = ch }) s e u
+    MapsEach-error so_far order ch s c rest e u mapped =
+        MapsInTurn-append-error (elements c) rest (record { value = so_far; order = order; changed = ch }) s e u
         (let P : Transformed (List T) → Type 0 = λ k. MapsInTurn Each k s (elements c) (Err e) u in
-        subst P (joined-none so_far ch order) (MapsInTurn-joined-fault so_far ch (elements c) (none_after order) s e u (MapsElements-fault order s c e u mapped)))
+        subst P (joined-none so_far ch order) (MapsInTurn-joined-error so_far ch (elements c) (none_after order) s e u (MapsElements-error order s c e u mapped)))
 
     -- a container whose elements are the mapped ones
     pub MapsElements-refilled : (last : TraversalOrder) (s : S) (c : C) (y : Transformed C) (m : List T) (t : S) → elements y.value ≡ m → MapsInTurn Each (none_after last) s (elements c) (Ok (record { value = m; order = y.order; changed = y.changed })) t → MapsElements elements Each last s c (Ok y) t
@@ -143,24 +144,24 @@ module _ {S T E : Type 0} (Each : RewriteStep S T E) {C : Type 0} (elements : C 
       subst P (append-nil (elements pair.1))
       (MapsEach-next Each elements (elements y.value) y.order y.changed u pair.1 [] z t (Ok (record { value = elements y.value ++ elements z.value; order = z.order; changed = y.changed || z.changed })) t second (refl, refl))))
 
-  -- a fault in the first
-  pub MapsPair-first_fault : (e : WalkError E) (u : S) → MapsElements elements Each last s pair.0 (Err e) u → MapsElements {C = C × C} (λ it. elements it.0 ++ elements it.1) Each last s pair (Err e) u
-  MapsPair-first_fault e u first = (Err e, MapsEach-fault Each elements [] last false s pair.0 (elements pair.1) e u first, refl)
+  -- an error in the first
+  pub MapsPair-first_error : (e : WalkError E) (u : S) → MapsElements elements Each last s pair.0 (Err e) u → MapsElements {C = C × C} (λ it. elements it.0 ++ elements it.1) Each last s pair (Err e) u
+  MapsPair-first_error e u first = (Err e, MapsEach-error Each elements [] last false s pair.0 (elements pair.1) e u first, refl)
 
-  -- a fault in the second
-  pub MapsPair-second_fault : (y : Transformed C) (u : S) (e : WalkError E) (t : S) → MapsElements elements Each last s pair.0 (Ok y) u → MapsElements elements Each y.order u pair.1 (Err e) t →
+  -- an error in the second
+  pub MapsPair-second_error : (y : Transformed C) (u : S) (e : WalkError E) (t : S) → MapsElements elements Each last s pair.0 (Ok y) u → MapsElements elements Each y.order u pair.1 (Err e) t →
       MapsElements {C = C × C} (λ it. elements it.0 ++ elements it.1) Each last s pair (Err e) t
-  MapsPair-second_fault y u e t first second = (
+  MapsPair-second_error y u e t first second = (
     Err e,
     MapsEach-next Each elements [] last false s pair.0 (elements pair.1) y u (Err e) t first
         (let P : List T → Type 0 = λ xs. MapsInTurn Each (record { value = elements y.value; order = y.order; changed = y.changed }) u xs (Err e) t in
-        subst P (append-nil (elements pair.1)) (MapsEach-fault Each elements (elements y.value) y.order y.changed u pair.1 [] e t second)),
+        subst P (append-nil (elements pair.1)) (MapsEach-error Each elements (elements y.value) y.order y.changed u pair.1 [] e t second)),
     refl,
   )
 
--- a fault by an equal answer
-pub fault-as : {S T C E : Type 0} (Each : RewriteStep S T E) (elements : C → List T) (last : TraversalOrder) (s : S) (c : C) (e : WalkError E) (r : Walk (Transformed C) E) (t : S) → r ≡ Err e → MapsElements elements Each last s c (Err e) t → MapsElements elements Each last s c r t
-fault-as {S} {T} {C} {E} Each elements last s c e r t is faults = let P : Walk (Transformed C) E → Type 0 = λ q. MapsElements elements Each last s c q t in subst P (sym is) faults
+-- an error by an equal answer
+pub error-as : {S T C E : Type 0} (Each : RewriteStep S T E) (elements : C → List T) (last : TraversalOrder) (s : S) (c : C) (e : WalkError E) (r : Walk (Transformed C) E) (t : S) → r ≡ Err e → MapsElements elements Each last s c (Err e) t → MapsElements elements Each last s c r t
+error-as {S} {T} {C} {E} Each elements last s c e r t is errors = let P : Walk (Transformed C) E → Type 0 = λ q. MapsElements elements Each last s c q t in subst P (sym is) errors
 
 -- what is left of a pair whose first is at its end
 pub pair-second : {C K T : Type 0} (left : C → K → List T) (elements : C → List T) (in_second : Bool) (k fresh : K) (a b : C) → in_second ≡ false → left a k ≡ [] → left b fresh ≡ elements b → left_of_pair left elements in_second k a b ≡ left b fresh
@@ -182,6 +183,11 @@ maps-from {S} {T} Each order ch s xs vs ws r t same turns = let P : List T → T
 -- the elements of containers and of one more
 pub flat_map-push : {C T : Type 0} (elements : C → List T) (cs : List C) (c : C) → flat_map elements (cs ++ c ∷ []) ≡ flat_map elements cs ++ elements c
 flat_map-push elements cs c = flat_map-append elements cs (c ∷ []) ∙ ap (λ xs. flat_map elements cs ++ xs) (append-nil (elements c))
+
+-- the shapes of the containers so far and of those that are left, past one more
+pub shapes-push : {C : Type 0} (shape : C → Shape) (so_far : List C) (made c : C) (rest : List C) → shape made ≡ shape c → map shape (so_far ++ made ∷ []) ++ map shape rest ≡ map shape so_far ++ map shape (c ∷ rest)
+shapes-push shape [] made c rest same = λ i. same i ∷ map shape rest
+shapes-push shape (d ∷ ds) made c rest same = λ i. shape d ∷ shapes-push shape ds made c rest same i
 
 pub none-left : {A : Type 0} (xs : List A) → length xs ≡ 0 → xs ≡ []
 none-left [] e = refl

@@ -21,10 +21,10 @@ module _ {S N C R E : Type 0} (Each : FoldStep S N C R E) (c : C) (GoesUp : S �
         let P : List N → Type 0 = λ ys. FoldsInTurn Each c GoesUp results s ys r t in
         subst P (sym (drop-at xs i x at)) (q, u, step, subst (λ (j : ℕ). WithResult (λ y. FoldsInTurn Each c GoesUp (results ++ y ∷ []) u (drop j xs) r t) q u r t) (add-one i) rest)
 
-    -- a fault ends the fold
-    pub FoldsInTurn-fault : (e : WalkError E) (r : Walk (FoldUp R) E) → q ≡ Err e → r ≡ Err e → FoldsInTurn Each c GoesUp results s (drop i xs) r u
-    FoldsInTurn-fault e r faults answers =
-        FoldsInTurn-at r u (let P : Walk (FoldUp R) E → Type 0 = λ p. WithResult (λ y. FoldsInTurn Each c GoesUp (results ++ y ∷ []) u (drop (i + 1) xs) r u) p u r u in subst P (sym faults) (answers, refl))
+    -- an error ends the fold
+    pub FoldsInTurn-error : (e : WalkError E) (r : Walk (FoldUp R) E) → q ≡ Err e → r ≡ Err e → FoldsInTurn Each c GoesUp results s (drop i xs) r u
+    FoldsInTurn-error e r errors answers =
+        FoldsInTurn-at r u (let P : Walk (FoldUp R) E → Type 0 = λ p. WithResult (λ y. FoldsInTurn Each c GoesUp (results ++ y ∷ []) u (drop (i + 1) xs) r u) p u r u in subst P (sym errors) (answers, refl))
 
     -- Stop ends it too
     pub FoldsInTurn-stop : (y : R) → q ≡ Ok (Stop y) → FoldsInTurn Each c GoesUp results s (drop i xs) (Ok (Stop y)) u

@@ -4,6 +4,3 @@ pub mod RewriteLemmas
 pub mod FoldLemmas
 pub mod ContainerLemmas
 pub mod ReferenceLemmas
-pub mod CallLemmas
-pub mod EntryLemmas
-pub mod OneLemmas

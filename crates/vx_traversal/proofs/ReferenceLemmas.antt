@@ -96,15 +96,15 @@ module _ {E : Type 0} where
   same_collects : (xs ys a : List Bytes) (r : Result TraversalOrder E) (t : List Bytes) → xs ≡ ys → Collects xs a r t → Collects ys a r t
   same_collects xs ys a r t is = subst (λ names. Collects names a r t) is
 
-  faults : (names a : List Bytes) (e : E) (r : Result TraversalOrder E) (t : List Bytes) → r ≡ Err e → Collects names a r t
-  faults names a e r t is = subst (λ (q : Result TraversalOrder E). Collects names a q t) (sym is) tt
+  errors : (names a : List Bytes) (e : E) (r : Result TraversalOrder E) (t : List Bytes) → r ≡ Err e → Collects names a r t
+  errors names a e r t is = subst (λ (q : Result TraversalOrder E). Collects names a q t) (sym is) tt
 
   -- the children in turn collect the names of all of them
   in_turn : (Each : Step (List Bytes) Tree E) → ((s : List Bytes) (n : Tree) (r : Result TraversalOrder E) (t : List Bytes) → Each s n r t → CollectsAll s n r t) →
       (ns : List Tree) (s : List Bytes) (r : Result TraversalOrder E) (t : List Bytes) → InTurn Each Continue s ns r t → Collects (flat_map reference_names ns) s r t
   in_turn Each each [] s r t (is, same) =
       subst (λ (q : Result TraversalOrder E). Collects [] s q t) (sym is) (refl, subst (λ held. AddsNames [] s held) (sym same) (adds-none s))
-  in_turn Each each (n ∷ ns) s r t (Err e, u, step, (is, same)) = faults (flat_map reference_names (n ∷ ns)) s e r t is
+  in_turn Each each (n ∷ ns) s r t (Err e, u, step, (is, same)) = errors (flat_map reference_names (n ∷ ns)) s e r t is
   in_turn Each each (n ∷ ns) s r t (Ok Stop, u, step, rest) = absurd (stop_goes (each s n (Ok Stop) u step).0)
   in_turn Each each (n ∷ ns) s r t (Ok Skip, u, step, rest) = absurd (skip_goes (each s n (Ok Skip) u step).0)
   in_turn Each each (n ∷ ns) s r t (Ok Continue, u, step, rest) =
@@ -112,7 +112,7 @@ module _ {E : Type 0} where
 
   after_children : (n : Tree) (xs s : List Bytes) (q : Result TraversalOrder E) (u : List Bytes) (r : Result TraversalOrder E) (t : List Bytes) →
       Collects xs s q u → AfterChildren children_of CollectsDown NoStep n q u r t → Collects xs s r t
-  after_children n xs s (Err e) u r t turns (is, same) = faults xs s e r t is
+  after_children n xs s (Err e) u r t turns (is, same) = errors xs s e r t is
   after_children n xs s (Ok Stop) u r t turns rest = absurd (stop_goes turns.0)
   after_children n xs s (Ok Skip) u r t turns rest = absurd (skip_goes turns.0)
   after_children n xs s (Ok Continue) u r t turns (is, same) = subst (λ (q : Result TraversalOrder E). Collects xs s q t) (sym is) (refl, subst (λ held. AddsNames xs s held) (sym same) turns.1)
@@ -120,7 +120,7 @@ module _ {E : Type 0} where
   -- the visit of an expression collects the names of the whole expression
   pub visit-collects : (k : ℕ) (s : List Bytes) (n : Tree) (r : Result TraversalOrder E) (t : List Bytes) → VisitsBelow children_of CollectsDown NoStep k s n r t → CollectsAll s n r t
   visit-collects zero s n r t w = absurd w
-  visit-collects (suc k) s n r t (Err e, u, step, (is, same)) = faults (reference_names n) s e r t is
+  visit-collects (suc k) s n r t (Err e, u, step, (is, same)) = errors (reference_names n) s e r t is
   visit-collects (suc k) s n r t (Ok Stop, u, step, rest) = absurd (stop_goes step.0)
   visit-collects (suc k) s n r t (Ok Skip, u, step, rest) = absurd (skip_goes step.0)
   visit-collects (suc k) s n r t (Ok Continue, u, step, (q, v, turns, rest)) =

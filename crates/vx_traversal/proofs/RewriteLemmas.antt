@@ -55,11 +55,11 @@ module _ {S N E : Type 0} (Each : RewriteStep S N E) where
         subst P more (let Q : Bool → Type 0 = λ b. MapsInTurn Each (record { value = vs'; order = o; changed = b }) s (drop (i + 1) xs) r t in subst Q (sym (or-false ch)) rest))
 
     module _ (on : o ≡ Stop → ⊥) (s : S) (q : Walk (Transformed N) E) (u : S) (step : Each s x q u) where
-      -- a fault ends the walk
-      pub MapsInTurn-fault : (e : WalkError E) → q ≡ Err e → MapsInTurn Each (record { value = vs; order = o; changed = ch }) s (drop i xs) (Err e) u
-      MapsInTurn-fault e faults =
+      -- an error ends the walk
+      pub MapsInTurn-error : (e : WalkError E) → q ≡ Err e → MapsInTurn Each (record { value = vs; order = o; changed = ch }) s (drop i xs) (Err e) u
+      MapsInTurn-error e errors =
           MapsInTurn-at s q u (Err e) u (unless_stopped o on s x q u step)
-          (let P : Walk (Transformed N) E → Type 0 = λ p. WithValue {X = Transformed (List N)} (λ y. MapsInTurn Each (with_one (record { value = vs; order = o; changed = ch }) y) u (drop (i + 1) xs) (Err e) u) p u (Err e) u in subst P (sym faults) (refl, refl))
+          (let P : Walk (Transformed N) E → Type 0 = λ p. WithValue {X = Transformed (List N)} (λ y. MapsInTurn Each (with_one (record { value = vs; order = o; changed = ch }) y) u (drop (i + 1) xs) (Err e) u) p u (Err e) u in subst P (sym errors) (refl, refl))
 
       -- with a value it goes on
       pub MapsInTurn-next : (y : Transformed N) (vs' : List N) (ch' : Bool) → q ≡ Ok y → vs' ≡ vs ++ y.value ∷ [] → ch' ≡ (ch || y.changed) → (r : Walk (Transformed (List N)) E) (t : S) →
@@ -72,15 +72,15 @@ module _ {S N E : Type 0} (Each : RewriteStep S N E) where
           subst Q more (let R : Bool → Type 0 = λ b. MapsInTurn Each (record { value = vs'; order = y.order; changed = b }) u (drop (i + 1) xs) r t in subst R marks rest)))
 
 module _ {S N E : Type 0} (children : N → List N) (is_with : N → List N → N → Type 0) (Each : RewriteStep S N E) (s : S) (n : N) (r : Walk (Transformed N) E) (u : S) where
-  -- a fault among the children ends the walk
-  pub MapsChildren-fault : (e : WalkError E) → r ≡ Err e → MapsInTurn Each none_yet s (children n) (Err e) u → UnlessNoMemory r (MapsChildren children is_with Each s n r u)
-  MapsChildren-fault e is turns = unless r (MapsChildren children is_with Each s n r u) (Err e, turns, is)
+  -- an error among the children ends the walk
+  pub MapsChildren-error : (e : WalkError E) → r ≡ Err e → MapsInTurn Each none_yet s (children n) (Err e) u → UnlessNoMemory r (MapsChildren children is_with Each s n r u)
+  MapsChildren-error e is turns = unless r (MapsChildren children is_with Each s n r u) (Err e, turns, is)
 
   -- the children in turn, and then the rebuilt node
   pub MapsChildren-rebuilt : (m : Transformed (List N)) → MapsInTurn Each none_yet s (children n) (Ok m) u → UnlessNoMemory r (Rebuilds is_with n (Ok m) r) → UnlessNoMemory r (MapsChildren children is_with Each s n r u)
   MapsChildren-rebuilt m turns rebuilt = unless-map r (Rebuilds is_with n (Ok m) r) (MapsChildren children is_with Each s n r u) (λ b. (Ok m, turns, b)) rebuilt
 
--- what is said at a fault is said of an answer with that fault
+-- what is said at an error is said of an answer with that error
 pub unless-err : (T : Type 0) {X E : Type 0} (e : WalkError E) (r : Walk X E) (P Q : Type 0) → r ≡ Err e → (P → Q) → UnlessNoMemory {T = T} (Err e) P → UnlessNoMemory r Q
 unless-err T {X} {E} NoMemory r P Q is f p = let R : Walk X E → Type 0 = λ q. UnlessNoMemory q Q in subst R (sym is) tt
 unless-err T {X} {E} (Visit v) r P Q is f p = let R : Walk X E → Type 0 = λ q. UnlessNoMemory q Q in subst R (sym is) (f p)

@@ -27,10 +27,10 @@ module _ {S N E : Type 0} (Each : Step S N E) (ys : List N) (x : N) (rest : List
   first_step : (r : Result TraversalOrder E) (t : S) → EndsOrGoesOn (λ order. InTurn Each order u rest r t) q u r t → InTurn Each last s ys r t
   first_step r t w = let P : List N → Type 0 = λ zs. InTurn Each last s zs r t in subst P (sym is) (q, u, step, w)
 
-  -- a fault at the first ends the walk
-  pub InTurn-fault : (e : E) (r : Result TraversalOrder E) → q ≡ Err e → r ≡ Err e → InTurn Each last s ys r u
-  InTurn-fault e r faults answers =
-      first_step r u (let P : Result TraversalOrder E → Type 0 = λ p. EndsOrGoesOn (λ order. InTurn Each order u rest r u) p u r u in subst P (sym faults) (answers, refl))
+  -- an error at the first ends the walk
+  pub InTurn-error : (e : E) (r : Result TraversalOrder E) → q ≡ Err e → r ≡ Err e → InTurn Each last s ys r u
+  InTurn-error e r errors answers =
+      first_step r u (let P : Result TraversalOrder E → Type 0 = λ p. EndsOrGoesOn (λ order. InTurn Each order u rest r u) p u r u in subst P (sym errors) (answers, refl))
 
   -- Stop at the first ends the walk
   pub InTurn-stop : q ≡ Ok Stop → InTurn Each last s ys (Ok Stop) u

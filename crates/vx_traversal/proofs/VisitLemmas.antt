@@ -32,9 +32,9 @@ module _ {S N E : Type 0} (children : N → List N) (down up : Step S N E) (heig
   pub after-continue : (n : N) (q : Result TraversalOrder E) (v : S) (r : Result TraversalOrder E) (t : S) → q ≡ Ok Continue → up v n r t → AfterChildren children down up n q v r t
   after-continue n q v r t is step = subst (λ (q' : Result TraversalOrder E). AfterChildren children down up n q' v r t) (sym is) step
 
-  -- a fault among the children ends the visit
-  pub after-fault : (n : N) (q : Result TraversalOrder E) (v : S) (e : E) (r : Result TraversalOrder E) → q ≡ Err e → r ≡ Err e → AfterChildren children down up n q v r v
-  after-fault n q v e r is answers = subst (λ (q' : Result TraversalOrder E). AfterChildren children down up n q' v r v) (sym is) (answers, refl)
+  -- an error among the children ends the visit
+  pub after-error : (n : N) (q : Result TraversalOrder E) (v : S) (e : E) (r : Result TraversalOrder E) → q ≡ Err e → r ≡ Err e → AfterChildren children down up n q v r v
+  after-error n q v e r is answers = subst (λ (q' : Result TraversalOrder E). AfterChildren children down up n q' v r v) (sym is) (answers, refl)
 
   -- another order of the children is the node's
   ends : (n : N) (o : TraversalOrder) (v : S) → (o ≡ Continue → ⊥) → AfterChildren children down up n (Ok o) v (Ok o) v

@@ -26,14 +26,14 @@ abbrev pub FoldStep : Type 0 → Type 0 → Type 0 → Type 0 → Type 0 → Typ
 FoldStep S N C R E = S → C → N → Walk (FoldUp R) E → S → Type 0
 
 module _ {S R E : Type 0} where
-  -- a fault and Stop end the fold, and with a result it goes on
+  -- an error and Stop end the fold, and with a result it goes on
   abbrev pub WithResult : (R → Type 0) → Walk (FoldUp R) E → S → Walk (FoldUp R) E → S → Type 0
   WithResult GoesOn (Err e) s r t = (r ≡ Err e) × (t ≡ s)
   WithResult GoesOn (Ok (Stop x)) s r t = (r ≡ Ok (Stop x)) × (t ≡ s)
   WithResult GoesOn (Ok (Continue x)) s r t = GoesOn x
 
 module _ {S N C R E : Type 0} where
-  -- the nodes are folded in turn under one context until one answers Stop or a fault; then all results go up in their order
+  -- the nodes are folded in turn under one context until one answers Stop or an error; then all results go up in their order
   abbrev pub FoldsInTurn : FoldStep S N C R E → C → (S → List R → Walk (FoldUp R) E → S → Type 0) → List R → S → List N → Walk (FoldUp R) E → S → Type 0
   FoldsInTurn Each c GoesUp results s [] r t = GoesUp s results r t
   FoldsInTurn Each c GoesUp results s (n ∷ ns) r t = (q : Walk (FoldUp R) E) × (u : S) × Each s c n q u × WithResult (λ x. FoldsInTurn Each c GoesUp (results ++ x ∷ []) u ns r t) q u r t

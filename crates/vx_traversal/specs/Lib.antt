@@ -1,12 +1,11 @@
 pub mod Orders
 pub mod Visits
 pub mod Rewrites
+pub mod Reaches
 pub mod Folds
+pub mod Shapes
+pub mod ShapeLaws
 pub mod Containers
 pub mod Expressions
 pub mod ExpressionLaws
 pub mod References
-pub mod Numbers
-pub mod Zeros
-pub mod Entries
-pub mod Ones

@@ -33,7 +33,7 @@ abbrev mutual
   reference_names (select s e) = listed_names s ++ reference_names e
   reference_names (dynamic e op k t default) = reference_names e
 
-  -- the same of expressions in a row
+  -- the same of expressions in order
   pub names_in : Trees → List Bytes
   names_in no_trees = []
   names_in (tree e es) = reference_names e ++ names_in es

@@ -51,13 +51,13 @@ module _ {S N E : Type 0} where
   UnlessStopped Each Continue s n r t = Each s n r t
 
 module _ {S N X E : Type 0} where
-  -- a fault ends the walk, and with a value it goes on
+  -- an error ends the walk, and with a value it goes on
   abbrev pub WithValue : (Transformed N → Type 0) → Walk (Transformed N) E → S → Walk X E → S → Type 0
   WithValue GoesOn (Err e) s r t = (r ≡ Err e) × (t ≡ s)
   WithValue GoesOn (Ok y) s r t = GoesOn y
 
 module _ {S N E : Type 0} where
-  -- the values take their step in turn until one answers Stop or a fault; those after a Stop stay as they are
+  -- the values take their step in turn until one answers Stop or an error; those after a Stop stay as they are
   abbrev pub MapsInTurn : RewriteStep S N E → Transformed (List N) → S → List N → Walk (Transformed (List N)) E → S → Type 0
   MapsInTurn Each so_far s [] r t = (r ≡ Ok so_far) × (t ≡ s)
   MapsInTurn Each so_far s (n ∷ ns) r t = (q : Walk (Transformed N) E) × (u : S) × UnlessStopped Each so_far.order s n q u × WithValue (λ y. MapsInTurn Each (with_one so_far y) u ns r t) q u r t

@@ -11,13 +11,13 @@ Step S N E = S → N → Result TraversalOrder E → S → Type 0
 abbrev pub NoStep : {S N E : Type 0} → Step S N E
 NoStep s n r t = (r ≡ Ok Continue) × (t ≡ s)
 
--- what a call answers that tells no order: nothing, or the fault
+-- what a call answers that tells no order: nothing, or the error
 abbrev pub without_order : {E : Type 0} → Result TraversalOrder E → Result (Unit {0}) E
 without_order (Err e) = Err e
 without_order (Ok order) = Ok tt
 
 module _ {S E : Type 0} where
-  -- a fault ends the walk, Stop ends it too, and after another order it goes on from there
+  -- an error ends the walk, Stop ends it too, and after another order it goes on from there
   abbrev pub EndsOrGoesOn : (TraversalOrder → Type 0) → Result TraversalOrder E → S → Result TraversalOrder E → S → Type 0
   EndsOrGoesOn GoesOn (Err e) s r t = (r ≡ Err e) × (t ≡ s)
   EndsOrGoesOn GoesOn (Ok Stop) s r t = (r ≡ Ok Stop) × (t ≡ s)
@@ -25,7 +25,7 @@ module _ {S E : Type 0} where
   EndsOrGoesOn GoesOn (Ok Continue) s r t = GoesOn Continue
 
 module _ {S N E : Type 0} where
-  -- the nodes take their step in turn until one answers Stop or a fault; the order is the last answer, or `last` where there is none
+  -- the nodes take their step in turn until one answers Stop or an error; the order is the last answer, or `last` where there is none
   abbrev pub InTurn : Step S N E → TraversalOrder → S → List N → Result TraversalOrder E → S → Type 0
   InTurn Each last s [] r t = (r ≡ Ok last) × (t ≡ s)
   InTurn Each last s (n ∷ ns) r t = (q : Result TraversalOrder E) × (u : S) × Each s n q u × EndsOrGoesOn (λ order. InTurn Each order u ns r t) q u r t

@@ -1,5 +1,5 @@
 //! Containers of a node's children.
-ghost use Rattle.std.specs.Prelude.{◌≡◌, ◌++◌, ◌||◌, [], ◌∷◌, List, MatchOption, Result, map};
+ghost use Rattle.std.specs.Prelude.{◌≡◌, ◌++◌, ◌||◌, [], ◌∷◌, List, MatchOption, Result, IfOk, map};
 ghost use Rattle.std.specs.List.{flat_map};
 ghost use Rattle.std.proofs.Math.ListN.{drop};
 ghost use Rattle.std.specs.Fn.{CalledAt};
@@ -7,6 +7,9 @@ ghost use Rattle.vx_traversal.specs.declared.errors.WalkError.{WalkError};
 ghost use Rattle.vx_traversal.specs.declared.transform.Transformed.{Transformed};
 ghost use Rattle.vx_traversal.specs.Containers.{MapsElements, left_of_each, left_of_pair};
 ghost use Rattle.vx_traversal.specs.Rewrites.{CalledWith, UnlessNoMemory};
+ghost use Rattle.vx_traversal.specs.Shapes.{Shape, made_of};
+ghost use Rattle.vx_traversal.specs.ShapeLaws.{pair-kept, each-kept};
+ghost use Rattle.std.proofs.Common.{ap};
 ghost use Rattle.vx_traversal.specs.Visits.{InTurn};
 
 use crate::errors::Walk;
@@ -46,28 +49,35 @@ impl<T, E, F: FnMut(T) -> Walk<Transformed<T>, E>> ElementMapper<ByCall, T> for 
     }
 }
 
-/// A container of elements in order.
-pub trait NodeContainer<'a, T: 'a>: Sized + Drop {
-    /// A place between two elements.
-    type Cursor: Drop;
-
+/// What a container holds, as the spec sees it.
+pub trait Holds<T> {
     /// The elements in order.
     ghost elements: { Self → List T };
+
+    /// Which containers it is made of, whatever elements they hold.
+    ghost shape: { Self → Shape };
+}
+
+/// A container of elements in order.
+pub trait NodeContainer<'a, T: 'a>: Holds<T> + Sized + Drop {
+    /// A place between two elements.
+    type Cursor: Drop;
 
     /// The elements from a place on.
     ghost left: { Self → Self.Cursor → List T };
 
     /// The place before the first element.
     fn cursor() -> Self::Cursor
-        ensures { (it : Self) → left it result ≡ elements it };
+        ensures { (it : Self) → left it result ≡ Self.elements it };
 
     /// The element at the place, which moves past it; none at the end.
     fn next_element(&'a self, cursor: &mut Self::Cursor) -> Option<&'a T>
         ensures { MatchOption result (left self.entry.now cursor.old ≡ []) (λ element. left self.entry.now cursor.old ≡ element.now ∷ left self.entry.now cursor.new) };
 
     /// The container with what `f` gives for its elements: they are handed over in order until `f`
-    /// answers Stop or a fault, and those after a Stop stay as they are, also where `last`, the
+    /// answers Stop or an error, and those after a Stop stay as they are, also where `last`, the
     /// answer before them, is a Stop. The order is the last answer, or `last` without elements.
+    /// The shape stays.
     fn map_elements_after<M, F: ElementMapper<M, T>>(
         self,
         alloc: Global,
@@ -75,10 +85,11 @@ pub trait NodeContainer<'a, T: 'a>: Sized + Drop {
         f: &mut F,
     ) -> Walk<Transformed<Self>, F::Error>
         requires { F.ready f.old }
-        ensures mapped { UnlessNoMemory result (MapsElements elements F.maps last f.old self result f.new) }
+        ensures mapped { UnlessNoMemory result (MapsElements Self.elements F.maps last f.old self result f.new) }
+        ensures shaped { IfOk result (λ mapped. Self.shape mapped.value ≡ Self.shape self) }
         ensures again { F.ready f.new };
 
-    /// Hands the elements over in order until `f` answers Stop or a fault: the order is the last
+    /// Hands the elements over in order until `f` answers Stop or an error: the order is the last
     /// answer, or Continue without elements.
     final fn apply_elements<E, F: FnMut(&'a T) -> Result<TraversalOrder, E>>(
         &'a self,
@@ -87,7 +98,7 @@ pub trait NodeContainer<'a, T: 'a>: Sized + Drop {
     where
         F: Drop,
         requires { F.IsAlwaysCallable f }
-        ensures { (end : F) × InTurn (CalledAt F.FnMut) TraversalOrder.Continue f (elements self.entry.now) result end }
+        ensures { (end : F) × InTurn (CalledAt F.FnMut) TraversalOrder.Continue f (Self.elements self.entry.now) result end }
     {
         let mut last = TraversalOrder::Continue;
         let mut cursor = Self::cursor();
@@ -101,8 +112,8 @@ pub trait NodeContainer<'a, T: 'a>: Sized + Drop {
     }
 
     /// The container with what `f` gives for its elements: they are handed over in order until `f`
-    /// answers Stop or a fault, and those after a Stop stay as they are. The order is the last
-    /// answer, or Continue without elements.
+    /// answers Stop or an error, and those after a Stop stay as they are. The order is the last
+    /// answer, or Continue without elements. The shape stays.
     final fn map_elements<E, F: FnMut(T) -> Walk<Transformed<T>, E>>(
         self,
         alloc: Global,
@@ -111,16 +122,21 @@ pub trait NodeContainer<'a, T: 'a>: Sized + Drop {
     where
         F: Drop,
         requires { F.IsAlwaysCallable f }
-        ensures { (end : F) × UnlessNoMemory result (MapsElements elements (CalledWith F.FnMut) TraversalOrder.Continue f self result end) }
+        ensures mapped { (end : F) × UnlessNoMemory result (MapsElements Self.elements (CalledWith F.FnMut) TraversalOrder.Continue f self result end) }
+        ensures shaped { IfOk result (λ mapped. Self.shape mapped.value ≡ Self.shape self) }
     {
         self.map_elements_after::<ByCall, F>(alloc, TraversalOrder::Continue, &mut f)
     }
 }
 
+impl<T, C: Holds<T>> Holds<T> for Box<C> {
+    ghost elements = { λ it. C.elements it.value };
+
+    ghost shape = { λ it. C.shape it.value };
+}
+
 impl<'a, T: 'a, C: NodeContainer<'a, T> + 'a> NodeContainer<'a, T> for Box<C> {
     type Cursor = C::Cursor;
-
-    ghost elements = { λ it. C.elements it.value };
 
     ghost left = { λ it cursor. C.left it.value cursor };
 
@@ -150,16 +166,36 @@ impl<'a, T: 'a, C: NodeContainer<'a, T> + 'a> NodeContainer<'a, T> for Box<C> {
     }
 }
 
-/// A value whose clones equal it.
-pub trait EqualClone: Clone {
-    /// A clone equals its original.
-    ghost clone_is_equal: { (it copy : Self) → Self.is_clone it copy → copy ≡ it };
+/// A container whose clones hold equal elements in the same shape.
+pub trait CloneContainer<T>: Holds<T> + Clone {
+    /// A clone has the elements and the shape of its original.
+    ghost clone_keeps: { (it copy : Self) → Self.is_clone it copy → (Self.elements copy ≡ Self.elements it) × (Self.shape copy ≡ Self.shape it) };
 }
 
-impl<'a, T: 'a, C: NodeContainer<'a, T> + EqualClone + 'a> NodeContainer<'a, T> for Rc<C> {
-    type Cursor = C::Cursor;
+impl<T, C: CloneContainer<T>> CloneContainer<T> for Box<C> {
+    ghost clone_keeps = { λ it copy is. C.CloneContainer.clone_keeps it.value copy.value is };
+}
 
+impl<T, C: CloneContainer<T>> CloneContainer<T> for Rc<C> {
+    ghost clone_keeps = { λ it copy is. (ap C.elements is, ap C.shape is) };
+}
+
+impl<T, C: CloneContainer<T>> CloneContainer<T> for (C, C) {
+    ghost clone_keeps = { λ it copy is. pair-kept C.elements C.shape C.is_clone C.CloneContainer.clone_keeps it copy is.0 is.1 };
+}
+
+impl<T, C: CloneContainer<T>> CloneContainer<T> for Vec<C> {
+    ghost clone_keeps = { λ it copy is. each-kept C.elements C.shape C.is_clone C.CloneContainer.clone_keeps it.items copy.items is.0 };
+}
+
+impl<T, C: Holds<T>> Holds<T> for Rc<C> {
     ghost elements = { λ it. C.elements it.value };
+
+    ghost shape = { λ it. C.shape it.value };
+}
+
+impl<'a, T: 'a, C: NodeContainer<'a, T> + CloneContainer<T> + 'a> NodeContainer<'a, T> for Rc<C> {
+    type Cursor = C::Cursor;
 
     ghost left = { λ it cursor. C.left it.value cursor };
 
@@ -196,10 +232,14 @@ pub struct PairCursor<K> {
     inner: K,
 }
 
+impl<T, C: Holds<T>> Holds<T> for (C, C) {
+    ghost elements = { λ it. C.elements it.0 ++ C.elements it.1 };
+
+    ghost shape = { λ it. made_of (C.shape it.0 ∷ C.shape it.1 ∷ []) };
+}
+
 impl<'a, T: 'a, C: NodeContainer<'a, T> + 'a> NodeContainer<'a, T> for (C, C) {
     type Cursor = PairCursor<C::Cursor>;
-
-    ghost elements = { λ it. C.elements it.0 ++ C.elements it.1 };
 
     ghost left = { λ it cursor. left_of_pair C.left C.elements cursor.in_second cursor.inner it.0 it.1 };
 
@@ -253,10 +293,14 @@ pub struct EachCursor<K> {
     inner: K,
 }
 
+impl<T, C: Holds<T>> Holds<T> for Vec<C> {
+    ghost elements = { λ it. flat_map C.elements it.items };
+
+    ghost shape = { λ it. made_of (map C.shape it.items) };
+}
+
 impl<'a, T: 'a, C: NodeContainer<'a, T> + 'a> NodeContainer<'a, T> for Vec<C> {
     type Cursor = EachCursor<C::Cursor>;
-
-    ghost elements = { λ it. flat_map C.elements it.items };
 
     ghost left = { λ it cursor. left_of_each C.left C.elements cursor.inner (drop cursor.index it.items) };
 
@@ -321,7 +365,7 @@ pub trait NodeRefContainer<'a, T: 'a>: Sized {
     fn next_ref_element(&self, cursor: &mut Self::Cursor) -> Option<&'a T>
         ensures { MatchOption result (left self.now cursor.old ≡ []) (λ element. left self.now cursor.old ≡ element.now ∷ left self.now cursor.new) };
 
-    /// Hands the elements over in order until `f` answers Stop or a fault: the order is the last
+    /// Hands the elements over in order until `f` answers Stop or an error: the order is the last
     /// answer, or Continue without elements.
     final fn apply_ref_elements<E, F: FnMut(&'a T) -> Result<TraversalOrder, E>>(
         &self,

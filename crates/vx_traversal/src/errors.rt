@@ -9,7 +9,7 @@ use vx_dtype::NoMemory;
 pub enum WalkError<E> {
     /// Memory ran out; of the state of the visitor, rewriter, folder or closure nothing is said.
     NoMemory,
-    /// Exactly where a visitor, rewriter, folder or closure answered this fault. Nothing was
+    /// Exactly where a visitor, rewriter, folder or closure answered this error. Nothing was
     /// visited after it.
     Visit(E),
 }

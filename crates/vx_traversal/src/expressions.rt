@@ -1,6 +1,6 @@
 //! Expressions as nodes.
 
-use crate::containers::{ElementMapper, EqualClone, NodeContainer, map_single};
+use crate::containers::{CloneContainer, ElementMapper, Holds, NodeContainer, map_single};
 use crate::errors::Walk;
 use crate::nodes::Node;
 use crate::order::TraversalOrder;
@@ -50,13 +50,19 @@ impl Node for ExprRef {
 }
 
 /// An expression is a container of itself alone.
-impl<'a> NodeContainer<'a, ExprRef> for ExprRef {
+impl Holds<ExprRef> for ExprRef {
     ghost use Rattle.std.specs.Prelude.{[], ◌∷◌};
+    ghost use Rattle.vx_traversal.specs.Shapes.{one_element};
+
+    ghost elements = { λ expr. expr ∷ [] };
+
+    ghost shape = { λ _. one_element };
+}
+
+impl<'a> NodeContainer<'a, ExprRef> for ExprRef {
     ghost use Rattle.vx_traversal.specs.Containers.{left_of_one};
 
     type Cursor = bool;
-
-    ghost elements = { λ expr. expr ∷ [] };
 
     ghost left = { λ expr passed. left_of_one passed expr };
 
@@ -82,6 +88,9 @@ impl<'a> NodeContainer<'a, ExprRef> for ExprRef {
     }
 }
 
-impl EqualClone for ExprRef {
-    ghost clone_is_equal = { λ expr copy is. is };
+impl CloneContainer<ExprRef> for ExprRef {
+    ghost use Rattle.std.specs.Prelude.{[], ◌∷◌};
+    ghost use Rattle.std.proofs.Common.{ap, refl};
+
+    ghost clone_keeps = { λ expr copy is. (ap (λ e. e ∷ []) is, refl) };
 }

@@ -21,7 +21,7 @@ pub trait NodeExt: Node {
     /// children are left out and up follows; after Continue the children are visited in order
     /// until one has the order Stop. Up follows the children where the last of them has the order
     /// Continue, or there are none, and its answer is the node's order; else the last child's
-    /// order is. A fault of the visitor ends the visit.
+    /// order is. An error of the visitor ends the visit.
     final fn accept<'a, V: NodeVisitor<'a, NodeTy = Self>>(
         &'a self,
         visitor: &mut V,
@@ -36,7 +36,7 @@ pub trait NodeExt: Node {
     /// rewritten in order until one has the order Stop, and those after it stay. The value gets the
     /// new children where one was changed. Up follows the children where the last of them has the
     /// order Continue, or there are none; else the last child's order is the node's. It is changed
-    /// where any answer said so. A fault of the rewriter ends the rewrite.
+    /// where any answer said so. An error of the rewriter ends the rewrite.
     final fn rewrite<R: NodeRewriter<NodeTy = Self>>(
         self,
         alloc: Global,
@@ -80,7 +80,7 @@ pub trait NodeExt: Node {
     /// Folds the tree under a context: down on the node first. Skip gives the node's result, with no
     /// children and no up; Stop ends the whole fold, also from within a child; after Continue the
     /// children are folded in order under the context that it holds, and up gets their results in
-    /// that order and the context that the node's own down got. A fault of the folder ends the fold.
+    /// that order and the context that the node's own down got. An error of the folder ends the fold.
     final fn fold_context<F: NodeFolderContext<NodeTy = Self>>(
         self,
         alloc: Global,

@@ -3,37 +3,23 @@
 #![tactic(auto)]
 
 mod containers;
-#[cfg(test)]
-mod entries;
 mod errors;
-#[cfg(test)]
-mod expression_tests;
 mod expressions;
 mod ext;
 mod fold;
 mod folding;
 mod nodes;
-#[cfg(test)]
-mod numbers;
-#[cfg(test)]
-mod ones;
 mod order;
 mod references;
 mod rewriter;
 mod rewriting;
-#[cfg(test)]
-mod signal_tests;
-#[cfg(test)]
-mod tests;
 mod transform;
 mod visitor;
 mod walking;
-#[cfg(test)]
-mod zeros;
 
 pub use containers::{
-    ByCall, EachCursor, ElementMapper, EqualClone, NodeContainer, NodeRefContainer, PairCursor,
-    map_single,
+    ByCall, CloneContainer, EachCursor, ElementMapper, Holds, NodeContainer, NodeRefContainer,
+    PairCursor, map_single,
 };
 pub use errors::{Walk, WalkError};
 pub use ext::NodeExt;

@@ -6,6 +6,7 @@ ghost use Rattle.vx_traversal.specs.Visits.{InTurn};
 
 use crate::errors::Walk;
 use crate::order::TraversalOrder;
+use crate::rewriting::{ByClosureUp, Reach, rewrite_children};
 use crate::transform::Transformed;
 use std::alloc::Global;
 use vx_dtype::Mem;
@@ -45,7 +46,7 @@ pub trait Node: Sized + Clone {
     /// A clone equals its original.
     ghost clone_is_equal: { (node copy : Self) → Self.is_clone node copy → copy ≡ node };
 
-    /// Hands the children over in order until `f` answers Stop or a fault: the order is the last
+    /// Hands the children over in order until `f` answers Stop or an error: the order is the last
     /// answer, or Continue without children.
     final fn apply_children<'a, E, F: FnMut(&'a Self) -> Result<TraversalOrder, E>>(
         &'a self,
@@ -81,7 +82,7 @@ pub trait Node: Sized + Clone {
     }
 
     /// The node with what `f` gives for its children: they are handed over in order until `f`
-    /// answers Stop or a fault, and those after a Stop stay as they are. The node gets the new
+    /// answers Stop or an error, and those after a Stop stay as they are. The node gets the new
     /// children where one was changed, else it stays; the order is the last answer, or Continue
     /// without children.
     final fn map_children<E, F: FnMut(Self) -> Walk<Transformed<Self>, E>>(
@@ -94,21 +95,7 @@ pub trait Node: Sized + Clone {
         requires { F.IsAlwaysCallable f }
         ensures { (last : F) × UnlessNoMemory result (MapsChildren children is_with (CalledWith F.FnMut) f self result last) }
     {
-        let mut values = Vec::new(alloc);
-        let mut order = TraversalOrder::Continue;
-        let mut changed = false;
-        for i in 0..self.children_count() {
-            let child = clone_child(&self, i)?;
-            if let TraversalOrder::Stop = order {
-                values.push(child)?;
-                continue;
-            }
-            let mapped = f(child)?;
-            values.push(mapped.value)?;
-            order = mapped.order;
-            changed = changed | mapped.changed;
-        }
-        rebuild(self, alloc, values, order, changed)
+        rewrite_children::<ByClosureUp, Self, F>(self, alloc, Reach::Child, &mut f)
     }
 }
 

@@ -1,8 +1,10 @@
-//! The one recursion of all rewrites, over the steps of a rewriter or of a closure.
+//! The one recursion of all rewrites, over the steps of a rewriter or of a closure, and its loop
+//! over a node's children, which maps them alone too.
 ghost use Rattle.std.specs.Prelude.{◌≡◌, ◌<◌, Result, ⊤, length};
 ghost use Rattle.vx_traversal.specs.declared.errors.WalkError.{WalkError};
 ghost use Rattle.vx_traversal.specs.declared.transform.Transformed.{Transformed};
 ghost use Rattle.vx_traversal.specs.Rewrites.{CalledWith, GoesUp, IsNoHigher, KeepsHeight, KeepsValue, MapsChildren, Rewrites, UnlessNoMemory};
+ghost use Rattle.vx_traversal.specs.Reaches.{reaching};
 
 use crate::errors::Walk;
 use crate::nodes::{Node, clone_child, rebuild};
@@ -98,6 +100,15 @@ impl<N: Node, E, F: FnMut(N) -> Walk<Transformed<N>, E>> Rewriting<ByClosureUp, 
     }
 }
 
+// How far a walk over a node's children reaches.
+#[derive(Clone, Copy)]
+pub(crate) enum Reach {
+    // Each child takes its step alone.
+    Child,
+    // Each child is rewritten with all that is below it.
+    Below,
+}
+
 #[cycle(rewrite)]
 pub(crate) fn rewrite_node<M, N: Node, R: Rewriting<M, N>>(
     node: N,
@@ -113,7 +124,7 @@ pub(crate) fn rewrite_node<M, N: Node, R: Rewriting<M, N>>(
         TraversalOrder::Stop => Ok(given),
         TraversalOrder::Skip => rewrite_up(given.value, given.changed, rewriter),
         TraversalOrder::Continue => {
-            let mapped = rewrite_children(given.value, alloc, rewriter)?;
+            let mapped = rewrite_children(given.value, alloc, Reach::Below, rewriter)?;
             let changed = given.changed | mapped.changed;
             match mapped.order {
                 TraversalOrder::Continue => rewrite_up(mapped.value, changed, rewriter),
@@ -128,13 +139,14 @@ pub(crate) fn rewrite_node<M, N: Node, R: Rewriting<M, N>>(
 }
 
 #[cycle(rewrite)]
-fn rewrite_children<M, N: Node, R: Rewriting<M, N>>(
+pub(crate) fn rewrite_children<M, N: Node, R: Rewriting<M, N>>(
     node: N,
     alloc: Global,
+    reach: Reach,
     rewriter: &mut R,
 ) -> Walk<Transformed<N>, R::Error>
     requires { R.ready rewriter.old }
-    ensures rewrites { UnlessNoMemory result (MapsChildren N.children N.is_with (Rewrites N.children N.is_with R.goes_down R.goes_up N.height) rewriter.old node result rewriter.new) }
+    ensures rewrites { UnlessNoMemory result (MapsChildren N.children N.is_with (reaching reach R.goes_up (Rewrites N.children N.is_with R.goes_down R.goes_up N.height)) rewriter.old node result rewriter.new) }
     ensures again { R.ready rewriter.new }
 {
     let mut values = Vec::new(alloc);
@@ -146,12 +158,30 @@ fn rewrite_children<M, N: Node, R: Rewriting<M, N>>(
             values.push(child)?;
             continue;
         }
-        let mapped = rewrite_node(child, alloc, rewriter)?;
+        let mapped = rewrite_child(child, alloc, reach, rewriter)?;
         values.push(mapped.value)?;
         order = mapped.order;
         changed = changed | mapped.changed;
     }
     rebuild(node, alloc, values, order, changed)
+}
+
+// The step of one child, alone or with all that is below it.
+#[cycle(rewrite)]
+fn rewrite_child<M, N: Node, R: Rewriting<M, N>>(
+    child: N,
+    alloc: Global,
+    reach: Reach,
+    rewriter: &mut R,
+) -> Walk<Transformed<N>, R::Error>
+    requires { R.ready rewriter.old }
+    ensures rewrites { UnlessNoMemory result (reaching reach R.goes_up (Rewrites N.children N.is_with R.goes_down R.goes_up N.height) rewriter.old child result rewriter.new) }
+    ensures again { R.ready rewriter.new }
+{
+    match reach {
+        Reach::Child => rewriter.go_up(child),
+        Reach::Below => rewrite_node(child, alloc, rewriter),
+    }
 }
 
 // Up on the value, changed also where a value before it was.

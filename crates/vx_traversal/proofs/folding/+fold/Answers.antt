@@ -3,7 +3,7 @@ use Rattle.vx_traversal.specs.declared.fold.FoldUp.{FoldUp}
 use Rattle.vx_traversal.specs.declared.fold.FoldUp.TheVariants.{Stop}
 use Rattle.vx_traversal.specs.Folds.{AfterDown, FoldsInTurn, FoldsUnder}
 use Rattle.vx_traversal.proofs.RewriteLemmas.{unless, unless-err, unless-map}
-use Rattle.vx_traversal.proofs.FoldLemmas.{FoldsInTurn-end, FoldsInTurn-fault, FoldsInTurn-stop, FoldsInTurn-next, FoldsUnder-after}
+use Rattle.vx_traversal.proofs.FoldLemmas.{FoldsInTurn-end, FoldsInTurn-error, FoldsInTurn-stop, FoldsInTurn-next, FoldsUnder-after}
 use Rattle.vx_traversal.proofs.folding.+fold.Goals as goal
 
 pub fold_children-returns-in_err-given : goal.fold_children-returns-in_err-given
@@ -12,7 +12,7 @@ fold_children-returns-in_err-given g t c =
     unless-err (FoldUp g.row.F-Result.Denot) c.in_err-given.field-0.0 c.from_residual-in_err-given.result
     (FoldsUnder g.F.NodeTy.Node.children g.F.Folding.goes_down g.F.Folding.goes_up g.F.NodeTy.Node.height c.loop-i.folder c.args.inner.now c.in_ok-child.child (Err c.in_err-given.field-0.0) c.fold_node.new.folder)
     (FoldsInTurn (FoldsUnder g.F.NodeTy.Node.children g.F.Folding.goes_down g.F.Folding.goes_up g.F.NodeTy.Node.height) c.args.inner.now (λ state results. g.F.Folding.goes_up state c.args.node c.args.ctx.now results) [] c.args.folder.now (g.F.NodeTy.Node.children c.args.node) c.from_residual-in_err-given.result c.fold_node.new.folder) is
-    (λ step. c.loop-i.invariant c.from_residual-in_err-given.result c.fold_node.new.folder (FoldsInTurn-fault (FoldsUnder g.F.NodeTy.Node.children g.F.Folding.goes_down g.F.Folding.goes_up g.F.NodeTy.Node.height) c.args.inner.now (λ state results. g.F.Folding.goes_up state c.args.node c.args.ctx.now results) (g.F.NodeTy.Node.children c.args.node) c.loop-i.i c.loop-i.results.items c.loop-i.folder c.in_ok-child.child c.in_ok-child.ensures.child (Err c.in_err-given.field-0.0) c.fold_node.new.folder step c.in_err-given.field-0.0 c.from_residual-in_err-given.result refl is))
+    (λ step. c.loop-i.invariant c.from_residual-in_err-given.result c.fold_node.new.folder (FoldsInTurn-error (FoldsUnder g.F.NodeTy.Node.children g.F.Folding.goes_down g.F.Folding.goes_up g.F.NodeTy.Node.height) c.args.inner.now (λ state results. g.F.Folding.goes_up state c.args.node c.args.ctx.now results) (g.F.NodeTy.Node.children c.args.node) c.loop-i.i c.loop-i.results.items c.loop-i.folder c.in_ok-child.child c.in_ok-child.ensures.child (Err c.in_err-given.field-0.0) c.fold_node.new.folder step c.in_err-given.field-0.0 c.from_residual-in_err-given.result refl is))
     c.in_err-given.ensures
 
 pub fold_children-returns-in-Stop : goal.fold_children-returns-in-Stop

@@ -1,36 +1,44 @@
-use Rattle.std.proofs.Common.{◌≡◌, refl, rules, arith, Ok, Err, ◌≤◌, length, length-append}
+use Rattle.std.proofs.Common.{◌≡◌, refl, sym, subst, rules, arith, Ok, Err, ◌≤◌, length, length-append}
 use Rattle.vx_traversal.specs.declared.transform.Transformed.{Transformed}
-use Rattle.vx_traversal.specs.Rewrites.{Rewrites, MapsChildren}
-use Rattle.vx_traversal.proofs.RewriteLemmas.{unless, unless-err, MapsChildren-rebuilt, MapsInTurn-kept, MapsInTurn-fault, MapsInTurn-next, MapsInTurn-end, Rewrites-through, after-continue, after-other}
+use Rattle.vx_traversal.specs.declared.rewriting.Reach.{Reach}
+use Rattle.vx_traversal.specs.Reaches.{reaching}
+use Rattle.vx_traversal.specs.Rewrites.{Rewrites, MapsChildren, UnlessNoMemory}
+use Rattle.vx_traversal.proofs.RewriteLemmas.{unless, unless-err, MapsChildren-rebuilt, MapsInTurn-kept, MapsInTurn-error, MapsInTurn-next, MapsInTurn-end, Rewrites-through, after-continue, after-other}
 use Rattle.vx_traversal.proofs.rewriting.+rewrite.Goals as goal
 
 pub rewrite_children-loop-i-preserved-in-Stop : goal.rewrite_children-loop-i-preserved-in-Stop
 rewrite_children-loop-i-preserved-in-Stop g t c = record {
   again = c.loop-i.invariant.again;
   as_many = simp (c.in_ok-push.ensures.items, length-append) (omega (arith, c.loop-i.invariant.as_many));
-  so_far = λ r u rest. c.loop-i.invariant.so_far r u (MapsInTurn-kept (Rewrites g.N.Node.children g.N.Node.is_with g.R.Rewriting.goes_down g.R.Rewriting.goes_up g.N.Node.height) (g.N.Node.children c.args.node) c.loop-i.i c.in_ok-child.child c.in_ok-child.ensures.child c.loop-i.values.items c.loop-i.order c.loop-i.changed _ c.loop-i.rewriter r u c.in-Stop.is c.in_ok-push.ensures.items rest);
+  so_far = λ r u rest. c.loop-i.invariant.so_far r u (MapsInTurn-kept (reaching c.args.reach g.R.Rewriting.goes_up (Rewrites g.N.Node.children g.N.Node.is_with g.R.Rewriting.goes_down g.R.Rewriting.goes_up g.N.Node.height)) (g.N.Node.children c.args.node) c.loop-i.i c.in_ok-child.child c.in_ok-child.ensures.child c.loop-i.values.items c.loop-i.order c.loop-i.changed _ c.loop-i.rewriter r u c.in-Stop.is c.in_ok-push.ensures.items rest);
 }
 
 pub rewrite_children-returns-in_err-mapped-clause-rewrites : goal.rewrite_children-returns-in_err-mapped-clause-rewrites
 rewrite_children-returns-in_err-mapped-clause-rewrites g t c =
     let is : c.from_residual-in_err-mapped.result ≡ Err c.in_err-mapped.field-0.0 = search rules in
     unless-err (Transformed g.row.N.Denot) c.in_err-mapped.field-0.0 c.from_residual-in_err-mapped.result
-    (Rewrites g.N.Node.children g.N.Node.is_with g.R.Rewriting.goes_down g.R.Rewriting.goes_up g.N.Node.height c.loop-i.rewriter c.in_ok-child.child (Err c.in_err-mapped.field-0.0) c.rewrite_node.new.rewriter)
-    (MapsChildren g.N.Node.children g.N.Node.is_with (Rewrites g.N.Node.children g.N.Node.is_with g.R.Rewriting.goes_down g.R.Rewriting.goes_up g.N.Node.height) c.args.rewriter.now c.args.node c.from_residual-in_err-mapped.result c.rewrite_node.new.rewriter) is
-    (λ step. (Err c.in_err-mapped.field-0.0, c.loop-i.invariant.so_far _ _ (MapsInTurn-fault (Rewrites g.N.Node.children g.N.Node.is_with g.R.Rewriting.goes_down g.R.Rewriting.goes_up g.N.Node.height) (g.N.Node.children c.args.node) c.loop-i.i c.in_ok-child.child c.in_ok-child.ensures.child c.loop-i.values.items c.loop-i.order c.loop-i.changed c.in_default.not-Stop c.loop-i.rewriter (Err c.in_err-mapped.field-0.0) c.rewrite_node.new.rewriter step c.in_err-mapped.field-0.0 refl), is))
+    (reaching c.args.reach g.R.Rewriting.goes_up (Rewrites g.N.Node.children g.N.Node.is_with g.R.Rewriting.goes_down g.R.Rewriting.goes_up g.N.Node.height) c.loop-i.rewriter c.in_ok-child.child (Err c.in_err-mapped.field-0.0) c.rewrite_child.new.rewriter)
+    (MapsChildren g.N.Node.children g.N.Node.is_with (reaching c.args.reach g.R.Rewriting.goes_up (Rewrites g.N.Node.children g.N.Node.is_with g.R.Rewriting.goes_down g.R.Rewriting.goes_up g.N.Node.height)) c.args.rewriter.now c.args.node c.from_residual-in_err-mapped.result c.rewrite_child.new.rewriter) is
+    (λ step. (Err c.in_err-mapped.field-0.0, c.loop-i.invariant.so_far _ _ (MapsInTurn-error (reaching c.args.reach g.R.Rewriting.goes_up (Rewrites g.N.Node.children g.N.Node.is_with g.R.Rewriting.goes_down g.R.Rewriting.goes_up g.N.Node.height)) (g.N.Node.children c.args.node) c.loop-i.i c.in_ok-child.child c.in_ok-child.ensures.child c.loop-i.values.items c.loop-i.order c.loop-i.changed c.in_default.not-Stop c.loop-i.rewriter (Err c.in_err-mapped.field-0.0) c.rewrite_child.new.rewriter step c.in_err-mapped.field-0.0 refl), is))
     c.in_err-mapped.ensures.rewrites
 
 pub rewrite_children-loop-i-preserved : goal.rewrite_children-loop-i-preserved
 rewrite_children-loop-i-preserved g t c = record {
-  again = c.rewrite_node.ensures.again;
+  again = c.rewrite_child.ensures.again;
   as_many = simp (c.in_ok-push-2.ensures.items, length-append) (omega (arith, c.loop-i.invariant.as_many));
-  so_far = λ r u rest. c.loop-i.invariant.so_far r u (MapsInTurn-next (Rewrites g.N.Node.children g.N.Node.is_with g.R.Rewriting.goes_down g.R.Rewriting.goes_up g.N.Node.height) (g.N.Node.children c.args.node) c.loop-i.i c.in_ok-child.child c.in_ok-child.ensures.child c.loop-i.values.items c.loop-i.order c.loop-i.changed c.in_default.not-Stop c.loop-i.rewriter (Ok c.in_ok-mapped.mapped) c.rewrite_node.new.rewriter c.in_ok-mapped.ensures.rewrites c.in_ok-mapped.mapped _ _ refl c.in_ok-push-2.ensures.items refl r u rest);
+  so_far = λ r u rest. c.loop-i.invariant.so_far r u (MapsInTurn-next (reaching c.args.reach g.R.Rewriting.goes_up (Rewrites g.N.Node.children g.N.Node.is_with g.R.Rewriting.goes_down g.R.Rewriting.goes_up g.N.Node.height)) (g.N.Node.children c.args.node) c.loop-i.i c.in_ok-child.child c.in_ok-child.ensures.child c.loop-i.values.items c.loop-i.order c.loop-i.changed c.in_default.not-Stop c.loop-i.rewriter (Ok c.in_ok-mapped.mapped) c.rewrite_child.new.rewriter c.in_ok-mapped.ensures.rewrites c.in_ok-mapped.mapped _ _ refl c.in_ok-push-2.ensures.items refl r u rest);
 }
 
 pub rewrite_children-returns-clause-rewrites : goal.rewrite_children-returns-clause-rewrites
 rewrite_children-returns-clause-rewrites g t c =
     let past : length (g.N.Node.children c.args.node) ≤ c.loop-i.i = omega (arith, c.loop-i-test.false, c.children_count-i-end.ensures) in
-    MapsChildren-rebuilt g.N.Node.children g.N.Node.is_with (Rewrites g.N.Node.children g.N.Node.is_with g.R.Rewriting.goes_down g.R.Rewriting.goes_up g.N.Node.height) c.args.rewriter.now c.args.node c.rebuild.result c.loop-i.rewriter (record { value = c.loop-i.values.items; order = c.loop-i.order; changed = c.loop-i.changed }) (c.loop-i.invariant.so_far _ _ (MapsInTurn-end (Rewrites g.N.Node.children g.N.Node.is_with g.R.Rewriting.goes_down g.R.Rewriting.goes_up g.N.Node.height) (g.N.Node.children c.args.node) c.loop-i.i _ c.loop-i.rewriter past)) c.rebuild.ensures
+    MapsChildren-rebuilt g.N.Node.children g.N.Node.is_with (reaching c.args.reach g.R.Rewriting.goes_up (Rewrites g.N.Node.children g.N.Node.is_with g.R.Rewriting.goes_down g.R.Rewriting.goes_up g.N.Node.height)) c.args.rewriter.now c.args.node c.rebuild.result c.loop-i.rewriter (record { value = c.loop-i.values.items; order = c.loop-i.order; changed = c.loop-i.changed }) (c.loop-i.invariant.so_far _ _ (MapsInTurn-end (reaching c.args.reach g.R.Rewriting.goes_up (Rewrites g.N.Node.children g.N.Node.is_with g.R.Rewriting.goes_down g.R.Rewriting.goes_up g.N.Node.height)) (g.N.Node.children c.args.node) c.loop-i.i _ c.loop-i.rewriter past)) c.rebuild.ensures
+
+pub rewrite_child-returns-in-Child-clause-rewrites : goal.rewrite_child-returns-in-Child-clause-rewrites
+rewrite_child-returns-in-Child-clause-rewrites g t c =
+    let P : Reach → Type 0 =
+    λ reach. UnlessNoMemory c.go_up.result (reaching reach g.R.Rewriting.goes_up (Rewrites g.N.Node.children g.N.Node.is_with g.R.Rewriting.goes_down g.R.Rewriting.goes_up g.N.Node.height) c.args.rewriter.now c.args.child c.go_up.result c.go_up.new.self) in
+    subst P (sym c.in-Child.is) (unless c.go_up.result (g.R.Rewriting.goes_up c.args.rewriter.now c.args.child c.go_up.result c.go_up.new.self) c.go_up.ensures.step)
 
 pub rewrite_node-returns-in_err-mapped-in-Continue-clause-rewrites : goal.rewrite_node-returns-in_err-mapped-in-Continue-clause-rewrites
 rewrite_node-returns-in_err-mapped-in-Continue-clause-rewrites g t c =

@@ -1,13 +1,13 @@
 use Rattle.std.proofs.Common.{◌≡◌, refl, rules, Err}
 use denote.Param.Always.{mut_next}
 use Rattle.std.specs.Fn.{CalledAt}
-use Rattle.vx_traversal.proofs.Steps.{InTurn-fault, InTurn-stop, InTurn-next, ok-is}
+use Rattle.vx_traversal.proofs.Steps.{InTurn-error, InTurn-stop, InTurn-next, ok-is}
 use Rattle.vx_traversal.proofs.containers.NodeContainer.apply_elements.Goals as goal
 
 pub returns-in_err-order : goal.returns-in_err-order
 returns-in_err-order g c =
     let is : c.from_residual.result ≡ Err c.in_err-order.field-0.0 = search rules in
-    (c.f.new.self, c.loop-element.invariant.1 _ _ (InTurn-fault (CalledAt g.F.FnMut) _ c.in-Some.element.now _ c.in-Some.ensures c.loop-element.last c.loop-element.f c.f.result c.f.new.self (record { shown = c.in-Some.element; shows = refl; called = c.f.ensures }) c.in_err-order.field-0.0 c.from_residual.result c.in_err-order.was is))
+    (c.f.new.self, c.loop-element.invariant.1 _ _ (InTurn-error (CalledAt g.F.FnMut) _ c.in-Some.element.now _ c.in-Some.ensures c.loop-element.last c.loop-element.f c.f.result c.f.new.self (record { shown = c.in-Some.element; shows = refl; called = c.f.ensures }) c.in_err-order.field-0.0 c.from_residual.result c.in_err-order.was is))
 
 pub returns-in-Stop : goal.returns-in-Stop
 returns-in-Stop g c =

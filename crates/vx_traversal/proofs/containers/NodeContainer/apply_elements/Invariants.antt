@@ -9,7 +9,7 @@ use Rattle.vx_traversal.proofs.containers.NodeContainer.apply_elements.Given as 
 abbrev pub invariant-loop-element : goal.invariant-loop-element
 invariant-loop-element g l =
     always_mut g.F.FnMut l.f
-    × ((r t : _) → InTurn (CalledAt g.F.FnMut) l.last l.f (g.Self.NodeContainer.left l.self l.cursor) r t → InTurn (CalledAt g.F.FnMut) Continue l.fn.f (g.Self.NodeContainer.elements l.self) r t)
+    × ((r t : _) → InTurn (CalledAt g.F.FnMut) l.last l.f (g.Self.NodeContainer.left l.self l.cursor) r t → InTurn (CalledAt g.F.FnMut) Continue l.fn.f (g.Self.Holds.elements l.self) r t)
 
 abbrev pub decreases-loop-element : goal.decreases-loop-element
 decreases-loop-element g l = length (g.Self.NodeContainer.left l.self l.cursor)

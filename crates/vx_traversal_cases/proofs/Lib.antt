@@ -1,0 +1,3 @@
+mod EntryLemmas
+mod OneLemmas
+mod CallLemmas
