@@ -14,9 +14,9 @@ use Rattle.vx_traversal.specs.declared.order.TraversalOrder.TheVariants.{Skip, C
 use Rattle.vx_traversal.specs.declared.transform.Transformed.{Transformed}
 use Rattle.vx_traversal.specs.Expressions.{IsWithChildren}
 use Rattle.vx_traversal.specs.Folds.{folded_value, FoldStep, FoldsInTurn, FoldsBelow, DownAlone, UpAlone}
-use Rattle.vx_traversal.specs.Numbers.{NumberTree, number, NumberTrees, no_trees, tree_before, list_of_trees, number_at, trees_below}
+use Rattle.vx_traversal_cases.specs.Numbers.{NumberTree, number, NumberTrees, no_trees, tree_before, list_of_trees, number_at, trees_below}
 use Rattle.vx_traversal.specs.Rewrites.{Walk, RewriteStep, UnlessNoMemory, FromOrder, GoesUp, RewritesBelow, marked}
-use Rattle.vx_traversal.specs.Zeros.{holds_zero, one_holds_zero}
+use Rattle.vx_traversal_cases.specs.Zeros.{holds_zero, one_holds_zero}
 
 -- what follows from a fact that holds unless memory ran out
 pub unless : {T E : Type 0} (r : Walk T E) (P : Type 0) (Q : T → Type 0) → (P → IfOk r Q) → UnlessNoMemory r P → IfOk r Q

@@ -1,16 +1,18 @@
 //! The walks over expressions, and what they collect.
-ghost use Rattle.std.specs.Prelude.{◌≡◌, IfOk, Ok, true, false, ⊤};
+ghost use Rattle.std.specs.Prelude.{◌≡◌, IfOk, Ok, true, false};
 ghost use Rattle.vx_expr.specs.Trees.{root, get_item};
 
 use std::alloc::Global;
 use std::rc::Rc;
 use std::test::Fail;
-use vx_dtype::{FieldName, FieldNames, Mem, NoMemory, Scalar, ScalarValue};
+use vx_dtype::{FieldName, FieldNames, Mem, NoMemory};
 use vx_expr::{
-    BinaryExpr, Expr, ExprRef, FieldSelection, GetItemExpr, LiteralExpr, Operator, RootExpr,
-    SelectExpr,
+    BinaryExpr, Expr, ExprRef, FieldSelection, GetItemExpr, Operator, RootExpr, SelectExpr,
 };
-use vx_traversal::{FoldDown, FoldUp, Node, NodeContainer, NodeExt, NodeFolder, NodeRewriter, ReferenceCollector, Transformed, TraversalOrder, VortexExprExt, Walk, pre_order_visit_down};
+use vx_traversal::{
+    Node, NodeContainer, NodeExt, NodeRewriter, ReferenceCollector, Transformed, TraversalOrder,
+    VortexExprExt, Walk, pre_order_visit_down,
+};
 
 fn col(alloc: Global, name: &str) -> Mem<ExprRef>
     ensures { IfOk result (λ made. made ≡ get_item name.now root) }
@@ -73,134 +75,12 @@ fn a_skip_goes_up_at_once(rt: HostRuntime) -> Result<(), Fail> {
     Ok(())
 }
 
-// Down stops, unchanged, at `$.a`; up answers the root, changed.
-#[derive(Drop)]
-struct StopsAtA {
-    alloc: Global,
-    a: ExprRef,
-    ups: u64,
-}
-
-impl NodeRewriter for StopsAtA {
-    type NodeTy = ExprRef;
-
-    type Error = NoMemory;
-
-    ghost down = { λ _ _ _ _. ⊤ };
-
-    ghost up = { λ _ _ _ _. ⊤ };
-
-    fn visit_down(&mut self, node: ExprRef) -> Walk<Transformed<ExprRef>, NoMemory> {
-        let order = if node == self.a {
-            TraversalOrder::Stop
-        } else {
-            TraversalOrder::Continue
-        };
-        Ok(Transformed {
-            value: node,
-            order,
-            changed: false,
-        })
-    }
-
-    fn visit_up(&mut self, _node: ExprRef) -> Walk<Transformed<ExprRef>, NoMemory> {
-        self.ups = self.ups.wrapping_add(1);
-        Ok(Transformed::yes(RootExpr::new_expr(self.alloc)?))
-    }
-}
-
-#[test]
-fn a_stop_keeps_the_expression(rt: HostRuntime) -> Result<(), Fail> {
-    let alloc = rt.alloc();
-    let mut rewriter = StopsAtA {
-        alloc,
-        a: col(alloc, "a")?,
-        ups: 0,
-    };
-    let rewritten = both(alloc)?.rewrite(alloc, &mut rewriter)?;
-    assert!(rt; rewritten.value == both(alloc)?);
-    assert!(rt; rewritten.order == TraversalOrder::Stop);
-    assert!(rt; !rewritten.changed);
-    assert_eq!(rt; rewriter.ups, 0);
-    Ok(())
-}
-
-// `(1 operator second) + 3`.
-fn sum_above(alloc: Global, operator: Operator, second: i32) -> Mem<ExprRef> {
-    let one = LiteralExpr::new_expr(alloc, Scalar::from(1i32))?;
-    let two = LiteralExpr::new_expr(alloc, Scalar::from(second))?;
-    let three = LiteralExpr::new_expr(alloc, Scalar::from(3i32))?;
-    let below = BinaryExpr::new_expr(alloc, one, operator, two)?;
-    BinaryExpr::new_expr(alloc, below, Operator::Add, three)
-}
-
-// The number that a constant is.
-fn number(expr: &ExprRef) -> Option<i128> {
-    let Some(constant) = LiteralExpr::maybe_from(expr) else {
-        return None;
-    };
-    match constant.value().value() {
-        ScalarValue::Int(number) => Some(*number),
-        _ => None,
-    }
-}
-
 // The operator at the head of an expression.
 fn operator(expr: &ExprRef) -> Option<Operator> {
     match expr.expr() {
         Expr::Binary(binary) => Some(binary.op()),
         _ => None,
     }
-}
-
-// The sum of the constants; Stop with 5 at the constant 5, and Skip with 0 at `>`.
-#[derive(Drop)]
-struct Sum;
-
-impl NodeFolder for Sum {
-    type NodeTy = ExprRef;
-
-    type Result = i128;
-
-    type Error = NoMemory;
-
-    ghost down = { λ _ _ _ _. ⊤ };
-
-    ghost up = { λ _ _ _ _ _. ⊤ };
-
-    fn visit_down(&mut self, node: &ExprRef) -> Walk<FoldDown<i128>, NoMemory> {
-        if number(node) == Some(5) {
-            Ok(FoldDown::Stop(5))
-        } else if operator(node) == Some(Operator::Gt) {
-            Ok(FoldDown::Skip(0))
-        } else {
-            Ok(FoldDown::Continue)
-        }
-    }
-
-    fn visit_up(&mut self, node: ExprRef, children: Vec<i128>) -> Walk<FoldUp<i128>, NoMemory>
-        ensures { ⊤ }
-    {
-        let mut sum = number(&node).unwrap_or(0);
-        for child in children {
-            sum = sum.wrapping_add(child);
-        }
-        Ok(FoldUp::Continue(sum))
-    }
-}
-
-#[test]
-fn folds(rt: HostRuntime) -> Result<(), Fail> {
-    for (operator, second, sum) in [
-        (Operator::Add, 2, 6),
-        (Operator::Add, 5, 5),
-        (Operator::Gt, 2, 3),
-        (Operator::Gt, 5, 3),
-    ] {
-        let folded = sum_above(rt.alloc(), operator, second)?.fold(rt.alloc(), &mut Sum)?;
-        assert_eq!(rt; folded.value(), sum);
-    }
-    Ok(())
 }
 
 // `($.col1 = $.col2) and ($.col3 != $.col4)`.

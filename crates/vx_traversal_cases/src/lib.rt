@@ -10,8 +10,6 @@ mod numbers;
 #[cfg(test)]
 mod ones;
 #[cfg(test)]
-mod signals;
-#[cfg(test)]
 mod walks;
 #[cfg(test)]
 mod zeros;

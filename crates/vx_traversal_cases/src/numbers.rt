@@ -5,7 +5,10 @@ use std::alloc::{AllocError, Global};
 use std::marker::Model;
 use std::rc::Rc;
 use vx_dtype::Mem;
-use vx_traversal::{ElementMapper, CloneContainer, Holds, Node, NodeContainer, Transformed, TraversalOrder, Walk, map_single};
+use vx_traversal::{
+    CloneContainer, ElementMapper, Holds, Node, NodeContainer, Transformed, TraversalOrder, Walk,
+    map_single,
+};
 
 /// A number with trees of numbers below it, shared with its clones. It is seen as that tree.
 #[derive(Drop)]

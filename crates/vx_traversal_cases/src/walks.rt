@@ -8,7 +8,11 @@ use std::alloc::Global;
 use std::rc::Rc;
 use std::test::Fail;
 use vx_dtype::{Mem, NoMemory};
-use vx_traversal::{FoldDown, FoldDownContext, FoldUp, Node, NodeContainer, NodeExt, NodeFolder, NodeFolderContext, NodeRefContainer, NodeRewriter, NodeVisitor, Transformed, TraversalOrder, Walk, WalkError, pre_order_visit_down, pre_order_visit_up};
+use vx_traversal::{
+    FoldDown, FoldDownContext, FoldUp, Node, NodeContainer, NodeExt, NodeFolder, NodeFolderContext,
+    NodeRefContainer, NodeRewriter, NodeVisitor, Transformed, TraversalOrder, Walk,
+    pre_order_visit_down, pre_order_visit_up,
+};
 
 fn leaf(alloc: Global, value: u64) -> Mem<Numbers> {
     Numbers::new(alloc, value, Vec::new(alloc))
@@ -191,49 +195,6 @@ fn folds(rt: HostRuntime) -> Result<(), Fail> {
     Ok(())
 }
 
-// The number of nodes on the longest way down, by contexts that count from the top.
-#[derive(Drop)]
-struct Depth;
-
-impl NodeFolderContext for Depth {
-    type NodeTy = Numbers;
-
-    type Result = u64;
-
-    type Context = u64;
-
-    type Error = NoMemory;
-
-    ghost down = { λ _ _ _ _ _. ⊤ };
-
-    ghost up = { λ _ _ _ _ _ _. ⊤ };
-
-    fn visit_down(
-        &mut self,
-        ctx: &u64,
-        _node: &Numbers,
-    ) -> Walk<FoldDownContext<u64, u64>, NoMemory> {
-        Ok(FoldDownContext::Continue(ctx.wrapping_add(1)))
-    }
-
-    fn visit_up(
-        &mut self,
-        _node: Numbers,
-        ctx: &u64,
-        children: Vec<u64>,
-    ) -> Walk<FoldUp<u64>, NoMemory>
-        ensures { ⊤ }
-    {
-        let mut deepest = ctx.wrapping_add(1);
-        for child in children {
-            if child > deepest {
-                deepest = child;
-            }
-        }
-        Ok(FoldUp::Continue(deepest))
-    }
-}
-
 // Each context holds the numbers from the top on as digits. A number without others below it has
 // the context that it is handed as its result, and another the sum of what is below it; Stop at 5.
 #[derive(Drop)]
@@ -412,14 +373,29 @@ fn mapped_elements_keep_their_order(rt: HostRuntime) -> Result<(), Fail> {
 }
 
 #[test]
+fn shared_containers_keep_their_shape(rt: HostRuntime) -> Result<(), Fail> {
+    let alloc = rt.alloc();
+    let mut both = Vec::new(alloc);
+    both.push(lists(alloc, 7, &[])?)?;
+    both.push(lists(alloc, 8, &[9])?)?;
+    let shared = Rc::new(alloc, both)?;
+    let kept = shared.clone()?;
+    let mapped = shared.map_elements(alloc, raise)?;
+    let lengths = |held: &(Vec<Numbers>, Vec<Numbers>)| (held.0.len(), held.1.len());
+    assert!(rt; mapped.value.iter().map(lengths).eq([(1, 0), (1, 1)]));
+    assert!(rt; mapped.changed);
+    assert_eq!(rt; kept.len(), 2);
+    Ok(())
+}
+
+#[test]
 fn ample(rt: HostRuntime) -> Result<(), Fail> {
     let alloc = rt.alloc();
-    assert_eq!(rt;
-        grove(alloc)?.fold_context(alloc, &0, &mut Depth)?.value(),
-        3
-    );
-    let shared = Rc::new(alloc, leaf(alloc, 7)?)?;
-    assert!(rt; shared.map_elements(alloc, mark)?.changed);
+    let again = || -> Mem<TraversalOrder> { Ok(TraversalOrder::Stop) };
+    assert!(rt; TraversalOrder::Skip.visit_children(again)? == TraversalOrder::Continue);
+    assert!(rt; TraversalOrder::Skip.visit_parent(again)? == TraversalOrder::Skip);
+    let next = Transformed::yes(6u64).map(|value| value.wrapping_add(1));
+    assert_eq!(rt; next.clone()?.into_inner(), 7);
     assert_eq!(rt; sums(alloc, 2)?.fold(alloc, &mut Sum)?.value(), 6);
     let mut rewriter = StopsBelow { ups: 0 };
     assert!(rt; !grove(alloc)?.rewrite(alloc, &mut rewriter)?.changed);
@@ -445,6 +421,13 @@ fn after(node: &Numbers) -> Mem<TraversalOrder> {
 fn closures(rt: HostRuntime) -> Result<(), Fail> {
     let alloc = rt.alloc();
     let tree = grove(alloc)?;
+    let no_two = |node: &Numbers| {
+        if node.value() == 2 {
+            return Err(2u64);
+        }
+        Ok(TraversalOrder::Continue)
+    };
+    assert!(rt; pre_order_visit_up(&tree, no_two) == Err(2));
     let mut seen = Vec::new(alloc);
     pre_order_visit_down(&tree, |node: &Numbers| -> Mem<TraversalOrder> {
         seen.push(node.value())?;
