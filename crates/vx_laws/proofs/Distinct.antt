@@ -1,6 +1,6 @@
 -- The structs in the type of a strictly typed expression have no name twice; so their values are told by their fields.
 use Rattle.std.proofs.Common.{◌≡◌, refl, ap, sym, ◌∙◌, Bool, true, false, cond, not, ◌&&◌, Option, Some, None, subst, List, [], ◌∷◌, Result, Ok, suc, arith}
-use Rattle.std.specs.Prelude.{unwrap_or, nat_eq, length}
+use Rattle.std.specs.Prelude.{unwrap_or, option_map, nat_eq, length}
 use Rattle.std.specs.Str.{bytes_eq}
 use Rattle.std.specs.List.{list_all, flat_map, filter, AllByRecursion}
 use Rattle.std.proofs.lemmas.Bool.{eqb-true, eq-eqb, and_parts, and_from, or_parts, or_from}
@@ -19,8 +19,10 @@ use Rattle.vx_expr.specs.Trees.{Tree, root, literal, get_item, binary, not_of, i
 use Rattle.vx_dtype.specs.StructTypes.{is_struct_ty, with_field, fields_at, all_known}
 use Rattle.vx_dtype.specs.Zipped.{zipped}
 use Rattle.vx_expr.specs.Selections.{listed_names}
-use Rattle.vx_semantics.specs.Typing.{Refusal, not_struct, nullable_select, unknown_field, duplicate_field, type_mismatch, and_then, unless, distinct_type, item_type, fields_without, selected_fields, included_once, select_type, pack_type, names_in, merged_names, some_has_field, widened_in, merged_type_at, merged_fields_at, merge_type, union_of, equal_plain, binary_type, not_type, like_type, between_type, contains_type, cast_type, dynamic_type, typed_of, all_typed}
+use Rattle.vx_semantics.specs.Typing.{Refusal, not_struct, nullable_select, unknown_field, duplicate_field, type_mismatch, and_then, unless, distinct_type, item_type, fields_without, selected_fields, included_once, select_type, pack_type, names_in, type_in, merged_type_at, merged_fields_at, merge_type, union_of, equal_plain, binary_type, not_type, like_type, between_type, contains_type, cast_type, dynamic_type, typed_of, all_typed}
+use Rattle.vx_semantics.specs.Merging.{merged_names}
 use Rattle.vx_laws.proofs.Inverting.{and_then-ok, unless-ok, Ok-same, bytes_same, bytes_eq-itself}
+use Rattle.vx_laws.proofs.Merging.{some_gives, some_gives-first, merged_type_at-step}
 use Rattle.vx_laws.proofs.Fitting.{takes_cast-plain}
 use Rattle.vx_laws.proofs.Structs.{member-fits, no-member-fits, no-field-fits, item_type-ok, has_field, all-given, all-first_names}
 use Rattle.vx_laws.proofs.Preserving.{one_test}
@@ -244,15 +246,15 @@ fields_of-distinct _ h = none-distinct
 
 merged_type-distinct : (f : Bytes) (ts : List Ty) (w : Ty) → AllDistinct ts → merged_type_at f ts ≡ Some w → no_name_twice w ≡ true
 merged_type-distinct f [] w d e = let no : ⊥ = cc in absurd no
-merged_type-distinct f (t ∷ ts) w d e = by-test (some_has_field f ts) (merged_type-distinct f ts w d.1) e
+merged_type-distinct f (t ∷ ts) w d e = by-test (some_gives names_in f ts) (merged_type-distinct f ts w d.1) (sym (merged_type_at-step f t ts) ∙ e)
   where
-    by-type : (o : Option Ty) → field_type f (fields_of t) ≡ o → widened_in o (nullability_of t) ≡ Some w → no_name_twice w ≡ true
+    by-type : (o : Option Ty) → field_type f (fields_of t) ≡ o → option_map (λ (v : Ty). widened v (nullability_of t)) o ≡ Some w → no_name_twice w ≡ true
     by-type None j k = let no : ⊥ = cc in absurd no
     by-type (Some v) j k =
         let same : widened v (nullability_of t) ≡ w = cc in
         subst (λ (z : Ty). no_name_twice z ≡ true) same (distinct-renulled v _ (field_type-distinct f (fields_of t) v (fields_of-distinct t d.0) j))
 
-    by-test : (b : Bool) → (merged_type_at f ts ≡ Some w → no_name_twice w ≡ true) → cond b (merged_type_at f ts) (widened_in (field_type f (fields_of t)) (nullability_of t)) ≡ Some w → no_name_twice w ≡ true
+    by-test : (b : Bool) → (merged_type_at f ts ≡ Some w → no_name_twice w ≡ true) → cond b (merged_type_at f ts) (type_in f t) ≡ Some w → no_name_twice w ≡ true
     by-test true r k = r k
     by-test false r k = by-type (field_type f (fields_of t)) refl k
 
@@ -264,38 +266,34 @@ merged-below (f ∷ names) ts d = by-type (merged_type_at f ts) refl (merged-bel
     by-type None e r = r
     by-type (Some w) e r = more-distinct f w (merged_fields_at names ts) (merged_type-distinct f ts w d e) r
 
-own_part : (b rest : Bool) → rest ≡ false → cond b true rest ≡ true → b ≡ true
-own_part true rest e k = refl
-own_part false rest e k = let no : ⊥ = cc in absurd no
-
-pub has_merged : (f : Bytes) (ts : List Ty) → some_has_field f ts ≡ true → HasMerged f ts
+pub has_merged : (f : Bytes) (ts : List Ty) → some_gives names_in f ts ≡ true → HasMerged f ts
 has_merged f [] h = let no : ⊥ = cc in absurd no
-has_merged f (t ∷ ts) h = let r = by-test (some_has_field f ts) refl (has_merged f ts) in record { own = r.0; found = r.1 }
+has_merged f (t ∷ ts) h = let r = by-test (some_gives names_in f ts) refl (has_merged f ts) in record { own = r.0; found = merged_type_at-step f t ts ∙ r.1 }
   where
-    by-test : (b : Bool) → some_has_field f ts ≡ b → (some_has_field f ts ≡ true → HasMerged f ts)
-        → (w : Ty) × (cond b (merged_type_at f ts) (widened_in (field_type f (fields_of t)) (nullability_of t)) ≡ Some w)
+    by-test : (b : Bool) → some_gives names_in f ts ≡ b → (some_gives names_in f ts ≡ true → HasMerged f ts)
+        → (w : Ty) × (cond b (merged_type_at f ts) (type_in f t) ≡ Some w)
     by-test true e r = ((r e).own, (r e).found)
     by-test false e r =
-        let own = has_field f (fields_of t) (own_part (has_name f (names_in t)) (some_has_field f ts) e h) in
-        (widened own.own (nullability_of t), ap (λ (o : Option Ty). widened_in o (nullability_of t)) own.found)
+        let own = has_field f (fields_of t) (some_gives-first names_in f t ts e h) in
+        (widened own.own (nullability_of t), ap (option_map (λ (w : Ty). widened w (nullability_of t))) own.found)
 
-field_names-merged_at : (names : List Bytes) (ts : List Ty) → AllByRecursion (λ f. some_has_field f ts ≡ true) names → field_names (merged_fields_at names ts) ≡ names
+field_names-merged_at : (names : List Bytes) (ts : List Ty) → AllByRecursion (λ f. some_gives names_in f ts ≡ true) names → field_names (merged_fields_at names ts) ≡ names
 field_names-merged_at [] ts h = refl
 field_names-merged_at (f ∷ names) ts h =
     let found = has_merged f ts h.0 in
     rw found.found (ap (λ (ys : List Bytes). f ∷ ys) (field_names-merged_at names ts h.1))
 
-pub field_names-merged : (ts : List Ty) → field_names (merged_fields_at (merged_names ts) ts) ≡ merged_names ts
-field_names-merged ts = field_names-merged_at (merged_names ts) ts (all-first_names (λ f. some_has_field f ts ≡ true) (flat_map names_in ts) (all-given ts))
+pub field_names-merged : (ts : List Ty) → field_names (merged_fields_at (merged_names names_in ts) ts) ≡ merged_names names_in ts
+field_names-merged ts = field_names-merged_at (merged_names names_in ts) ts (all-first_names (λ f. some_gives names_in f ts ≡ true) (flat_map names_in ts) (all-given ts))
 
 merge-distinct : (n : Nullability) (ts : List Ty) (u : Ty) → AllDistinct ts → merge_type n ts ≡ Ok u → no_name_twice u ≡ true
 merge-distinct n ts u d e =
-    let made : Result Ty Refusal = Ok (struct_ty (merged_fields_at (merged_names ts) ts) n) in
+    let made : Result Ty Refusal = Ok (struct_ty (merged_fields_at (merged_names names_in ts) ts) n) in
     let a = unless-ok (list_all is_struct_ty ts) not_struct made u e in
-    subst (λ (z : Ty). no_name_twice z ≡ true) (Ok-same (Ok u) (struct_ty (merged_fields_at (merged_names ts) ts) n) u (sym a.gave) refl)
-    (distinct-struct (merged_fields_at (merged_names ts) ts) n (record {
+    subst (λ (z : Ty). no_name_twice z ≡ true) (Ok-same (Ok u) (struct_ty (merged_fields_at (merged_names names_in ts) ts) n) u (sym a.gave) refl)
+    (distinct-struct (merged_fields_at (merged_names names_in ts) ts) n (record {
       names = subst (λ (z : List Bytes). distinct_names z ≡ true) (sym (field_names-merged ts)) (distinct-first_names (flat_map names_in ts));
-      below = merged-below (merged_names ts) ts d;
+      below = merged-below (merged_names names_in ts) ts d;
     }))
 
 -- a boolean answer behind one test

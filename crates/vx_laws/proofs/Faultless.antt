@@ -1,6 +1,6 @@
 -- Where no asked node breaks, what an expression means along an asked path holds no fault.
 use Rattle.std.proofs.Common.{◌≡◌, refl, ap, sym, ◌∙◌, Bool, true, false, cond, not, ◌&&◌, ◌||◌, Option, Some, None, subst, List, [], ◌∷◌, ◌++◌, Result, Ok}
-use Rattle.std.specs.Prelude.{unwrap_or, slice_get, nat_eq, length}
+use Rattle.std.specs.Prelude.{unwrap_or, option_map, nat_eq, length}
 use Rattle.std.specs.Str.{bytes_eq}
 use Rattle.std.specs.List.{list_any, list_all, flat_map, AllByRecursion}
 use Rattle.std.proofs.lemmas.Bool.{and_parts, and_from, or_parts, or_from}
@@ -8,7 +8,7 @@ use Rattle.vx_dtype.specs.declared.Nullability.{Nullability}
 use Rattle.vx_dtype.specs.declared.Nullability.TheVariants.{NonNullable}
 use Rattle.vx_dtype.specs.declared.CompareOperator.{CompareOperator}
 use Rattle.vx_dtype.specs.declared.CompareOperator.TheVariants.{Eq, NotEq, Gt, Gte, Lt, Lte}
-use Rattle.vx_dtype.specs.Types.{Bytes, Ty, bool_ty, int_ty, text_ty, list_ty, struct_ty, Fields}
+use Rattle.vx_dtype.specs.Types.{Bytes, Ty, bool_ty, int_ty, text_ty, list_ty, struct_ty, Fields, no_fields, field}
 use Rattle.vx_dtype.specs.TypeRules.{nullability_of, union, with_nullability, widened, alike, is_plain, is_bool_ty, is_int_ty, is_text_ty, fields_of, field_names, field_type, has_name, distinct_names, no_name_twice}
 use Rattle.vx_dtype.specs.Values.{Val, struct_val, fault, value_of}
 use Rattle.vx_dtype.specs.Fits.{val_fits, fits_but_for_faults, holds_fault, member_holds_fault}
@@ -23,16 +23,19 @@ use Rattle.vx_expr.specs.declared.FieldSelection.{FieldSelection}
 use Rattle.vx_expr.specs.Trees.{Tree, root, literal, get_item, binary, not_of, is_null_of, like, between, cast, list_contains, pack, merge, select, dynamic, Trees, no_trees, tree}
 use Rattle.vx_dtype.specs.StructTypes.{is_struct_ty}
 use Rattle.vx_dtype.specs.Zipped.{zipped}
-use Rattle.vx_semantics.specs.Typing.{Refusal, type_mismatch, not_struct, duplicate_field, and_then, unless, item_type, selected_fields, select_type, pack_type, names_in, merged_names, some_has_field, widened_in, merged_type_at, merged_fields_at, merge_type, union_of, equal_plain, compare_type, binary_type, not_type, like_type, between_type, contains_type, cast_type, dynamic_type, typed_of, all_typed, type_or_empty, given_names}
-use Rattle.vx_semantics.specs.Meaning.{Slots, mean, meanings, sources, Source, some_gives, merged_value, merged_members, merged, zip_members, select3}
+use Rattle.vx_semantics.specs.Typing.{Refusal, type_mismatch, not_struct, duplicate_field, and_then, unless, item_type, selected_fields, select_type, pack_type, names_in, type_in, merged_type_at, merged_fields_at, merge_type, union_of, equal_plain, compare_type, binary_type, not_type, like_type, between_type, contains_type, cast_type, dynamic_type, typed_of, all_typed, type_or_empty, given_names}
+use Rattle.vx_semantics.specs.Meaning.{Slots, mean, meanings, sources, Source, source_names, merged_value, merged_members, merged, zip_members, select3}
 use Rattle.vx_semantics.specs.Breaks.{by_sum, by_cast, is_fault}
-use Rattle.vx_semantics.specs.Asked.{later_gives, all_given_names, path_or_each, asked, asked_in_pack, asked_of_giver}
+use Rattle.vx_semantics.specs.Merging.{merged_names}
+use Rattle.vx_semantics.specs.Asked.{Giver, giver_names, givers, path_or_each, asked, asked_in_pack, asked_of_giver}
+use Rattle.vx_expr.specs.Slots.{slot_held}
 use Rattle.vx_semantics.specs.Paths.{path_value}
 use Rattle.vx_semantics.specs.Slots.{held_fits, slots_fit, all_slots_fit}
 use Rattle.vx_laws.specs.Faults.{breaks, NoBreakNoFault}
 use Rattle.vx_laws.proofs.Inverting.{and_then-ok, unless-ok, Ok-same}
 use Rattle.vx_laws.proofs.Fitting.{takes_cast-plain, valued-fits, fits-but_for_faults}
 use Rattle.vx_laws.proofs.Structs.{IsStructOf, struct-value, item_type-ok, select_type-ok, select3-fits, AllSourcesFit, merged-fits, all-own_names, source_names-same, some_gives-same}
+use Rattle.vx_laws.proofs.Merging.{some_gives, merged_type_at-step, merged_value-step, asked_of_giver-step, givers-same, giver_names-same}
 use Rattle.vx_laws.proofs.Preserving.{FitsButFaults, distinct_type-ok, literal_type-ok, literal-fits, one_test, mean-fits, sources-fit}
 use Rattle.vx_laws.proofs.Distinct.{AreDistinct, struct-distinct, typed-distinct, field_names-merged}
 use Rattle.vx_laws.proofs.Lookups.{merged_fields-type, merged_members-value, select-chosen}
@@ -145,66 +148,51 @@ select-faultless t slots row s d a u e g h r [] p q =
     (subst (AllByRecursion (λ f. Quiet t slots row (asked t d (f ∷ [])))) (names_in-select t (select s d) u fs NonNullable e k.gives) quiet)
     (λ f found one. select-one t slots row s d a u g h r f [] (subst (λ (z : Ty). path_in (f ∷ []) z ≡ true) (sym k.gives) found) one)
 
--- the names that a merge gives, and its later givers, by the sources
-pub later-same : (t : Ty) (slots : Slots) (row : Val) (f : Bytes) (es : Trees) → later_gives t f es ≡ some_gives f (sources t slots row es)
-unfolding mean
-later-same t slots row f no_trees = refl
-later-same t slots row f (tree e es) = by-test (has_name f (given_names t e)) (later-same t slots row f es)
-  where
-    by-test : (b : Bool) → later_gives t f es ≡ some_gives f (sources t slots row es) → cond b true (later_gives t f es) ≡ (b || some_gives f (sources t slots row es))
-    by-test true r = refl
-    by-test false r = r
-
-pub all_given-same : (t : Ty) (slots : Slots) (row : Val) (es : Trees) → all_given_names t es ≡ flat_map (λ (s : Source). s.names) (sources t slots row es)
-unfolding mean
-all_given-same t slots row no_trees = refl
-all_given-same t slots row (tree e es) = ap (λ (xs : List Bytes). given_names t e ++ xs) (all_given-same t slots row es)
-
 -- what a merge takes from its last giver holds no fault
 abbrev pub GiversFaultless : Ty → Slots → Val → Trees → List Ty → Type 0
 GiversFaultless t slots row es us =
-    (f : Bytes) (path : List Bytes) (w : Ty) → merged_type_at f us ≡ Some w → path_in path w ≡ true → Quiet t slots row (asked_of_giver t es (f ∷ path))
+    (f : Bytes) (path : List Bytes) (w : Ty) → merged_type_at f us ≡ Some w → path_in path w ≡ true → Quiet t slots row (asked_of_giver (givers t es) (f ∷ path))
     → HoldsNoFault (path_value path (merged_value f (sources t slots row es)))
 
 -- of a merge with a type, its fields
 pub record Merges (us : List Ty) (n : Nullability) (u : Ty) : Type 0 where
-  pub gives : u ≡ struct_ty (merged_fields_at (merged_names us) us) n
+  pub gives : u ≡ struct_ty (merged_fields_at (merged_names names_in us) us) n
 
 pub merge_type-ok : (us : List Ty) (n : Nullability) (u : Ty) → merge_type n us ≡ Ok u → Merges us n u
 merge_type-ok us n u e =
-    let made : Result Ty Refusal = Ok (struct_ty (merged_fields_at (merged_names us) us) n) in
+    let made : Result Ty Refusal = Ok (struct_ty (merged_fields_at (merged_names names_in us) us) n) in
     let a = unless-ok (list_all is_struct_ty us) not_struct made u e in
-    record { gives = Ok-same (Ok u) u (struct_ty (merged_fields_at (merged_names us) us) n) refl (sym a.gave) }
+    record { gives = Ok-same (Ok u) u (struct_ty (merged_fields_at (merged_names names_in us) us) n) refl (sym a.gave) }
 
 merge-one : (t : Ty) (slots : Slots) (row : Val) (es : Trees) (n : Nullability) (us : List Ty) (u : Ty) → merge_type n us ≡ Ok u → AllSourcesFit (sources t slots row es) us
     → GiversFaultless t slots row es us
-    → (f : Bytes) (path : List Bytes) → path_in (f ∷ path) u ≡ true → Quiet t slots row (asked_of_giver t es (f ∷ path)) → HoldsNoFault (path_value path (field_of f (merged (sources t slots row es))))
+    → (f : Bytes) (path : List Bytes) → path_in (f ∷ path) u ≡ true → Quiet t slots row (asked_of_giver (givers t es) (f ∷ path)) → HoldsNoFault (path_value path (field_of f (merged (sources t slots row es))))
 merge-one t slots row es n us u e h r f path p q =
     let k = merge_type-ok us n u e in
     let ss = sources t slots row es in
-    let first = first_of_path f path (merged_fields_at (merged_names us) us) (subst (λ (z : Ty). path_in (f ∷ path) z ≡ true) k.gives p) in
-    let found = merged_fields-type (merged_names us) us f first.own first.found in
-    let names = first_names (flat_map (λ (s : Source). s.names) ss) in
+    let first = first_of_path f path (merged_fields_at (merged_names names_in us) us) (subst (λ (z : Ty). path_in (f ∷ path) z ≡ true) k.gives p) in
+    let found = merged_fields-type (merged_names names_in us) us f first.own first.found in
+    let names = first_names (flat_map source_names ss) in
     let named : has_name f names ≡ true = ap (λ (z : List Bytes). has_name f (first_names z)) (source_names-same ss us h) ∙ found.name in
     subst (λ (z : Val). HoldsNoFault (path_value path z)) (sym (merged_members-value names ss f named)) (r f path first.own found.type first.rest q)
 
 merge-faultless : (t : Ty) (slots : Slots) (row : Val) (es : Trees) (n : Nullability) (us : List Ty) (u : Ty) → typed_of t (merge es n) ≡ Ok u → merge_type n us ≡ Ok u
     → AllSourcesFit (sources t slots row es) us → GiversFaultless t slots row es us
-    → (path : List Bytes) → path_in path u ≡ true → Quiet t slots row (path_or_each (asked_of_giver t es) (first_names (all_given_names t es)) path)
+    → (path : List Bytes) → path_in path u ≡ true → Quiet t slots row (path_or_each (asked_of_giver (givers t es)) (merged_names giver_names (givers t es)) path)
     → HoldsNoFault (path_value path (merged (sources t slots row es)))
 unfolding fits_but_for_faults
 merge-faultless t slots row es n us u e g h r (f ∷ path) p q = merge-one t slots row es n us u g h r f path p q
 merge-faultless t slots row es n us u e g h r [] p q =
     let k = merge_type-ok us n u g in
-    let fs = merged_fields_at (merged_names us) us in
+    let fs = merged_fields_at (merged_names names_in us) us in
     let ss = sources t slots row es in
-    let names = first_names (flat_map (λ (s : Source). s.names) ss) in
+    let names = first_names (flat_map source_names ss) in
     let fit = subst (FitsButFaults (merged ss)) k.gives (merged-fits n ss us u h g) in
     let is : IsStructOf (merged ss) fs = record { members = merged_members names ss; is = refl; fit = fit } in
     let distinct = struct-distinct fs n (subst (λ (z : Ty). no_name_twice z ≡ true) k.gives (typed-distinct t (merge es n) u e)) in
-    let quiet = each-quiet t slots row (asked_of_giver t es) (first_names (all_given_names t es)) q in
-    let same : first_names (all_given_names t es) ≡ field_names fs = ap first_names (all_given-same t slots row es ∙ source_names-same ss us h) ∙ sym (field_names-merged us) in
-    struct-each (merged ss) fs (λ f. Quiet t slots row (asked_of_giver t es (f ∷ []))) is distinct (subst (AllByRecursion (λ f. Quiet t slots row (asked_of_giver t es (f ∷ [])))) same quiet)
+    let quiet = each-quiet t slots row (asked_of_giver (givers t es)) (merged_names giver_names (givers t es)) q in
+    let same : merged_names giver_names (givers t es) ≡ field_names fs = ap first_names (giver_names-same t slots row es ∙ source_names-same ss us h) ∙ sym (field_names-merged us) in
+    struct-each (merged ss) fs (λ f. Quiet t slots row (asked_of_giver (givers t es) (f ∷ []))) is distinct (subst (AllByRecursion (λ f. Quiet t slots row (asked_of_giver (givers t es) (f ∷ [])))) same quiet)
     (λ f found one. merge-one t slots row es n us u g h r f [] (subst (λ (z : Ty). path_in (f ∷ []) z ≡ true) (sym k.gives) found) one)
 
 -- of a pack with a type, its fields
@@ -217,29 +205,52 @@ pack_type-ok names n us u e =
     Ok-same (Ok u) u (struct_ty (zipped names us) n) refl (sym b.gave)
 
 -- the first of two merged structs' fields, and the rest
-giver-own : (t : Ty) (slots : Slots) (row : Val) (d : Tree) (a : Ty) (f : Bytes) (path : List Bytes) (w : Ty) → widened_in (field_type f (fields_of a)) (nullability_of a) ≡ Some w → path_in path w ≡ true
+giver-own : (t : Ty) (slots : Slots) (row : Val) (d : Tree) (a : Ty) (f : Bytes) (path : List Bytes) (w : Ty) → type_in f a ≡ Some w → path_in path w ≡ true
     → Faultless t slots row d a → Quiet t slots row (asked t d (f ∷ path)) → HoldsNoFault (path_value path (field_of f (mean t slots row d)))
 giver-own t slots row d a f path w e p r q = by-type (field_type f (fields_of a)) refl e
   where
-    by-type : (o : Option Ty) → field_type f (fields_of a) ≡ o → widened_in o (nullability_of a) ≡ Some w → HoldsNoFault (path_value path (field_of f (mean t slots row d)))
+    by-type : (o : Option Ty) → field_type f (fields_of a) ≡ o → option_map (λ (v : Ty). widened v (nullability_of a)) o ≡ Some w → HoldsNoFault (path_value path (field_of f (mean t slots row d)))
     by-type None j k = let no : ⊥ = cc in absurd no
     by-type (Some v) j k =
         let same : widened v (nullability_of a) ≡ w = cc in
         let inner : path_in path v ≡ true = sym (path_in-widened path v (nullability_of a)) ∙ subst (λ (z : Ty). path_in path z ≡ true) (sym same) p in
         r (f ∷ path) (path_in-first f path (fields_of a) v j inner) q
 
-givers-faultless : (t : Ty) (slots : Slots) (row : Val) (d : Tree) (ds : Trees) (a : Ty) (us : List Ty) → AllSourcesFit (sources t slots row ds) us → Faultless t slots row d a → GiversFaultless t slots row ds us
-    → GiversFaultless t slots row (tree d ds) (a ∷ us)
-unfolding mean asked
-givers-faultless t slots row d ds a us fit own rest f path w e p q =
-    subst (λ (b : Bool). HoldsNoFault (path_value path (cond b (merged_value f (sources t slots row ds)) (field_of f (mean t slots row d))))) (sym (some_gives-same f (sources t slots row ds) us fit))
-    (by-test (some_has_field f us) e (subst (λ (b : Bool). Quiet t slots row (cond b (asked_of_giver t ds (f ∷ path)) (asked t d (f ∷ path))))
-    (later-same t slots row f ds ∙ some_gives-same f (sources t slots row ds) us fit) q))
+-- a struct that has the field gives its name
+pub type_in-named : (f : Bytes) (a : Ty) (w : Ty) → type_in f a ≡ Some w → has_name f (names_in a) ≡ true
+type_in-named f a w e = by-fields (fields_of a) e
   where
-    by-test : (b : Bool) → cond b (merged_type_at f us) (widened_in (field_type f (fields_of a)) (nullability_of a)) ≡ Some w → Quiet t slots row (cond b (asked_of_giver t ds (f ∷ path)) (asked t d (f ∷ path)))
-        → HoldsNoFault (path_value path (cond b (merged_value f (sources t slots row ds)) (field_of f (mean t slots row d))))
+    by-fields : (fs : Fields) → option_map (λ (v : Ty). widened v (nullability_of a)) (field_type f fs) ≡ Some w → has_name f (field_names fs) ≡ true
+    by-fields no_fields k = let no : ⊥ = cc in absurd no
+    by-fields (field g u fs) k = by-test (bytes_eq f g) k (by-fields fs)
+      where
+        by-test : (b : Bool) → option_map (λ (v : Ty). widened v (nullability_of a)) (cond b (Some u) (field_type f fs)) ≡ Some w
+            → (option_map (λ (v : Ty). widened v (nullability_of a)) (field_type f fs) ≡ Some w → has_name f (field_names fs) ≡ true) → (b || has_name f (field_names fs)) ≡ true
+        by-test true j r = refl
+        by-test false j r = r j
+
+givers-faultless : (t : Ty) (slots : Slots) (row : Val) (d : Tree) (ds : Trees) (a : Ty) (us : List Ty) → given_names t d ≡ names_in a → AllSourcesFit (sources t slots row ds) us
+    → Faultless t slots row d a → GiversFaultless t slots row ds us → GiversFaultless t slots row (tree d ds) (a ∷ us)
+unfolding mean asked
+givers-faultless t slots row d ds a us named fit own rest f path w e p q =
+    let same = some_gives-same f (sources t slots row ds) us fit in
+    let first : Source = record { names = given_names t d; whole = mean t slots row d } in
+    let asks : Giver = record { names = given_names t d; asks = asked t d } in
+    let value = merged_value-step f first (sources t slots row ds)
+    ∙ ap (λ (b : Bool). cond b (merged_value f (sources t slots row ds)) (cond (has_name f (given_names t d)) (field_of f (mean t slots row d)) fault)) same in
+    let ask = asked_of_giver-step f path asks (givers t ds)
+    ∙ ap (λ (b : Bool). cond b (asked_of_giver (givers t ds) (f ∷ path)) (cond (has_name f (given_names t d)) (asked t d (f ∷ path)) [])) (givers-same t slots row f ds ∙ same) in
+    subst (λ (v : Val). HoldsNoFault (path_value path v)) (sym value)
+    (by-test (some_gives names_in f us) (sym (merged_type_at-step f a us) ∙ e) (subst (Quiet t slots row) ask q))
+  where
+    by-test : (b : Bool) → cond b (merged_type_at f us) (type_in f a) ≡ Some w
+        → Quiet t slots row (cond b (asked_of_giver (givers t ds) (f ∷ path)) (cond (has_name f (given_names t d)) (asked t d (f ∷ path)) []))
+        → HoldsNoFault (path_value path (cond b (merged_value f (sources t slots row ds)) (cond (has_name f (given_names t d)) (field_of f (mean t slots row d)) fault)))
     by-test true k j = rest f path w k p j
-    by-test false k j = giver-own t slots row d a f path w k p own j
+    by-test false k j =
+        let here : has_name f (given_names t d) ≡ true = ap (has_name f) named ∙ type_in-named f a w k in
+        subst (λ (b : Bool). HoldsNoFault (path_value path (cond b (field_of f (mean t slots row d)) fault))) (sym here)
+        (giver-own t slots row d a f path w k p own (subst (λ (b : Bool). Quiet t slots row (cond b (asked t d (f ∷ path)) [])) here j))
 
 -- what a pack takes from its values holds no fault
 abbrev pub PackFaultless : Ty → Slots → Val → List Bytes → Trees → List Ty → Type 0
@@ -393,12 +404,12 @@ mutual
       let a = and_then-ok (typed_of t d) (select_type c) u e in
       select-faultless t slots row c d a.given u e a.gave (mean-fits t slots row d a.given (fits-but_for_faults row t h) s a.was) (mean-faultless t slots row d a.given h s a.was) path p q
   mean-faultless t slots row (dynamic d op k slot default) u h s e path p q =
-      let parts = and_parts (held_fits (slice_get slots k) slot) (slots_fit slots d) s in
+      let parts = and_parts (held_fits (slot_held slots k) slot) (slots_fit slots d) s in
       let a = and_then-ok (typed_of t d) (dynamic_type slot) u e in
       let fb = fits-but_for_faults row t h in
       let x = HoldsNoFault-IsNoFault (mean t slots row d) (mean-faultless t slots row d a.given h parts.1 a.was [] refl q) in
       let test = one_test (equal_plain a.given slot) (bool_ty (union_of a.given slot)) u a.gave in
-      let sound = dynamic-IsNoFault op default (mean t slots row d) (slice_get slots k) slot a.given test.0 parts.0 (mean-fits t slots row d a.given fb parts.1 a.was) x in
+      let sound = dynamic-IsNoFault op default (mean t slots row d) (slot_held slots k) slot a.given test.0 parts.0 (mean-fits t slots row d a.given fb parts.1 a.was) x in
       plain-path-HoldsNoFault path u (mean t slots row (dynamic d op k slot default)) (bool-plain (equal_plain a.given slot) (union_of a.given slot) u a.gave) p
       (mean-fits t slots row (dynamic d op k slot default) u fb s e) sound
 
@@ -421,7 +432,7 @@ mutual
       let a = and_then-ok (typed_of t d) (λ x. and_then (all_typed t ds) (λ xs. Ok (x ∷ xs))) us e in
       let b = and_then-ok (all_typed t ds) (λ xs. Ok (a.given ∷ xs)) us a.gave in
       subst (λ (z : List Ty). GiversFaultless t slots row (tree d ds) z) (Ok-same (Ok us) (a.given ∷ b.given) us (sym b.gave) refl)
-      (givers-faultless t slots row d ds a.given b.given (sources-fit t slots row ds b.given (fits-but_for_faults row t h) parts.1 b.was) (mean-faultless t slots row d a.given h parts.0 a.was)
+      (givers-faultless t slots row d ds a.given b.given (ap (λ (r : Result Ty Refusal). names_in (type_or_empty r)) a.was) (sources-fit t slots row ds b.given (fits-but_for_faults row t h) parts.1 b.was) (mean-faultless t slots row d a.given h parts.0 a.was)
       (merged-faultless t slots row ds b.given h parts.1 b.was))
 
 pub no_break_no_fault : NoBreakNoFault

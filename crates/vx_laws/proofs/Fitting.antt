@@ -1,7 +1,7 @@
 -- That what the rules at one row give fits the types of the typing table, but for faults.
 use Rattle.std.proofs.Common.{◌≡◌, refl, ap, ◌∙◌, Bool, true, false, cond, ◌&&◌, Option, Some, None, subst}
 use Rattle.std.specs.declared.cmp.Ordering.{Ordering}
-use Rattle.std.specs.Prelude.{ℤ, ◌+ℤ◌, ◌-ℤ◌}
+use Rattle.std.specs.Prelude.{ℤ, ◌+ℤ◌, ◌-ℤ◌, option_map}
 use Rattle.std.proofs.lemmas.Bool.{and_parts, and_from}
 use Rattle.vx_dtype.specs.declared.PType.{PType}
 use Rattle.vx_dtype.specs.declared.PType.TheVariants.{U8, U16, U32, U64, I8, I16, I32, I64}
@@ -11,18 +11,18 @@ use Rattle.vx_dtype.specs.declared.CompareOperator.{CompareOperator}
 use Rattle.vx_dtype.specs.declared.BetweenOptions.{BetweenOptions}
 use Rattle.vx_dtype.specs.Types.{Ty, bool_ty, int_ty, text_ty, list_ty, struct_ty, Fields, no_fields, field}
 use Rattle.vx_dtype.specs.TypeRules.{is_nullable, nullability_of, union, same_ptype, alike, is_plain}
-use Rattle.vx_dtype.specs.Values.{Raw, raw_null, raw_bool, raw_int, raw_text, raw_list, raw_struct, Raws, no_raws, raw, Val, null_val, bool_val, int_val, text_val, list_val, struct_val, fault, Vals, no_vals, val, Members, no_members, member, Typed, valued, all_valued, members_valued, value_of}
-use Rattle.vx_dtype.specs.Fits.{fits, all_fit, fields_fit, in_range, val_fits, vals_fit, members_fit, fits_but_for_faults, vals_fit_but_for_faults, members_fit_but_for_faults}
+use Rattle.vx_dtype.proofs.ValuedLemmas.{val_fits_valued}
+use Rattle.vx_dtype.specs.Values.{as_many, Raw, raw_null, raw_bool, raw_int, raw_text, raw_list, raw_struct, Val, null_val, bool_val, int_val, text_val, list_val, struct_val, fault, Vals, no_vals, val, Members, no_members, member, Typed, valued, members_valued, value_of}
+use Rattle.vx_dtype.specs.Fits.{fits, in_range, val_fits, vals_fit, members_fit, fits_but_for_faults, vals_fit_but_for_faults, members_fit_but_for_faults}
 use Rattle.vx_dtype.specs.Logic.{Tri, holds, fails, unknown, broken, tri, truth, and_tri, or_tri, not_tri, and3, or3, not3, is_null3, on_known}
 use Rattle.vx_dtype.specs.Order.{order, by_order, compared, compare3, between3, bound_operator}
 use Rattle.vx_dtype.specs.Sums.{int_in, sum_of, difference_of, add3, sub3}
 use Rattle.vx_dtype.specs.Like.{like_of, like3}
 use Rattle.vx_dtype.specs.Casts.{takes_cast, cast3}
 use Rattle.vx_dtype.specs.Lists.{contains_of, contains3}
-use Rattle.vx_semantics.specs.Meaning.{default_answer, dynamic3, held_value}
+use Rattle.vx_semantics.specs.Meaning.{default_answer, dynamic3}
 use Rattle.vx_semantics.specs.Slots.{null_allowed, held_fits}
 use Rattle.vx_laws.proofs.Comparing.{same_ptype-same}
-use Rattle.vx_laws.proofs.Inverting.{bytes_eq-itself}
 
 -- whether a value is null only where this is nullable
 abbrev pub null_ok : Val → Nullability → Bool
@@ -249,6 +249,10 @@ unfolding fits_but_for_faults
 default-fits b fault n = refl
 default-fits b _ n = refl
 
+held_struct-null_ok : (same : Bool) (ms : Members) (n : Nullability) → null_ok (cond same (struct_val ms) fault) n ≡ true
+held_struct-null_ok true ms n = refl
+held_struct-null_ok false ms n = refl
+
 held_null_ok : (r : Raw) (s : Ty) (t : Ty) → null_allowed r t ≡ true → null_ok (valued r s) (nullability_of t) ≡ true
 unfolding valued
 held_null_ok raw_null s t h = h
@@ -260,49 +264,20 @@ held_null_ok (raw_text b) (text_ty n) t h = refl
 held_null_ok (raw_text b) _ t h = refl
 held_null_ok (raw_list b) (list_ty e n) t h = refl
 held_null_ok (raw_list b) _ t h = refl
-held_null_ok (raw_struct b) (struct_ty fs n) t h = refl
+held_null_ok (raw_struct b) (struct_ty fs n) t h = held_struct-null_ok (as_many b fs) (members_valued b fs) (nullability_of t)
 held_null_ok (raw_struct b) _ t h = refl
 
-pub dynamic3-fits : (op : CompareOperator) (default : Bool) (v : Val) (held : Option (Option Typed)) (slot : Ty) (n : Nullability) → null_ok v n ≡ true → held_fits held slot ≡ true
-    → fits_but_for_faults (dynamic3 op default v (held_value held)) (bool_ty (union n (nullability_of slot))) ≡ true
+pub dynamic3-fits : (op : CompareOperator) (default : Bool) (v : Val) (held : Option Typed) (slot : Ty) (n : Nullability) → null_ok v n ≡ true → held_fits held slot ≡ true
+    → fits_but_for_faults (dynamic3 op default v (option_map value_of held)) (bool_ty (union n (nullability_of slot))) ≡ true
 dynamic3-fits op default v None slot n a h = default-fits default v (union n (nullability_of slot))
-dynamic3-fits op default v (Some None) slot n a h = default-fits default v (union n (nullability_of slot))
-dynamic3-fits op default v (Some (Some s)) slot n a h =
+dynamic3-fits op default v (Some s) slot n a h =
     let parts = and_parts (alike s.ty slot) (fits s.value s.ty && null_allowed s.value slot) h in
     let more = and_parts (fits s.value s.ty) (null_allowed s.value slot) parts.1 in
     compare3-fits op v (value_of s) n (nullability_of slot) a (held_null_ok s.value s.ty slot more.1)
 
-mutual
-  unfolding fits valued val_fits
-
-  -- a raw value of a type stands for a value of the type
-  pub valued-fits : (r : Raw) (t : Ty) → fits r t ≡ true → val_fits (valued r t) t ≡ true
-  valued-fits raw_null t h = h
-  valued-fits (raw_bool b) (bool_ty n) h = refl
-  valued-fits (raw_bool b) _ h = let no : ⊥ = cc in absurd no
-  valued-fits (raw_int i) (int_ty p n) h = and_from (same_ptype p p) (in_range p i) (same_ptype-itself p) h
-  valued-fits (raw_int i) _ h = let no : ⊥ = cc in absurd no
-  valued-fits (raw_text s) (text_ty n) h = refl
-  valued-fits (raw_text s) _ h = let no : ⊥ = cc in absurd no
-  valued-fits (raw_list xs) (list_ty e n) h = all_valued-fit xs e h
-  valued-fits (raw_list xs) _ h = let no : ⊥ = cc in absurd no
-  valued-fits (raw_struct xs) (struct_ty fs n) h = members_valued-fit xs fs h
-  valued-fits (raw_struct xs) _ h = let no : ⊥ = cc in absurd no
-
-  all_valued-fit : (rs : Raws) (t : Ty) → all_fit rs t ≡ true → vals_fit (all_valued rs t) t ≡ true
-  all_valued-fit no_raws t h = refl
-  all_valued-fit (raw r rs) t h =
-      let parts = and_parts (fits r t) (all_fit rs t) h in
-      and_from (val_fits (valued r t) t) (vals_fit (all_valued rs t) t) (valued-fits r t parts.0) (all_valued-fit rs t parts.1)
-
-  members_valued-fit : (rs : Raws) (fs : Fields) → fields_fit rs fs ≡ true → members_fit (members_valued rs fs) fs ≡ true
-  members_valued-fit no_raws no_fields h = refl
-  members_valued-fit (raw r rs) (field f t fs) h =
-      let parts = and_parts (fits r t) (fields_fit rs fs) h in
-      let rest = members_valued-fit rs fs parts.1 in
-      let own = valued-fits r t parts.0 in
-      simp (bytes_eq-itself, own, rest)
-  members_valued-fit _ _ h = let no : ⊥ = cc in absurd no
+-- a raw value of a type stands for a value of the type
+pub valued-fits : (r : Raw) (t : Ty) → fits r t ≡ true → val_fits (valued r t) t ≡ true
+valued-fits r t h = val_fits_valued r t h
 
 mutual
   unfolding val_fits fits_but_for_faults

@@ -3,6 +3,7 @@ pub mod Comparing
 pub mod Conjunctions
 pub mod Inverting
 pub mod Fitting
+pub mod Merging
 pub mod Structs
 pub mod Preserving
 pub mod Distinct

@@ -1,6 +1,5 @@
 -- A strictly typed expression means a value of its type, but for faults.
 use Rattle.std.proofs.Common.{◌≡◌, ℕ, refl, ap, sym, ◌∙◌, Bool, true, ◌&&◌, subst, List, [], ◌∷◌, Result, Ok}
-use Rattle.std.specs.Prelude.{slice_get}
 use Rattle.std.proofs.lemmas.Bool.{and_parts}
 use Rattle.vx_dtype.specs.declared.Nullability.TheVariants.{NonNullable}
 use Rattle.vx_dtype.specs.declared.CompareOperator.{CompareOperator}
@@ -20,6 +19,7 @@ use Rattle.vx_expr.specs.declared.Operator.{Operator}
 use Rattle.vx_expr.specs.Trees.{Tree, root, literal, get_item, binary, not_of, is_null_of, like, between, cast, list_contains, pack, merge, select, dynamic, Trees, no_trees, tree}
 use Rattle.vx_semantics.specs.Typing.{Refusal, duplicate_field, type_mismatch, and_then, unless, distinct_type, literal_type, item_type, select_type, pack_type, merge_type, union_of, equal_plain, compare_type, logic_type, sum_type, binary_type, not_type, like_type, between_type, contains_type, cast_type, dynamic_type, typed_of, all_typed, names_in, type_or_empty}
 use Rattle.vx_semantics.specs.Meaning.{Slots, binary3, dynamic3, slot_value, mean, meanings, sources}
+use Rattle.vx_expr.specs.Slots.{slot_held}
 use Rattle.vx_semantics.specs.Slots.{held_fits, slots_fit, all_slots_fit}
 use Rattle.vx_laws.specs.Values.{MeaningFits, FaultsArePlain}
 use Rattle.vx_laws.proofs.Inverting.{and_then-ok, unless-ok, Ok-same}
@@ -129,11 +129,11 @@ cast-fits target v a u e =
     let t = one_test (takes_cast a target) target u e in
     subst (λ (z : Ty). FitsButFaults (cast3 target v) z) t.1 (cast3-fits target v (takes_cast-plain a target t.0))
 
-dynamic-fits : (op : CompareOperator) (default : Bool) (v : Val) (slots : Slots) (k : ℕ) (slot a u : Ty) → FitsButFaults v a → held_fits (slice_get slots k) slot ≡ true → dynamic_type slot a ≡ Ok u
+dynamic-fits : (op : CompareOperator) (default : Bool) (v : Val) (slots : Slots) (k : ℕ) (slot a u : Ty) → FitsButFaults v a → held_fits (slot_held slots k) slot ≡ true → dynamic_type slot a ≡ Ok u
     → FitsButFaults (dynamic3 op default v (slot_value slots k)) u
 dynamic-fits op default v slots k slot a u h j e =
     let t = one_test (equal_plain a slot) (bool_ty (union_of a slot)) u e in
-    subst (λ (z : Ty). FitsButFaults (dynamic3 op default v (slot_value slots k)) z) t.1 (dynamic3-fits op default v (slice_get slots k) slot (nullability_of a) (null_ok-fits v a h) j)
+    subst (λ (z : Ty). FitsButFaults (dynamic3 op default v (slot_value slots k)) z) t.1 (dynamic3-fits op default v (slot_held slots k) slot (nullability_of a) (null_ok-fits v a h) j)
 
 mutual
   unfolding mean typed_of slots_fit
@@ -186,7 +186,7 @@ mutual
       let a = and_then-ok (typed_of t d) (select_type c) u e in
       select3-fits c (mean t slots row d) a.given u (mean-fits t slots row d a.given h s a.was) a.gave
   mean-fits t slots row (dynamic d op k slot default) u h s e =
-      let parts = and_parts (held_fits (slice_get slots k) slot) (slots_fit slots d) s in
+      let parts = and_parts (held_fits (slot_held slots k) slot) (slots_fit slots d) s in
       let a = and_then-ok (typed_of t d) (dynamic_type slot) u e in
       dynamic-fits op default (mean t slots row d) slots k slot a.given u (mean-fits t slots row d a.given h parts.1 a.was) parts.0 a.gave
 

@@ -1,6 +1,6 @@
 -- That the rules at one row give no fault where their operands fit and are none.
 use Rattle.std.proofs.Common.{◌≡◌, refl, sym, ◌∙◌, Bool, true, false, cond, ◌&&◌, Option, Some, None, subst}
-use Rattle.std.specs.Prelude.{is_some}
+use Rattle.std.specs.Prelude.{is_some, option_map}
 use Rattle.std.specs.Str.{bytes_eq}
 use Rattle.std.proofs.lemmas.Bool.{and_parts, or_from}
 use Rattle.vx_dtype.specs.declared.PType.{PType}
@@ -17,7 +17,7 @@ use Rattle.vx_dtype.specs.Order.{compare3, between3, bound_operator}
 use Rattle.vx_dtype.specs.Like.{like3}
 use Rattle.vx_dtype.specs.Lists.{contains3}
 use Rattle.vx_semantics.specs.Typing.{equal_plain}
-use Rattle.vx_semantics.specs.Meaning.{default_answer, dynamic3, held_value}
+use Rattle.vx_semantics.specs.Meaning.{default_answer, dynamic3}
 use Rattle.vx_semantics.specs.Breaks.{Cause, is_fault, cause_where}
 use Rattle.vx_semantics.specs.Slots.{null_allowed, held_fits}
 use Rattle.vx_laws.proofs.Comparing.{compare3-swap, swapped_comparison}
@@ -218,11 +218,10 @@ default-IsNoFault : (b : Bool) (v : Val) → IsNoFault v → IsNoFault (default_
 default-IsNoFault b fault h = h
 default-IsNoFault b _ h = refl
 
-pub dynamic-IsNoFault : (op : CompareOperator) (default : Bool) (v : Val) (held : Option (Option Typed)) (slot a : Ty) → equal_plain a slot ≡ true → held_fits held slot ≡ true → FitsButFaults v a → IsNoFault v
-    → IsNoFault (dynamic3 op default v (held_value held))
+pub dynamic-IsNoFault : (op : CompareOperator) (default : Bool) (v : Val) (held : Option Typed) (slot a : Ty) → equal_plain a slot ≡ true → held_fits held slot ≡ true → FitsButFaults v a → IsNoFault v
+    → IsNoFault (dynamic3 op default v (option_map value_of held))
 dynamic-IsNoFault op default v None slot a e h k i = default-IsNoFault default v i
-dynamic-IsNoFault op default v (Some None) slot a e h k i = default-IsNoFault default v i
-dynamic-IsNoFault op default v (Some (Some s)) slot a e h k i =
+dynamic-IsNoFault op default v (Some s) slot a e h k i =
     let parts = and_parts (alike s.ty slot) (fits s.value s.ty && null_allowed s.value slot) h in
     let more = and_parts (fits s.value s.ty) (null_allowed s.value slot) parts.1 in
     let p = equal_plain-parts a slot e in

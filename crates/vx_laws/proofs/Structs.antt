@@ -1,6 +1,6 @@
 -- That what the rules on structs give fits the types of the typing table, but for faults.
 use Rattle.std.proofs.Common.{◌≡◌, refl, ap, sym, ◌∙◌, Bool, true, false, cond, not, ◌&&◌, ◌||◌, Option, Some, None, subst, List, [], ◌∷◌, ◌++◌, Result, Ok}
-use Rattle.std.specs.Prelude.{unwrap_or, nat_eq, length}
+use Rattle.std.specs.Prelude.{unwrap_or, option_map, ok_or, nat_eq, length}
 use Rattle.std.specs.Str.{bytes_eq}
 use Rattle.std.specs.List.{list_all, flat_map, filter, AllByRecursion, AllZip}
 use Rattle.std.proofs.lemmas.Bool.{and_parts, and_from, or_left, or_right}
@@ -16,10 +16,12 @@ use Rattle.vx_expr.specs.declared.FieldSelection.TheVariants.{Include, Exclude}
 use Rattle.vx_dtype.specs.StructTypes.{is_struct_ty, fields_at, all_known}
 use Rattle.vx_dtype.specs.Zipped.{zipped}
 use Rattle.vx_expr.specs.Selections.{listed_names}
-use Rattle.vx_semantics.specs.Typing.{Refusal, not_struct, nullable_select, unknown_field, duplicate_field, type_mismatch, unless, item_type, field_type_in, fields_without, selected_fields, included_once, select_type, pack_type, names_in, merged_names, some_has_field, widened_in, merged_type_at, merged_fields_at, merge_type}
-use Rattle.vx_semantics.specs.Meaning.{select3, Source, some_gives, merged_value, merged_members, merged, zip_members}
+use Rattle.vx_semantics.specs.Typing.{Refusal, not_struct, nullable_select, unknown_field, duplicate_field, type_mismatch, unless, item_type, fields_without, selected_fields, included_once, select_type, pack_type, names_in, type_in, merged_type_at, merged_fields_at, merge_type}
+use Rattle.vx_semantics.specs.Merging.{merged_names}
+use Rattle.vx_semantics.specs.Meaning.{select3, Source, source_names, merged_value, merged_members, merged, zip_members}
 use Rattle.vx_laws.proofs.Inverting.{unless-ok, Ok-same, bytes_same, bytes_eq-itself}
 use Rattle.vx_laws.proofs.Fitting.{is_nullable-left, is_nullable-right, null-fits}
+use Rattle.vx_laws.proofs.Merging.{some_gives, some_gives-step, some_gives-here, some_gives-later, some_gives-first, merged_type_at-step, merged_value-step}
 
 -- a value keeps fitting where its type becomes nullable
 pub renulled-fits : (v : Val) (t : Ty) (n : Nullability) → (is_nullable (nullability_of t) ≡ true → is_nullable n ≡ true)
@@ -125,7 +127,7 @@ pub record HasItem (f : Bytes) (t u : Ty) : Type 0 where
 pub item_type-ok : (f : Bytes) (t u : Ty) → item_type f t ≡ Ok u → HasItem f t u
 item_type-ok f (struct_ty fs n) u h = by-field (field_type f fs) refl h
   where
-    by-field : (o : Option Ty) → field_type f fs ≡ o → field_type_in o n ≡ Ok u → HasItem f (struct_ty fs n) u
+    by-field : (o : Option Ty) → field_type f fs ≡ o → ok_or (option_map (λ (w : Ty). widened w n) o) unknown_field ≡ Ok u → HasItem f (struct_ty fs n) u
     by-field None e k = let no : ⊥ = cc in absurd no
     by-field (Some w) e k = record { fields = fs; nullability = n; own = w; is = refl; found = e; gives = Ok-same (Ok (widened w n)) u (widened w n) k refl }
 item_type-ok f (bool_ty n) u h = let no : ⊥ = cc in absurd no
@@ -244,18 +246,14 @@ pub record SourceFits (s : Source) (t : Ty) : Type 0 where
 abbrev pub AllSourcesFit : List Source → List Ty → Type 0
 AllSourcesFit ss ts = AllZip SourceFits ss ts
 
-some_gives-by : (b c : Bool) (more rest : Bool) → b ≡ c → more ≡ rest → (b || more) ≡ cond c true rest
-some_gives-by true true more rest e k = refl
-some_gives-by false false more rest e k = k
-some_gives-by true false more rest e k = let no : ⊥ = cc in absurd no
-some_gives-by false true more rest e k = let no : ⊥ = cc in absurd no
-
-pub some_gives-same : (f : Bytes) (ss : List Source) (ts : List Ty) → AllSourcesFit ss ts → some_gives f ss ≡ some_has_field f ts
+pub some_gives-same : (f : Bytes) (ss : List Source) (ts : List Ty) → AllSourcesFit ss ts → some_gives source_names f ss ≡ some_gives names_in f ts
 some_gives-same f [] [] h = refl
 some_gives-same f (s ∷ ss) [] h = absurd h
 some_gives-same f [] (t ∷ ts) h = absurd h
 some_gives-same f (s ∷ ss) (t ∷ ts) h =
-    some_gives-by (has_name f s.names) (has_name f (names_in t)) (some_gives f ss) (some_has_field f ts) (ap (has_name f) h.0.named) (some_gives-same f ss ts h.1)
+    some_gives-step source_names f s ss
+    ∙ (ap (λ b. cond b true (has_name f s.names)) (some_gives-same f ss ts h.1)
+    ∙ (ap (λ (ns : List Bytes). cond (some_gives names_in f ts) true (has_name f ns)) h.0.named ∙ sym (some_gives-step names_in f t ts)))
 
 -- a merged field that some struct has
 pub record MergedFits (f : Bytes) (ss : List Source) (ts : List Ty) : Type 0 where
@@ -272,30 +270,34 @@ has_field-struct f (int_ty p n) w v e h = let no : ⊥ = cc in absurd no
 has_field-struct f (text_ty n) w v e h = let no : ⊥ = cc in absurd no
 has_field-struct f (list_ty d n) w v e h = let no : ⊥ = cc in absurd no
 
-cond-own_part : (b rest : Bool) → rest ≡ false → cond b true rest ≡ true → b ≡ true
-cond-own_part true rest e k = refl
-cond-own_part false rest e k = let no : ⊥ = cc in absurd no
-
-pub merged_value-fits : (f : Bytes) (ss : List Source) (ts : List Ty) → AllSourcesFit ss ts → some_has_field f ts ≡ true → MergedFits f ss ts
+pub merged_value-fits : (f : Bytes) (ss : List Source) (ts : List Ty) → AllSourcesFit ss ts → some_gives names_in f ts ≡ true → MergedFits f ss ts
 merged_value-fits f [] [] h k = let no : ⊥ = cc in absurd no
 merged_value-fits f (s ∷ ss) [] h k = absurd h
 merged_value-fits f [] (t ∷ ts) h k = absurd h
 merged_value-fits f (s ∷ ss) (t ∷ ts) h k =
-    let r = by-test (some_has_field f ts) refl (merged_value-fits f ss ts h.1) in
+    let r = by-test (some_gives names_in f ts) refl (merged_value-fits f ss ts h.1) in
+    let value = merged_value-step f s ss ∙ ap (λ b. cond b (merged_value f ss) (cond (has_name f s.names) (field_of f s.whole) fault)) (some_gives-same f ss ts h.1) in
     record {
       own = r.0;
-      found = r.1;
-      fits = rw (some_gives-same f ss ts h.1) r.2;
+      found = merged_type_at-step f t ts ∙ r.1;
+      fits = subst (λ (v : Val). fits_but_for_faults v r.0 ≡ true) (sym value) r.2;
     }
   where
-    by-test : (b : Bool) → some_has_field f ts ≡ b → (some_has_field f ts ≡ true → MergedFits f ss ts)
-        → (w : Ty) × (cond b (merged_type_at f ts) (widened_in (field_type f (fields_of t)) (nullability_of t)) ≡ Some w) × (fits_but_for_faults (cond b (merged_value f ss) (field_of f s.whole)) w ≡ true)
+    by-test : (b : Bool) → some_gives names_in f ts ≡ b → (some_gives names_in f ts ≡ true → MergedFits f ss ts)
+        → (w : Ty) × (cond b (merged_type_at f ts) (type_in f t) ≡ Some w)
+        × (fits_but_for_faults (cond b (merged_value f ss) (cond (has_name f s.names) (field_of f s.whole) fault)) w ≡ true)
     by-test true e r = ((r e).own, (r e).found, (r e).fits)
     by-test false e r =
-        let own = has_field f (fields_of t) (cond-own_part (has_name f (names_in t)) (some_has_field f ts) e k) in
-        (widened own.own (nullability_of t), ap (λ (o : Option Ty). widened_in o (nullability_of t)) own.found, has_field-struct f t own.own s.whole own.found h.0.value)
+        let named = some_gives-first names_in f t ts e k in
+        let here : has_name f s.names ≡ true = ap (has_name f) h.0.named ∙ named in
+        let own = has_field f (fields_of t) named in (
+          widened own.own (nullability_of t),
+          ap (option_map (λ (w : Ty). widened w (nullability_of t))) own.found,
+          subst (λ (b : Bool). fits_but_for_faults (cond b (field_of f s.whole) fault) (widened own.own (nullability_of t)) ≡ true) (sym here)
+              (has_field-struct f t own.own s.whole own.found h.0.value),
+        )
 
-pub merged_members-fit : (names : List Bytes) (ss : List Source) (ts : List Ty) → AllSourcesFit ss ts → AllByRecursion (λ f. some_has_field f ts ≡ true) names
+pub merged_members-fit : (names : List Bytes) (ss : List Source) (ts : List Ty) → AllSourcesFit ss ts → AllByRecursion (λ f. some_gives names_in f ts ≡ true) names
     → members_fit_but_for_faults (merged_members names ss) (merged_fields_at names ts) ≡ true
 unfolding fits_but_for_faults
 merged_members-fit [] ss ts h k = refl
@@ -330,33 +332,25 @@ all-own_names [] = tt
 all-own_names (f ∷ names) =
     (or_left (bytes_eq f f) (has_name f names) (bytes_eq-itself f), all-weaker (λ g. has_name g names ≡ true) (λ g. has_name g (f ∷ names) ≡ true) names (λ g h. or_right (bytes_eq g f) (has_name g names) h) (all-own_names names))
 
-cond-true_left : (b rest : Bool) → b ≡ true → cond b true rest ≡ true
-cond-true_left true rest h = refl
-cond-true_left false rest h = let no : ⊥ = cc in absurd no
-
-cond-true_right : (b rest : Bool) → rest ≡ true → cond b true rest ≡ true
-cond-true_right true rest h = refl
-cond-true_right false rest h = h
-
-pub all-given : (ts : List Ty) → AllByRecursion (λ f. some_has_field f ts ≡ true) (flat_map names_in ts)
+pub all-given : (ts : List Ty) → AllByRecursion (λ f. some_gives names_in f ts ≡ true) (flat_map names_in ts)
 all-given [] = tt
 all-given (t ∷ ts) =
-    all-append (λ f. some_has_field f (t ∷ ts) ≡ true) (names_in t) (flat_map names_in ts)
-    (all-weaker (λ f. has_name f (names_in t) ≡ true) (λ f. some_has_field f (t ∷ ts) ≡ true) (names_in t) (λ f h. cond-true_left (has_name f (names_in t)) (some_has_field f ts) h) (all-own_names (names_in t)))
-    (all-weaker (λ f. some_has_field f ts ≡ true) (λ f. some_has_field f (t ∷ ts) ≡ true) (flat_map names_in ts) (λ f h. cond-true_right (has_name f (names_in t)) (some_has_field f ts) h) (all-given ts))
+    all-append (λ f. some_gives names_in f (t ∷ ts) ≡ true) (names_in t) (flat_map names_in ts)
+    (all-weaker (λ f. has_name f (names_in t) ≡ true) (λ f. some_gives names_in f (t ∷ ts) ≡ true) (names_in t) (λ f h. some_gives-here names_in f t ts h) (all-own_names (names_in t)))
+    (all-weaker (λ f. some_gives names_in f ts ≡ true) (λ f. some_gives names_in f (t ∷ ts) ≡ true) (flat_map names_in ts) (λ f h. some_gives-later names_in f t ts h) (all-given ts))
 
-pub source_names-same : (ss : List Source) (ts : List Ty) → AllSourcesFit ss ts → flat_map (λ (s : Source). s.names) ss ≡ flat_map names_in ts
+pub source_names-same : (ss : List Source) (ts : List Ty) → AllSourcesFit ss ts → flat_map source_names ss ≡ flat_map names_in ts
 source_names-same [] [] h = refl
 source_names-same (s ∷ ss) [] h = absurd h
 source_names-same [] (t ∷ ts) h = absurd h
 source_names-same (s ∷ ss) (t ∷ ts) h =
-    ap (λ (xs : List Bytes). xs ++ flat_map (λ (z : Source). z.names) ss) h.0.named ∙ ap (λ (xs : List Bytes). names_in t ++ xs) (source_names-same ss ts h.1)
+    ap (λ (xs : List Bytes). xs ++ flat_map source_names ss) h.0.named ∙ ap (λ (xs : List Bytes). names_in t ++ xs) (source_names-same ss ts h.1)
 
 pub merged-fits : (n : Nullability) (ss : List Source) (ts : List Ty) (u : Ty) → AllSourcesFit ss ts → merge_type n ts ≡ Ok u → fits_but_for_faults (merged ss) u ≡ true
 merged-fits n ss ts u h e =
-    let made : Result Ty Refusal = Ok (struct_ty (merged_fields_at (merged_names ts) ts) n) in
+    let made : Result Ty Refusal = Ok (struct_ty (merged_fields_at (merged_names names_in ts) ts) n) in
     let a = unless-ok (list_all is_struct_ty ts) not_struct made u e in
-    subst (λ (z : Ty). fits_but_for_faults (merged ss) z ≡ true) (Ok-same (Ok u) (struct_ty (merged_fields_at (merged_names ts) ts) n) u (sym a.gave) refl)
-    (subst (λ (xs : List Bytes). fits_but_for_faults (struct_val (merged_members (first_names xs) ss)) (struct_ty (merged_fields_at (merged_names ts) ts) n) ≡ true) (sym (source_names-same ss ts h))
-    (struct-fits (merged_members (merged_names ts) ss) (merged_fields_at (merged_names ts) ts) n
-    (merged_members-fit (merged_names ts) ss ts h (all-first_names (λ f. some_has_field f ts ≡ true) (flat_map names_in ts) (all-given ts)))))
+    subst (λ (z : Ty). fits_but_for_faults (merged ss) z ≡ true) (Ok-same (Ok u) (struct_ty (merged_fields_at (merged_names names_in ts) ts) n) u (sym a.gave) refl)
+    (subst (λ (xs : List Bytes). fits_but_for_faults (struct_val (merged_members (first_names xs) ss)) (struct_ty (merged_fields_at (merged_names names_in ts) ts) n) ≡ true) (sym (source_names-same ss ts h))
+    (struct-fits (merged_members (merged_names names_in ts) ss) (merged_fields_at (merged_names names_in ts) ts) n
+    (merged_members-fit (merged_names names_in ts) ss ts h (all-first_names (λ f. some_gives names_in f ts ≡ true) (flat_map names_in ts) (all-given ts)))))

@@ -1,6 +1,6 @@
 -- Two rows that agree on what an expression asks along a path.
-use Rattle.std.proofs.Common.{◌≡◌, ℕ, refl, ap, sym, ◌∙◌, Bool, true, false, cond, not, ◌&&◌, ◌||◌, Option, Some, None, subst, List, [], ◌∷◌, ◌++◌, Ok}
-use Rattle.std.specs.Prelude.{unwrap_or, slice_get, map}
+use Rattle.std.proofs.Common.{◌≡◌, ℕ, refl, ap, sym, ◌∙◌, Bool, true, false, cond, not, ◌&&◌, ◌||◌, Option, Some, None, subst, List, [], ◌∷◌, ◌++◌, Result, Ok}
+use Rattle.std.specs.Prelude.{unwrap_or, option_map, map}
 use Rattle.std.specs.Str.{bytes_eq}
 use Rattle.std.specs.List.{flat_map, AllByRecursion}
 use Rattle.std.proofs.lemmas.Bool.{and_parts}
@@ -22,12 +22,14 @@ use Rattle.vx_expr.specs.declared.Operator.{Operator}
 use Rattle.vx_expr.specs.declared.FieldSelection.{FieldSelection}
 use Rattle.vx_expr.specs.Trees.{Tree, root, literal, get_item, binary, not_of, is_null_of, like, between, cast, list_contains, pack, merge, select, dynamic, Trees, no_trees, tree}
 use Rattle.vx_dtype.specs.Zipped.{zipped}
-use Rattle.vx_semantics.specs.Typing.{and_then, item_type, selected_fields, select_type, pack_type, merged_names, some_has_field, widened_in, merged_type_at, merged_fields_at, merge_type, binary_type, not_type, like_type, between_type, contains_type, cast_type, dynamic_type, typed_of, all_typed, given_names}
-use Rattle.vx_semantics.specs.Meaning.{Slots, binary3, dynamic3, mean, meanings, sources, Source, some_gives, merged_value, merged_members, merged, zip_members, slot_value, select3}
+use Rattle.vx_semantics.specs.Typing.{and_then, item_type, selected_fields, select_type, pack_type, names_in, type_in, merged_type_at, merged_fields_at, merge_type, binary_type, not_type, like_type, between_type, contains_type, cast_type, dynamic_type, typed_of, all_typed, type_or_empty, Refusal, given_names}
+use Rattle.vx_semantics.specs.Meaning.{Slots, binary3, dynamic3, mean, meanings, sources, source_names, merged_value, merged_members, merged, zip_members, slot_value, select3}
 use Rattle.vx_semantics.specs.Breaks.{by_sum, by_cast, is_fault, cause_where, break_of}
-use Rattle.vx_semantics.specs.Asked.{Asking, asks_node, asks_column, later_gives, all_given_names, each_asked, asked, asked_in_pack, asked_of_giver}
+use Rattle.vx_semantics.specs.Merging.{merged_names}
+use Rattle.vx_semantics.specs.Asked.{Asking, asks_node, asks_column, giver_names, givers, each_asked, asked, asked_in_pack, asked_of_giver}
 use Rattle.vx_semantics.specs.Tables.{row_type}
 use Rattle.vx_semantics.specs.Paths.{path_value}
+use Rattle.vx_expr.specs.Slots.{slot_held}
 use Rattle.vx_semantics.specs.Slots.{held_fits, slots_fit, all_slots_fit}
 use Rattle.vx_laws.proofs.Inverting.{and_then-ok, Ok-same}
 use Rattle.vx_laws.proofs.Structs.{IsStructOf, struct-value, item_type-ok, select_type-ok, select3-fits, AllSourcesFit, merged-fits, has_field, all-own_names, source_names-same, some_gives-same}
@@ -35,7 +37,8 @@ use Rattle.vx_laws.proofs.Preserving.{FitsButFaults, distinct_type-ok, mean-fits
 use Rattle.vx_laws.proofs.Distinct.{struct-distinct, typed-distinct, field_names-merged, members_at-own}
 use Rattle.vx_laws.proofs.Lookups.{merged_fields-type, merged_members-value, select-chosen}
 use Rattle.vx_laws.proofs.Paths.{in_option, path_in, first_of_path, path_in-first, path_in-widened}
-use Rattle.vx_laws.proofs.Faultless.{later-same, all_given-same, merge_type-ok, pack_type-ok, names_in-select}
+use Rattle.vx_laws.proofs.Merging.{some_gives, merged_type_at-step, merged_value-step, asked_of_giver-step, givers-same, giver_names-same}
+use Rattle.vx_laws.proofs.Faultless.{merge_type-ok, pack_type-ok, names_in-select, type_in-named}
 
 module _ (columns : Fields) (slots : Slots) (a b : Val) where
   -- the rows agree on the columns that are asked
@@ -274,16 +277,16 @@ select-agreeing columns slots a b c d s u e g h k r [] p q =
 -- a merge takes fields from its last givers, which agree
 abbrev pub GiversAgreeing : Fields → Slots → Val → Val → Trees → List Ty → Type 0
 GiversAgreeing columns slots a b es us =
-    (f : Bytes) (path : List Bytes) (w : Ty) → merged_type_at f us ≡ Some w → path_in path w ≡ true → AskedAgree columns slots a b (asked_of_giver (row_type columns) es (f ∷ path))
+    (f : Bytes) (path : List Bytes) (w : Ty) → merged_type_at f us ≡ Some w → path_in path w ≡ true → AskedAgree columns slots a b (asked_of_giver (givers (row_type columns) es) (f ∷ path))
     → (path_value path (merged_value f (sources (row_type columns) slots a es)) ≡ path_value path (merged_value f (sources (row_type columns) slots b es)))
-    × NodesSame columns slots a b (asked_of_giver (row_type columns) es (f ∷ path))
+    × NodesSame columns slots a b (asked_of_giver (givers (row_type columns) es) (f ∷ path))
 
-giver-own : (columns : Fields) (slots : Slots) (a b : Val) (d : Tree) (s : Ty) (f : Bytes) (path : List Bytes) (w : Ty) → widened_in (field_type f (fields_of s)) (nullability_of s) ≡ Some w → path_in path w ≡ true
+giver-own : (columns : Fields) (slots : Slots) (a b : Val) (d : Tree) (s : Ty) (f : Bytes) (path : List Bytes) (w : Ty) → type_in f s ≡ Some w → path_in path w ≡ true
     → Agreeing columns slots a b d s → AskedAgree columns slots a b (asked (row_type columns) d (f ∷ path))
     → Outcome columns slots a b (asked (row_type columns) d (f ∷ path)) (f ∷ path) (mean (row_type columns) slots a d) (mean (row_type columns) slots b d)
 giver-own columns slots a b d s f path w e p r q = by-type (field_type f (fields_of s)) refl e
   where
-    by-type : (o : Option Ty) → field_type f (fields_of s) ≡ o → widened_in o (nullability_of s) ≡ Some w
+    by-type : (o : Option Ty) → field_type f (fields_of s) ≡ o → option_map (λ (v : Ty). widened v (nullability_of s)) o ≡ Some w
         → Outcome columns slots a b (asked (row_type columns) d (f ∷ path)) (f ∷ path) (mean (row_type columns) slots a d) (mean (row_type columns) slots b d)
     by-type None j k = let no : ⊥ = cc in absurd no
     by-type (Some v) j k =
@@ -291,42 +294,55 @@ giver-own columns slots a b d s f path w e p r q = by-type (field_type f (fields
         let inner : path_in path v ≡ true = sym (path_in-widened path v (nullability_of s)) ∙ subst (λ (z : Ty). path_in path z ≡ true) (sym same) p in
         r (f ∷ path) (path_in-first f path (fields_of s) v j inner) q
 
-givers-agreeing : (columns : Fields) (slots : Slots) (a b : Val) (d : Tree) (ds : Trees) (s : Ty) (us : List Ty) → AllSourcesFit (sources (row_type columns) slots a ds) us
-    → AllSourcesFit (sources (row_type columns) slots b ds) us → Agreeing columns slots a b d s → GiversAgreeing columns slots a b ds us → GiversAgreeing columns slots a b (tree d ds) (s ∷ us)
+givers-agreeing : (columns : Fields) (slots : Slots) (a b : Val) (d : Tree) (ds : Trees) (s : Ty) (us : List Ty) → given_names (row_type columns) d ≡ names_in s
+    → AllSourcesFit (sources (row_type columns) slots a ds) us → AllSourcesFit (sources (row_type columns) slots b ds) us
+    → Agreeing columns slots a b d s → GiversAgreeing columns slots a b ds us → GiversAgreeing columns slots a b (tree d ds) (s ∷ us)
 unfolding mean asked
-givers-agreeing columns slots a b d ds s us fit other own rest f path w e p q =
+givers-agreeing columns slots a b d ds s us named fit other own rest f path w e p q =
     let t = row_type columns in
     let xs = sources t slots a ds in
     let ys = sources t slots b ds in
-    let gives : some_gives f xs ≡ some_has_field f us = some_gives-same f xs us fit in
-    let gives_other : some_gives f ys ≡ some_has_field f us = some_gives-same f ys us other in
-    let later : later_gives t f ds ≡ some_has_field f us = later-same t slots a f ds ∙ gives in
-    let done = by-test (some_has_field f us) e (subst (λ (x : Bool). AskedAgree columns slots a b (cond x (asked_of_giver t ds (f ∷ path)) (asked t d (f ∷ path)))) later q) in (
-      ap (λ (x : Bool). path_value path (cond x (merged_value f xs) (field_of f (mean t slots a d)))) gives
-          ∙ (done.0 ∙ sym (ap (λ (x : Bool). path_value path (cond x (merged_value f ys) (field_of f (mean t slots b d)))) gives_other)),
-      subst (λ (x : Bool). NodesSame columns slots a b (cond x (asked_of_giver t ds (f ∷ path)) (asked t d (f ∷ path)))) (sym later) done.1,
+    let here = has_name f (given_names t d) in
+    let gives = some_gives-same f xs us fit in
+    let gives_other = some_gives-same f ys us other in
+    let value = merged_value-step f (record { names = given_names t d; whole = mean t slots a d }) xs
+    ∙ ap (λ (x : Bool). cond x (merged_value f xs) (cond here (field_of f (mean t slots a d)) fault)) gives in
+    let value_other = merged_value-step f (record { names = given_names t d; whole = mean t slots b d }) ys
+    ∙ ap (λ (x : Bool). cond x (merged_value f ys) (cond here (field_of f (mean t slots b d)) fault)) gives_other in
+    let ask = asked_of_giver-step f path (record { names = given_names t d; asks = asked t d }) (givers t ds)
+    ∙ ap (λ (x : Bool). cond x (asked_of_giver (givers t ds) (f ∷ path)) (cond here (asked t d (f ∷ path)) [])) (givers-same t slots a f ds ∙ gives) in
+    let done = by-test (some_gives names_in f us) (sym (merged_type_at-step f s us) ∙ e) (subst (AskedAgree columns slots a b) ask q) in (
+      ap (path_value path) value ∙ (done.0 ∙ sym (ap (path_value path) value_other)),
+      subst (NodesSame columns slots a b) (sym ask) done.1,
     )
   where
-    by-test : (x : Bool) → cond x (merged_type_at f us) (widened_in (field_type f (fields_of s)) (nullability_of s)) ≡ Some w
-        → AskedAgree columns slots a b (cond x (asked_of_giver (row_type columns) ds (f ∷ path)) (asked (row_type columns) d (f ∷ path)))
-        → (path_value path (cond x (merged_value f (sources (row_type columns) slots a ds)) (field_of f (mean (row_type columns) slots a d)))
-        ≡ path_value path (cond x (merged_value f (sources (row_type columns) slots b ds)) (field_of f (mean (row_type columns) slots b d))))
-        × NodesSame columns slots a b (cond x (asked_of_giver (row_type columns) ds (f ∷ path)) (asked (row_type columns) d (f ∷ path)))
+    by-test : (x : Bool) → cond x (merged_type_at f us) (type_in f s) ≡ Some w
+        → AskedAgree columns slots a b (cond x (asked_of_giver (givers (row_type columns) ds) (f ∷ path)) (cond (has_name f (given_names (row_type columns) d)) (asked (row_type columns) d (f ∷ path)) []))
+        → (path_value path (cond x (merged_value f (sources (row_type columns) slots a ds)) (cond (has_name f (given_names (row_type columns) d)) (field_of f (mean (row_type columns) slots a d)) fault))
+        ≡ path_value path (cond x (merged_value f (sources (row_type columns) slots b ds)) (cond (has_name f (given_names (row_type columns) d)) (field_of f (mean (row_type columns) slots b d)) fault)))
+        × NodesSame columns slots a b (cond x (asked_of_giver (givers (row_type columns) ds) (f ∷ path)) (cond (has_name f (given_names (row_type columns) d)) (asked (row_type columns) d (f ∷ path)) []))
     by-test true k j = rest f path w k p j
-    by-test false k j = let o = giver-own columns slots a b d s f path w k p own j in (o.value, o.nodes)
+    by-test false k j =
+        let t = row_type columns in
+        let here : has_name f (given_names t d) ≡ true = ap (has_name f) named ∙ type_in-named f s w k in
+        let o = giver-own columns slots a b d s f path w k p own (subst (λ (x : Bool). AskedAgree columns slots a b (cond x (asked t d (f ∷ path)) [])) here j) in (
+          ap (λ (x : Bool). path_value path (cond x (field_of f (mean t slots a d)) fault)) here
+              ∙ (o.value ∙ sym (ap (λ (x : Bool). path_value path (cond x (field_of f (mean t slots b d)) fault)) here)),
+          subst (λ (x : Bool). NodesSame columns slots a b (cond x (asked t d (f ∷ path)) [])) (sym here) o.nodes,
+        )
 
 merge-one : (columns : Fields) (slots : Slots) (a b : Val) (es : Trees) (n : Nullability) (us : List Ty) (u : Ty) → merge_type n us ≡ Ok u → AllSourcesFit (sources (row_type columns) slots a es) us
     → AllSourcesFit (sources (row_type columns) slots b es) us → GiversAgreeing columns slots a b es us
-    → (f : Bytes) (path : List Bytes) → path_in (f ∷ path) u ≡ true → AskedAgree columns slots a b (asked_of_giver (row_type columns) es (f ∷ path))
-    → Outcome columns slots a b (asked_of_giver (row_type columns) es (f ∷ path)) (f ∷ path) (merged (sources (row_type columns) slots a es)) (merged (sources (row_type columns) slots b es))
+    → (f : Bytes) (path : List Bytes) → path_in (f ∷ path) u ≡ true → AskedAgree columns slots a b (asked_of_giver (givers (row_type columns) es) (f ∷ path))
+    → Outcome columns slots a b (asked_of_giver (givers (row_type columns) es) (f ∷ path)) (f ∷ path) (merged (sources (row_type columns) slots a es)) (merged (sources (row_type columns) slots b es))
 merge-one columns slots a b es n us u e h g r f path p q =
     let k = merge_type-ok us n u e in
     let xs = sources (row_type columns) slots a es in
     let ys = sources (row_type columns) slots b es in
-    let first = first_of_path f path (merged_fields_at (merged_names us) us) (subst (λ (z : Ty). path_in (f ∷ path) z ≡ true) k.gives p) in
-    let found = merged_fields-type (merged_names us) us f first.own first.found in
-    let own = first_names (flat_map (λ (s : Source). s.names) xs) in
-    let other = first_names (flat_map (λ (s : Source). s.names) ys) in
+    let first = first_of_path f path (merged_fields_at (merged_names names_in us) us) (subst (λ (z : Ty). path_in (f ∷ path) z ≡ true) k.gives p) in
+    let found = merged_fields-type (merged_names names_in us) us f first.own first.found in
+    let own = first_names (flat_map source_names xs) in
+    let other = first_names (flat_map source_names ys) in
     let in_own : has_name f own ≡ true = ap (λ (z : List Bytes). has_name f (first_names z)) (source_names-same xs us h) ∙ found.name in
     let in_other : has_name f other ≡ true = ap (λ (z : List Bytes). has_name f (first_names z)) (source_names-same ys us g) ∙ found.name in
     let done = r f path first.own found.type first.rest q in
@@ -336,12 +352,12 @@ merge-one columns slots a b es n us u e h g r f path p q =
     }
 
 merge-struct : (t : Ty) (slots : Slots) (row : Val) (es : Trees) (n : Nullability) (us : List Ty) (u : Ty) → merge_type n us ≡ Ok u → AllSourcesFit (sources t slots row es) us
-    → IsStructOf (merged (sources t slots row es)) (merged_fields_at (merged_names us) us)
+    → IsStructOf (merged (sources t slots row es)) (merged_fields_at (merged_names names_in us) us)
 unfolding fits_but_for_faults
 merge-struct t slots row es n us u e h =
     let k = merge_type-ok us n u e in
     let ss = sources t slots row es in
-    record { members = merged_members (first_names (flat_map (λ (s : Source). s.names) ss)) ss; is = refl; fit = subst (FitsButFaults (merged ss)) k.gives (merged-fits n ss us u h e) }
+    record { members = merged_members (first_names (flat_map source_names ss)) ss; is = refl; fit = subst (FitsButFaults (merged ss)) k.gives (merged-fits n ss us u h e) }
 
 merge-agreeing : (columns : Fields) (slots : Slots) (a b : Val) (es : Trees) (n : Nullability) (us : List Ty) (u : Ty) → typed_of (row_type columns) (merge es n) ≡ Ok u → merge_type n us ≡ Ok u
     → AllSourcesFit (sources (row_type columns) slots a es) us → AllSourcesFit (sources (row_type columns) slots b es) us → GiversAgreeing columns slots a b es us → Agreeing columns slots a b (merge es n) u
@@ -351,12 +367,12 @@ merge-agreeing columns slots a b es n us u e g h k r (f ∷ path) p q =
 merge-agreeing columns slots a b es n us u e g h k r [] p q =
     let t = row_type columns in
     let i = merge_type-ok us n u g in
-    let fs = merged_fields_at (merged_names us) us in
+    let fs = merged_fields_at (merged_names names_in us) us in
     let xs = sources t slots a es in
     let ys = sources t slots b es in
     let distinct = struct-distinct fs n (subst (λ (z : Ty). no_name_twice z ≡ true) i.gives (typed-distinct t (merge es n) u e)) in
-    let same : first_names (all_given_names t es) ≡ field_names fs = ap first_names (all_given-same t slots a es ∙ source_names-same xs us h) ∙ sym (field_names-merged us) in
-    let each = each-outcome columns slots a b (asked_of_giver t es) fs (first_names (all_given_names t es)) (merged xs) (merged ys)
+    let same : merged_names giver_names (givers t es) ≡ field_names fs = ap first_names (giver_names-same t slots a es ∙ source_names-same xs us h) ∙ sym (field_names-merged us) in
+    let each = each-outcome columns slots a b (asked_of_giver (givers t es)) fs (merged_names giver_names (givers t es)) (merged xs) (merged ys)
     (λ f found one. merge-one columns slots a b es n us u g h k r f [] (subst (λ (z : Ty). path_in (f ∷ []) z ≡ true) (sym i.gives) found) one)
     (subst (AllByRecursion (λ f. has_name f (field_names fs) ≡ true)) (sym same) (all-own_names (field_names fs))) q in
     record {
@@ -488,7 +504,7 @@ mutual
       select-agreeing columns slots a b c d x.given u e x.gave (mean-fits t slots a d x.given h s x.was) (mean-fits t slots b d x.given k s x.was) (mean-agreeing columns slots a b d x.given h k s x.was)
   mean-agreeing columns slots a b (dynamic d op j slot default) u h k s e =
       let t = row_type columns in
-      let parts = and_parts (held_fits (slice_get slots j) slot) (slots_fit slots d) s in
+      let parts = and_parts (held_fits (slot_held slots j) slot) (slots_fit slots d) s in
       let x = and_then-ok (typed_of t d) (dynamic_type slot) u e in
       dynamic-agreeing columns slots a b d op j slot default x.given u (mean-agreeing columns slots a b d x.given h k parts.1 x.was)
 
@@ -515,5 +531,5 @@ mutual
       let x = and_then-ok (typed_of t d) (λ z. and_then (all_typed t ds) (λ zs. Ok (z ∷ zs))) us e in
       let y = and_then-ok (all_typed t ds) (λ zs. Ok (x.given ∷ zs)) us x.gave in
       subst (λ (z : List Ty). GiversAgreeing columns slots a b (tree d ds) z) (Ok-same (Ok us) (x.given ∷ y.given) us (sym y.gave) refl)
-      (givers-agreeing columns slots a b d ds x.given y.given (sources-fit t slots a ds y.given h parts.1 y.was) (sources-fit t slots b ds y.given k parts.1 y.was)
+      (givers-agreeing columns slots a b d ds x.given y.given (ap (λ (r : Result Ty Refusal). names_in (type_or_empty r)) x.was) (sources-fit t slots a ds y.given h parts.1 y.was) (sources-fit t slots b ds y.given k parts.1 y.was)
       (mean-agreeing columns slots a b d x.given h k parts.0 x.was) (merged-agreeing columns slots a b ds y.given h k parts.1 y.was))

@@ -1,5 +1,5 @@
 -- Membership of an operand in a constant list is exact.
-use Rattle.std.proofs.Common.{◌≡◌, ℕ, refl, ap, sym, ◌∙◌, Bool, true, false, not, ◌&&◌, ◌||◌, Option, Some, None, subst, List, Ok, ⊎_elim}
+use Rattle.std.proofs.Common.{◌≡◌, ℕ, refl, ap, sym, ◌∙◌, Bool, true, false, cond, not, ◌&&◌, ◌||◌, Option, Some, None, subst, List, Ok, ⊎_elim}
 use Rattle.std.specs.Prelude.{is_some}
 use Rattle.std.proofs.lemmas.Bool.{and_parts, and_from, and_cases, or_parts, or_left, or_right}
 use Rattle.vx_dtype.specs.declared.Nullability.{Nullability}
@@ -8,7 +8,7 @@ use Rattle.vx_dtype.specs.declared.Stat.{Stat}
 use Rattle.vx_dtype.specs.declared.Stat.TheVariants.{Min, Max}
 use Rattle.vx_dtype.specs.Types.{Bytes, Ty, bool_ty, int_ty, text_ty, list_ty, struct_ty}
 use Rattle.vx_dtype.specs.TypeRules.{alike, is_plain, nullability_of, union}
-use Rattle.vx_dtype.specs.Values.{Raw, raw_null, raw_bool, raw_int, raw_text, raw_list, raw_struct, Raws, no_raws, raw, Val, null_val, bool_val, int_val, text_val, list_val, struct_val, fault, Vals, Typed, valued, all_valued, value_of}
+use Rattle.vx_dtype.specs.Values.{Raw, raw_null, raw_bool, raw_int, raw_text, raw_list, raw_struct, Raws, no_raws, raw, Val, null_val, bool_val, int_val, text_val, list_val, struct_val, fault, Vals, Members, Typed, valued, all_valued, members_valued, as_many, value_of}
 use Rattle.vx_dtype.specs.Fits.{fits, all_fit}
 use Rattle.vx_dtype.specs.Logic.{is_true_val, is_null_val}
 use Rattle.vx_dtype.specs.Lists.{has_element, contains3}
@@ -41,6 +41,11 @@ pub record ListShape (v : Val) (ty : Ty) : Type 0 where
   pub fit : all_fit items element ≡ true
   pub known : none_is_null (all_valued items element) ≡ true
 
+-- what a raw struct stands for is no list
+struct-no_list : (same : Bool) (ms : Members) → is_list_without_null (cond same (struct_val ms) fault) ≡ true → ⊥
+struct-no_list true ms k = cc
+struct-no_list false ms k = cc
+
 pub list-shape : (x : Raw) (ty : Ty) → fits x ty ≡ true → is_list_without_null (valued x ty) ≡ true → ListShape (valued x ty) ty
 unfolding fits valued
 list-shape (raw_list xs) (list_ty d n) h k = record { element = d; nullability = n; items = xs; is = refl; value = refl; fit = h; known = k }
@@ -52,7 +57,7 @@ list-shape (raw_int b) (int_ty p n) h k = let no : ⊥ = cc (k) in absurd no
 list-shape (raw_int b) _ h k = let no : ⊥ = cc (h) in absurd no
 list-shape (raw_text b) (text_ty n) h k = let no : ⊥ = cc (k) in absurd no
 list-shape (raw_text b) _ h k = let no : ⊥ = cc (h) in absurd no
-list-shape (raw_struct b) (struct_ty fs n) h k = let no : ⊥ = cc (k) in absurd no
+list-shape (raw_struct b) (struct_ty fs n) h k = absurd (struct-no_list (as_many b fs) (members_valued b fs) k)
 list-shape (raw_struct b) _ h k = let no : ⊥ = cc (h) in absurd no
 
 -- an element that does not lie outside of the bounds

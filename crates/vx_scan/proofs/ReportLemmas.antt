@@ -1,5 +1,6 @@
 -- The report of a scan that has come to its end, and what is left undone where there is no memory.
 use Rattle.std.proofs.Common.{◌≡◌, refl, ap, ◌∙◌, sym, ℕ, zero, suc, Bool, true, false, not, ◌||◌, cond, Option, Some, None, List, [], ◌∷◌, ◌++◌, map, length, drop, arith, subst, Ok}
+use Rattle.std.specs.Prelude.{option_map, ok_or}
 use Rattle.std.specs.Cmp.{first_so, second_so}
 use Rattle.std.specs.List.{list_all, filter, flat_map}
 use Rattle.std.specs.Str.{bytes_eq}
@@ -8,14 +9,14 @@ use Rattle.vx_dtype.specs.declared.Nullability.TheVariants.{NonNullable}
 use Rattle.vx_dtype.specs.Equal.{ty_eq}
 use Rattle.vx_dtype.specs.EqualLaws.{ty_decides}
 use Rattle.vx_dtype.specs.StructTypes.{field_types}
-use Rattle.vx_dtype.specs.TypeRules.{has_name, field_names, field_type, no_name_twice}
+use Rattle.vx_dtype.specs.TypeRules.{has_name, field_names, field_type, no_name_twice, widened}
 use Rattle.vx_dtype.specs.Types.{Bytes, Ty, Fields, no_fields, field}
 use Rattle.vx_dtype.specs.Values.{Val}
 use Rattle.vx_expr.specs.Trees.{Tree}
 use Rattle.vx_semantics.specs.Pruning.{rules_out}
 use Rattle.vx_semantics.specs.Scans.{block_reads, block_rows, reads_of}
 use Rattle.vx_semantics.specs.Tables.{Table, Zones, row_type, numbered_from}
-use Rattle.vx_semantics.specs.Typing.{typed_of, unless, and_then, item_type, field_type_in, duplicate_field}
+use Rattle.vx_semantics.specs.Typing.{typed_of, unless, and_then, item_type, duplicate_field, unknown_field}
 use Rattle.vx_prune.specs.Zoning.{broken_rule}
 use Rattle.vx_wire.specs.declared.ExprEncoding.{ExprEncoding}
 use Rattle.vx_scan.specs.declared.plans.Plan.{Plan}
@@ -48,7 +49,7 @@ typed_projection zones plan h r =
     let types = first_so (list_all (λ t. ty_eq t i64_ty) (field_types zones.columns)) (list_all is_column_bound zones.stats) h.zones_are in
     typed_steps zones.columns plan
     ∙ ap (λ b. and_then (unless b duplicate_field (Ok (row_type zones.columns))) (item_type plan.projected)) (rules_kept zones r).names
-    ∙ ap (λ o. field_type_in o NonNullable) (column_there plan.projected zones.columns h.over.projected types)
+    ∙ ap (λ (o : Option Ty). ok_or (option_map (λ (t : Ty). widened t NonNullable) o) unknown_field) (column_there plan.projected zones.columns h.over.projected types)
 
 -- behind the last block nothing is left
 drop_all : {X : Type 0} (n : ℕ) (xs : List X) → n ≡ length xs → drop n xs ≡ []

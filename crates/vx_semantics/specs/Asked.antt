@@ -1,11 +1,12 @@
 -- What an expression asks by path: the nodes whose values its answer can hang on, and the columns that it touches.
-use Rattle.std.specs.Prelude.{Bool, true, false, cond, List, [], ◌∷◌, ◌++◌, map}
+use Rattle.std.specs.Prelude.{cond, List, [], ◌∷◌, ◌++◌, map, option_map, unwrap_or}
 use Rattle.std.specs.List.{flat_map, filter}
 use Rattle.std.specs.Str.{bytes_eq}
 use Rattle.vx_dtype.specs.Types.{Bytes, Ty}
 use Rattle.vx_dtype.specs.TypeRules.{has_name}
-use Rattle.vx_dtype.specs.Structs.{first_names}
-use Rattle.vx_expr.specs.Trees.{Tree, root, literal, get_item, binary, not_of, is_null_of, like, between, cast, list_contains, pack, merge, select, dynamic, Trees, no_trees, tree}
+use Rattle.vx_expr.specs.Trees.{Tree, root, literal, get_item, binary, not_of, is_null_of, like, between, cast, list_contains, pack, merge, select, dynamic}
+use Rattle.vx_expr.specs.Trees.{Trees, no_trees, tree}
+use Rattle.vx_semantics.specs.Merging.{merged_names, last_giver}
 use Rattle.vx_semantics.specs.Typing.{names_in, given_names}
 
 -- a node or a column that is asked
@@ -18,16 +19,6 @@ abbrev pub root_asks : Ty → List Bytes → List Asking
 root_asks t [] = map asks_column (names_in t)
 root_asks t (c ∷ path) = asks_column c ∷ []
 
--- whether one of the expressions gives a field of this name
-abbrev pub later_gives : Ty → Bytes → Trees → Bool
-later_gives t f no_trees = false
-later_gives t f (tree e es) = cond (has_name f (given_names t e)) true (later_gives t f es)
-
--- the names that several expressions give together, in order of first appearance
-abbrev pub all_given_names : Ty → Trees → List Bytes
-all_given_names t no_trees = []
-all_given_names t (tree e es) = given_names t e ++ all_given_names t es
-
 -- what is asked for each of the names, where `ask` says what is asked for a path
 abbrev pub each_asked : (List Bytes → List Asking) → List Bytes → List Asking
 each_asked ask [] = []
@@ -37,6 +28,20 @@ each_asked ask (f ∷ fs) = ask (f ∷ []) ++ each_asked ask fs
 abbrev pub path_or_each : (List Bytes → List Asking) → List Bytes → List Bytes → List Asking
 path_or_each ask names [] = each_asked ask names
 path_or_each ask names (f ∷ path) = ask (f ∷ path)
+
+-- a struct that goes into a merge: the names of its type, and what it is asked for a path
+pub record Giver : Type 0 where
+  pub names : List Bytes
+  pub asks : List Bytes → List Asking
+
+-- the names that a struct gives
+abbrev pub giver_names : Giver → List Bytes
+giver_names g = g.names
+
+-- of a merge's structs, the last one that gives the first name of the path is asked for the path
+abbrev pub asked_of_giver : List Giver → List Bytes → List Asking
+asked_of_giver gs [] = []
+asked_of_giver gs (f ∷ path) = unwrap_or (option_map (λ g. g.asks (f ∷ path)) (last_giver giver_names f gs)) []
 
 unfoldable mutual
   -- what an expression over the table's type asks for a path: itself, and what its children are asked for
@@ -48,11 +53,13 @@ unfoldable mutual
   asked t (not_of e) path = asks_node (not_of e) ∷ asked t e []
   asked t (is_null_of e) path = asks_node (is_null_of e) ∷ asked t e []
   asked t (like e p negated fold_case) path = asks_node (like e p negated fold_case) ∷ (asked t e [] ++ asked t p [])
-  asked t (between e lower upper options) path = asks_node (between e lower upper options) ∷ (asked t e [] ++ (asked t lower [] ++ asked t upper []))
+  asked t (between e lower upper options) path =
+      asks_node (between e lower upper options) ∷ (asked t e [] ++ (asked t lower [] ++ asked t upper []))
   asked t (cast e target) path = asks_node (cast e target) ∷ asked t e []
   asked t (list_contains l v) path = asks_node (list_contains l v) ∷ (asked t l [] ++ asked t v [])
   asked t (pack names es n) path = asks_node (pack names es n) ∷ asked_in_pack t names es path
-  asked t (merge es n) path = asks_node (merge es n) ∷ path_or_each (asked_of_giver t es) (first_names (all_given_names t es)) path
+  asked t (merge es n) path =
+      asks_node (merge es n) ∷ path_or_each (asked_of_giver (givers t es)) (merged_names giver_names (givers t es)) path
   asked t (select s e) path = asks_node (select s e) ∷ path_or_each (asked t e) (given_names t (select s e)) path
   asked t (dynamic e op k slot default) path = asks_node (dynamic e op k slot default) ∷ asked t e []
 
@@ -63,11 +70,10 @@ unfoldable mutual
   asked_in_pack t (f ∷ names) (tree e es) [] = asked t e [] ++ asked_in_pack t names es []
   asked_in_pack t (f ∷ names) (tree e es) (g ∷ path) = cond (bytes_eq g f) (asked t e path) (asked_in_pack t names es (g ∷ path))
 
-  -- of a merge's values: the last one that gives the first name of the path is asked for the path
-  pub asked_of_giver : Ty → Trees → List Bytes → List Asking
-  asked_of_giver t es [] = []
-  asked_of_giver t no_trees (f ∷ path) = []
-  asked_of_giver t (tree e es) (f ∷ path) = cond (later_gives t f es) (asked_of_giver t es (f ∷ path)) (asked t e (f ∷ path))
+  -- the structs that go into a merge
+  pub givers : Ty → Trees → List Giver
+  givers t no_trees = []
+  givers t (tree e es) = record { names = given_names t e; asks = asked t e } ∷ givers t es
 
 -- the nodes, and the columns, of what is asked
 abbrev pub node_in : Asking → List Tree

@@ -1,5 +1,5 @@
 -- When statistics are honest: each bound of a block bounds its values, each count of nulls is at least their number.
-use Rattle.std.specs.Prelude.{ℕ, pos, Bool, true, false, ◌&&◌, ◌||◌, List, [], ◌∷◌, length, IsTrue}
+use Rattle.std.specs.Prelude.{ℕ, pos, Bool, true, ◌&&◌, ◌||◌, List, [], ◌∷◌, length, IsTrue}
 use Rattle.std.specs.List.{list_all, filter}
 use Rattle.vx_dtype.specs.declared.PType.TheVariants.{U64}
 use Rattle.vx_dtype.specs.declared.CompareOperator.{CompareOperator}

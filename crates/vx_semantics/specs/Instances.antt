@@ -4,7 +4,8 @@ use Rattle.vx_dtype.specs.declared.CompareOperator.{CompareOperator}
 use Rattle.vx_dtype.specs.declared.Stat.TheVariants.{Min, Max}
 use Rattle.vx_dtype.specs.Values.{Typed, value_of}
 use Rattle.vx_dtype.specs.Fits.{fits}
-use Rattle.vx_expr.specs.Trees.{Tree, root, literal, get_item, binary, not_of, is_null_of, like, between, cast, list_contains, pack, merge, select, dynamic, Trees, no_trees, tree}
+use Rattle.vx_expr.specs.Trees.{Tree, root, literal, get_item, binary, not_of, is_null_of, like, between, cast, list_contains, pack, merge, select, dynamic}
+use Rattle.vx_expr.specs.Trees.{Trees, no_trees, tree}
 use Rattle.vx_expr.specs.Operators.{range_as_binary}
 use Rattle.vx_semantics.specs.Typing.{typed_of}
 use Rattle.vx_semantics.specs.Tables.{Zones, row_type}
@@ -29,7 +30,7 @@ unfoldable mutual
   without_ranges (select s e) = select s (without_ranges e)
   without_ranges (dynamic e op k t default) = dynamic (without_ranges e) op k t default
 
-  -- the same of expressions in a row
+  -- the same of a list of expressions
   pub all_without_ranges : Trees → Trees
   all_without_ranges no_trees = no_trees
   all_without_ranges (tree e es) = tree (without_ranges e) (all_without_ranges es)
@@ -58,15 +59,17 @@ unfoldable mutual
   IsReplaced zones block (like e p negated fold_case) i =
       (d : Tree) × (q : Tree) × (i ≡ like d q negated fold_case) × IsReplaced zones block e d × IsReplaced zones block p q
   IsReplaced zones block (between e lower upper options) i =
-      (d : Tree) × (a : Tree) × (b : Tree) × (i ≡ between d a b options) × IsReplaced zones block e d × IsReplaced zones block lower a × IsReplaced zones block upper b
+      (d : Tree) × (a : Tree) × (b : Tree) × (i ≡ between d a b options)
+      × IsReplaced zones block e d × IsReplaced zones block lower a × IsReplaced zones block upper b
   IsReplaced zones block (cast e t) i = (d : Tree) × (i ≡ cast d t) × IsReplaced zones block e d
-  IsReplaced zones block (list_contains l v) i = (a : Tree) × (b : Tree) × (i ≡ list_contains a b) × IsReplaced zones block l a × IsReplaced zones block v b
+  IsReplaced zones block (list_contains l v) i =
+      (a : Tree) × (b : Tree) × (i ≡ list_contains a b) × IsReplaced zones block l a × IsReplaced zones block v b
   IsReplaced zones block (pack names es n) i = (ds : Trees) × (i ≡ pack names ds n) × AreReplaced zones block es ds
   IsReplaced zones block (merge es n) i = (ds : Trees) × (i ≡ merge ds n) × AreReplaced zones block es ds
   IsReplaced zones block (select s e) i = (d : Tree) × (i ≡ select s d) × IsReplaced zones block e d
   IsReplaced zones block (dynamic e op k t default) i = (d : Tree) × (i ≡ dynamic d op k t default) × IsReplaced zones block e d
 
-  -- the same of expressions in a row
+  -- the same of a list of expressions
   pub AreReplaced : Zones → ℕ → Trees → Trees → Type 0
   AreReplaced zones block no_trees is = is ≡ no_trees
   AreReplaced zones block (tree e es) is = (d : Tree) × (ds : Trees) × (is ≡ tree d ds) × IsReplaced zones block e d × AreReplaced zones block es ds

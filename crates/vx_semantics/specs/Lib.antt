@@ -1,3 +1,4 @@
+pub mod Merging
 pub mod Typing
 pub mod LooseTyping
 pub mod Meaning
@@ -10,5 +11,3 @@ pub mod Honest
 pub mod Pruning
 pub mod Scans
 pub mod Instances
-pub mod Samples
-pub mod Catalog

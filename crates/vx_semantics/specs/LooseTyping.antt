@@ -10,10 +10,12 @@ use Rattle.vx_dtype.specs.TypeRules.{union, nullability_of, alike}
 use Rattle.vx_expr.specs.declared.Operator.{Operator}
 use Rattle.vx_expr.specs.declared.FieldSelection.{FieldSelection}
 use Rattle.vx_expr.specs.declared.FieldSelection.TheVariants.{Include, Exclude}
-use Rattle.vx_expr.specs.Trees.{Tree, root, literal, get_item, binary, not_of, is_null_of, like, between, cast, list_contains, pack, merge, select, dynamic, Trees, no_trees, tree}
-use Rattle.vx_dtype.specs.Zipped.{zipped}
-use Rattle.vx_semantics.specs.Typing.{Refusal, not_struct, unknown_field, type_mismatch, and_then, unless, item_type, selected_fields, merge_type, union_of, sum_type, not_type}
+use Rattle.vx_expr.specs.Trees.{Tree, root, literal, get_item, binary, not_of, is_null_of, like, between, cast, list_contains, pack, merge, select, dynamic}
+use Rattle.vx_expr.specs.Trees.{Trees, no_trees, tree}
 use Rattle.vx_dtype.specs.StructTypes.{all_known}
+use Rattle.vx_dtype.specs.Zipped.{zipped}
+use Rattle.vx_semantics.specs.Typing.{Refusal, not_struct, unknown_field, type_mismatch, and_then, unless, item_type, selected_fields, merge_type}
+use Rattle.vx_semantics.specs.Typing.{union_of, sum_type, not_type}
 
 -- whether each included name is one of the fields'
 abbrev pub included_known : FieldSelection → Fields → Bool
@@ -62,7 +64,7 @@ unfoldable mutual
   loosely_typed t (select s e) = and_then (loosely_typed t e) (loose_select_type s)
   loosely_typed t (dynamic e op k slot default) = and_then (loosely_typed t e) (loose_dynamic_type slot)
 
-  -- the types of expressions in a row, by the looser rules
+  -- the types of a list of expressions, by the looser rules
   pub all_loosely_typed : Ty → Trees → Result (List Ty) Refusal
   all_loosely_typed t no_trees = Ok []
   all_loosely_typed t (tree e es) = and_then (loosely_typed t e) (λ a. and_then (all_loosely_typed t es) (λ ts. Ok (a ∷ ts)))

@@ -1,9 +1,7 @@
 -- The meaning of an expression at one row: a value, null, or a fault.
-use Rattle.std.specs.Prelude.{ℕ, Bool, cond, List, [], ◌∷◌, Option, Some, None, slice_get}
-use Rattle.std.specs.List.{list_any, flat_map}
+use Rattle.std.specs.Prelude.{ℕ, Bool, List, [], ◌∷◌, Option, Some, None, option_map, unwrap_or}
 use Rattle.vx_dtype.specs.declared.CompareOperator.{CompareOperator}
 use Rattle.vx_dtype.specs.Types.{Bytes, Ty}
-use Rattle.vx_dtype.specs.TypeRules.{has_name}
 use Rattle.vx_dtype.specs.Values.{Val, bool_val, struct_val, fault, Members, no_members, member, Typed, value_of}
 use Rattle.vx_dtype.specs.Logic.{and3, or3, not3, is_null3}
 use Rattle.vx_dtype.specs.Order.{compare3, between3}
@@ -11,11 +9,14 @@ use Rattle.vx_dtype.specs.Sums.{add3, sub3}
 use Rattle.vx_dtype.specs.Like.{like3}
 use Rattle.vx_dtype.specs.Casts.{cast3}
 use Rattle.vx_dtype.specs.Lists.{contains3}
-use Rattle.vx_dtype.specs.Structs.{field_of, selected, deselected, first_names}
+use Rattle.vx_dtype.specs.Structs.{field_of, selected, deselected}
 use Rattle.vx_expr.specs.declared.Operator.{Operator}
 use Rattle.vx_expr.specs.declared.FieldSelection.{FieldSelection}
 use Rattle.vx_expr.specs.declared.FieldSelection.TheVariants.{Include, Exclude}
-use Rattle.vx_expr.specs.Trees.{Tree, root, literal, get_item, binary, not_of, is_null_of, like, between, cast, list_contains, pack, merge, select, dynamic, Trees, no_trees, tree}
+use Rattle.vx_expr.specs.Trees.{Tree, root, literal, get_item, binary, not_of, is_null_of, like, between, cast, list_contains, pack, merge, select, dynamic}
+use Rattle.vx_expr.specs.Trees.{Trees, no_trees, tree}
+use Rattle.vx_expr.specs.Slots.{slot_held}
+use Rattle.vx_semantics.specs.Merging.{merged_names, last_giver}
 use Rattle.vx_semantics.specs.Typing.{given_names}
 
 -- the slots of dynamic comparisons, each with its value where it has one
@@ -23,13 +24,8 @@ abbrev pub Slots : Type 0
 Slots = List (Option Typed)
 
 -- the value of a slot, none where the slot has none or there is no such slot
-abbrev pub held_value : Option (Option Typed) → Option Val
-held_value None = None
-held_value (Some None) = None
-held_value (Some (Some s)) = Some (value_of s)
-
 abbrev pub slot_value : Slots → ℕ → Option Val
-slot_value slots k = held_value (slice_get slots k)
+slot_value slots k = option_map value_of (slot_held slots k)
 
 -- two operands under an operator
 abbrev pub binary3 : Operator → Val → Val → Val
@@ -64,14 +60,13 @@ pub record Source : Type 0 where
   pub names : List Bytes
   pub whole : Val
 
--- whether one of the structs has a field of this name
-abbrev pub some_gives : Bytes → List Source → Bool
-some_gives f ss = list_any (λ s. has_name f s.names) ss
+-- the names that a struct gives
+abbrev pub source_names : Source → List Bytes
+source_names s = s.names
 
--- the field of the last struct that has one of this name; a fault where none has
+-- the field of the last struct that gives this name; a fault where none does
 abbrev pub merged_value : Bytes → List Source → Val
-merged_value f [] = fault
-merged_value f (s ∷ ss) = cond (some_gives f ss) (merged_value f ss) (field_of f s.whole)
+merged_value f ss = unwrap_or (option_map (λ s. field_of f s.whole) (last_giver source_names f ss)) fault
 
 -- the members with these names, each with its merged value
 abbrev pub merged_members : List Bytes → List Source → Members
@@ -80,7 +75,7 @@ merged_members (f ∷ fs) ss = member f (merged_value f ss) (merged_members fs s
 
 -- the struct of several structs' fields: names in order of first appearance, of one name the last field
 abbrev pub merged : List Source → Val
-merged ss = struct_val (merged_members (first_names (flat_map (λ s. s.names) ss)) ss)
+merged ss = struct_val (merged_members (merged_names source_names ss) ss)
 
 -- names and values as members, as far as both go
 abbrev pub zip_members : List Bytes → List Val → Members
@@ -106,7 +101,7 @@ unfoldable mutual
   mean t slots row (select s e) = select3 s (mean t slots row e)
   mean t slots row (dynamic e op k slot default) = dynamic3 op default (mean t slots row e) (slot_value slots k)
 
-  -- what expressions in a row mean
+  -- what a list of expressions means
   pub meanings : Ty → Slots → Val → Trees → List Val
   meanings t slots row no_trees = []
   meanings t slots row (tree e es) = mean t slots row e ∷ meanings t slots row es

@@ -1,6 +1,6 @@
 -- Which blocks a filter rules out by their statistics: those where the known bounds leave it nowhere true.
 -- A bound that is null, missing, or under a joined name that two statistics have is not known, and rules nothing out.
-use Rattle.std.specs.Prelude.{ℕ, pos, nat_eq, Bool, true, false, cond, not, ◌&&◌, ◌||◌, List, [], ◌∷◌, ◌++◌, length, Option, Some, None, is_some, option_map, slice_get}
+use Rattle.std.specs.Prelude.{ℕ, pos, nat_eq, Bool, true, false, cond, not, ◌&&◌, ◌||◌, List, length, Option, Some, None, is_some, slice_get}
 use Rattle.std.specs.List.{filter, find}
 use Rattle.std.specs.Str.{bytes_eq}
 use Rattle.vx_dtype.specs.declared.PType.TheVariants.{U64}
@@ -13,7 +13,7 @@ use Rattle.vx_dtype.specs.Values.{Val, null_val, int_val, list_val, Vals, no_val
 use Rattle.vx_dtype.specs.Equal.{names_eq}
 use Rattle.vx_dtype.specs.Order.{bound_operator, compares}
 use Rattle.vx_expr.specs.declared.Operator.{Operator}
-use Rattle.vx_expr.specs.Trees.{Tree, root, literal, get_item, binary, not_of, is_null_of, between, list_contains, dynamic}
+use Rattle.vx_expr.specs.Trees.{Tree, literal, binary, not_of, is_null_of, between, list_contains, dynamic}
 use Rattle.vx_expr.specs.Operators.{comparison_of, inverse_comparison}
 use Rattle.vx_semantics.specs.Meaning.{Slots, slot_value}
 use Rattle.vx_semantics.specs.Paths.{path_of}
@@ -69,16 +69,29 @@ comparison_ruled_out CompareOperator.Lte l r = known_compare CompareOperator.Gt 
 comparison_ruled_out CompareOperator.Eq l r = known_compare CompareOperator.Gt (l Min) (r Max) || known_compare CompareOperator.Gt (r Min) (l Max)
 comparison_ruled_out CompareOperator.NotEq l r = known_compare CompareOperator.Eq (l Min) (r Max) && known_compare CompareOperator.Eq (l Max) (r Min)
 
--- a range, as its two comparisons, of which one is enough
+-- the negation of a comparison, which is its inverse
+abbrev pub comparison_negation_ruled_out : CompareOperator → (Stat → Option Val) → (Stat → Option Val) → Bool
+comparison_negation_ruled_out op l r = comparison_ruled_out (inverse_comparison op) l r
+
+-- `and`, of which one side that is ruled out is enough, and `or`, of which both are needed
+abbrev pub and_ruled_out : Bool → Bool → Bool
+and_ruled_out l r = l || r
+
+abbrev pub or_ruled_out : Bool → Bool → Bool
+or_ruled_out l r = l && r
+
+-- a range is its two comparisons joined by `and`, and its negation their negations joined by `or`
 abbrev pub range_ruled_out : BetweenOptions → (Stat → Option Val) → (Stat → Option Val) → (Stat → Option Val) → Bool
 range_ruled_out options v lower upper =
-    comparison_ruled_out (bound_operator options.lower_strict) lower v || comparison_ruled_out (bound_operator options.upper_strict) v upper
+    and_ruled_out
+    (comparison_ruled_out (bound_operator options.lower_strict) lower v)
+    (comparison_ruled_out (bound_operator options.upper_strict) v upper)
 
--- the negation of a range, as the negations of its two comparisons, of which both are needed
 abbrev pub range_negation_ruled_out : BetweenOptions → (Stat → Option Val) → (Stat → Option Val) → (Stat → Option Val) → Bool
 range_negation_ruled_out options v lower upper =
-    comparison_ruled_out (inverse_comparison (bound_operator options.lower_strict)) lower v
-    && comparison_ruled_out (inverse_comparison (bound_operator options.upper_strict)) v upper
+    or_ruled_out
+    (comparison_negation_ruled_out (bound_operator options.lower_strict) lower v)
+    (comparison_negation_ruled_out (bound_operator options.upper_strict) v upper)
 
 -- a null test, where the count of nulls is known to be 0
 abbrev pub is_zero : Option Val → Bool
@@ -89,7 +102,8 @@ is_zero (Some v) = compares CompareOperator.Eq v (int_val U64 (pos 0))
 abbrev pub all_outside : Vals → Option Val → Option Val → Bool
 all_outside no_vals least_known greatest_known = true
 all_outside (val v vs) least_known greatest_known =
-    (known_compare CompareOperator.Lt greatest_known (known v) || known_compare CompareOperator.Gt least_known (known v)) && all_outside vs least_known greatest_known
+    (known_compare CompareOperator.Lt greatest_known (known v) || known_compare CompareOperator.Gt least_known (known v))
+    && all_outside vs least_known greatest_known
 
 -- whether a path has this statistic available; a constant has all
 abbrev pub available_at : Zones → Option (List Bytes) → Stat → Bool
@@ -135,13 +149,13 @@ operator_ruled_out (Some op) l r = comparison_ruled_out op l r
 
 abbrev pub operator_negation_ruled_out : Option CompareOperator → (Stat → Option Val) → (Stat → Option Val) → Bool
 operator_negation_ruled_out None l r = false
-operator_negation_ruled_out (Some op) l r = comparison_ruled_out (inverse_comparison op) l r
+operator_negation_ruled_out (Some op) l r = comparison_negation_ruled_out op l r
 
 unfoldable mutual
   -- whether a filter rules a block out: the statistics show it true at no row
   pub rules_out : Zones → Slots → ℕ → Tree → Bool
-  rules_out zones slots block (binary l Operator.And r) = rules_out zones slots block l || rules_out zones slots block r
-  rules_out zones slots block (binary l Operator.Or r) = rules_out zones slots block l && rules_out zones slots block r
+  rules_out zones slots block (binary l Operator.And r) = and_ruled_out (rules_out zones slots block l) (rules_out zones slots block r)
+  rules_out zones slots block (binary l Operator.Or r) = or_ruled_out (rules_out zones slots block l) (rules_out zones slots block r)
   rules_out zones slots block (binary l op r) =
       operator_ruled_out (comparison_of op) (λ s. known_bound zones block s l) (λ s. known_bound zones block s r)
   rules_out zones slots block (between e lower upper options) =
@@ -154,8 +168,10 @@ unfoldable mutual
 
   -- whether the negation of a filter rules a block out
   pub rules_out_negation : Zones → Slots → ℕ → Tree → Bool
-  rules_out_negation zones slots block (binary l Operator.And r) = rules_out_negation zones slots block l && rules_out_negation zones slots block r
-  rules_out_negation zones slots block (binary l Operator.Or r) = rules_out_negation zones slots block l || rules_out_negation zones slots block r
+  rules_out_negation zones slots block (binary l Operator.And r) =
+      or_ruled_out (rules_out_negation zones slots block l) (rules_out_negation zones slots block r)
+  rules_out_negation zones slots block (binary l Operator.Or r) =
+      and_ruled_out (rules_out_negation zones slots block l) (rules_out_negation zones slots block r)
   rules_out_negation zones slots block (binary l op r) =
       operator_negation_ruled_out (comparison_of op) (λ s. known_bound zones block s l) (λ s. known_bound zones block s r)
   rules_out_negation zones slots block (between e lower upper options) =

@@ -50,7 +50,8 @@ has_rows (row ∷ rows) = true
 abbrev pub block_reads : Ty → Slots → Tree → Tree → ℕ × List Val → List (ℕ × Bytes)
 block_reads t slots filter_expr projection b =
     map (λ c. (b.0, c)) (asked_columns t filter_expr)
-    ++ cond (has_rows (matching_rows t slots filter_expr b.1)) (map (λ c. (b.0, c)) (filter (λ c. not (has_name c (asked_columns t filter_expr))) (asked_columns t projection))) []
+    ++ cond (has_rows (matching_rows t slots filter_expr b.1))
+    (map (λ c. (b.0, c)) (filter (λ c. not (has_name c (asked_columns t filter_expr))) (asked_columns t projection))) []
 
 -- the reads of the scan, block and column, in order
 abbrev pub reads_of : Table → Zones → Slots → Tree → Tree → List (ℕ × Bytes)

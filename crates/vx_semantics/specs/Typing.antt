@@ -1,22 +1,25 @@
 -- Strict typing: the type of an expression over a scope, or the refusal of the first node in post-order that has none.
 -- Within a node the refusals come in the order in which they are listed.
-use Rattle.std.specs.Prelude.{nat_eq, Bool, true, false, cond, not, ◌&&◌, List, [], ◌∷◌, length, Option, Some, None, Result, Ok, Err}
-use Rattle.std.specs.List.{list_all, flat_map}
+use Rattle.std.specs.Prelude.{nat_eq, Bool, true, false, cond, not, ◌&&◌, List, [], ◌∷◌, length, Option, option_map, ok_or, Result, Ok, Err}
+use Rattle.std.specs.Option.{option_and_then}
+use Rattle.std.specs.List.{list_all}
 use Rattle.vx_dtype.specs.declared.Nullability.{Nullability}
 use Rattle.vx_dtype.specs.declared.Nullability.TheVariants.{NonNullable}
 use Rattle.vx_dtype.specs.Types.{Bytes, Ty, bool_ty, list_ty, struct_ty, Fields, no_fields, field}
-use Rattle.vx_dtype.specs.TypeRules.{is_nullable, union, nullability_of, with_nullability, widened, alike, is_plain, is_bool_ty, is_int_ty, is_text_ty, fields_of, field_names, field_type, has_name, distinct_names, no_name_twice}
+use Rattle.vx_dtype.specs.TypeRules.{is_nullable, union, nullability_of, with_nullability, widened, alike, is_plain, is_bool_ty, is_int_ty, is_text_ty}
+use Rattle.vx_dtype.specs.TypeRules.{fields_of, field_names, field_type, has_name, distinct_names, no_name_twice}
 use Rattle.vx_dtype.specs.StructTypes.{is_struct_ty, with_field, fields_at, all_known}
 use Rattle.vx_dtype.specs.Zipped.{zipped}
 use Rattle.vx_dtype.specs.Values.{Typed}
 use Rattle.vx_dtype.specs.Fits.{fits}
 use Rattle.vx_dtype.specs.Casts.{takes_cast}
-use Rattle.vx_dtype.specs.Structs.{first_names}
 use Rattle.vx_expr.specs.declared.Operator.{Operator}
 use Rattle.vx_expr.specs.declared.FieldSelection.{FieldSelection}
 use Rattle.vx_expr.specs.declared.FieldSelection.TheVariants.{Include, Exclude}
 use Rattle.vx_expr.specs.Selections.{listed_names}
-use Rattle.vx_expr.specs.Trees.{Tree, root, literal, get_item, binary, not_of, is_null_of, like, between, cast, list_contains, pack, merge, select, dynamic, Trees, no_trees, tree}
+use Rattle.vx_expr.specs.Trees.{Tree, root, literal, get_item, binary, not_of, is_null_of, like, between, cast, list_contains, pack, merge, select, dynamic}
+use Rattle.vx_expr.specs.Trees.{Trees, no_trees, tree}
+use Rattle.vx_semantics.specs.Merging.{merged_names, last_giver}
 
 -- why an expression has no type
 pub data Refusal : Type 0 where
@@ -44,13 +47,13 @@ distinct_type t = unless (no_name_twice t) duplicate_field (Ok t)
 abbrev pub literal_type : Typed → Result Ty Refusal
 literal_type s = and_then (distinct_type s.ty) (λ t. unless (fits s.value t) type_mismatch (Ok t))
 
--- a field's type, nullable also where the struct is
-abbrev pub field_type_in : Option Ty → Nullability → Result Ty Refusal
-field_type_in None n = Err unknown_field
-field_type_in (Some t) n = Ok (widened t n)
+-- a field's type in a struct type, nullable also where the struct is
+abbrev pub type_in : Bytes → Ty → Option Ty
+type_in f t = option_map (λ u. widened u (nullability_of t)) (field_type f (fields_of t))
 
+-- the type of a field that the struct has to have
 abbrev pub item_type : Bytes → Ty → Result Ty Refusal
-item_type f (struct_ty fs n) = field_type_in (field_type f fs) n
+item_type f (struct_ty fs n) = ok_or (type_in f (struct_ty fs n)) unknown_field
 item_type f _ = Err not_struct
 
 -- the fields whose names are not among these
@@ -77,29 +80,16 @@ select_type s _ = Err not_struct
 
 -- the struct of named values; one with more names than values, or fewer, has no type
 abbrev pub pack_type : List Bytes → Nullability → List Ty → Result Ty Refusal
-pack_type names n ts = unless (distinct_names names) duplicate_field (unless (nat_eq (length names) (length ts)) type_mismatch (Ok (struct_ty (zipped names ts) n)))
+pack_type names n ts =
+    unless (distinct_names names) duplicate_field (unless (nat_eq (length names) (length ts)) type_mismatch (Ok (struct_ty (zipped names ts) n)))
 
 -- the names of a type's fields, in order
 abbrev pub names_in : Ty → List Bytes
 names_in t = field_names (fields_of t)
 
--- the names of several structs together, in order of first appearance
-abbrev pub merged_names : List Ty → List Bytes
-merged_names ts = first_names (flat_map names_in ts)
-
--- whether one of the types has a field of this name
-abbrev pub some_has_field : Bytes → List Ty → Bool
-some_has_field f [] = false
-some_has_field f (t ∷ ts) = cond (has_name f (names_in t)) true (some_has_field f ts)
-
--- of a name, its type in the last struct that has it, nullable also where that struct is
-abbrev pub widened_in : Option Ty → Nullability → Option Ty
-widened_in None n = None
-widened_in (Some t) n = Some (widened t n)
-
+-- of a name, its type in the last struct that gives it
 abbrev pub merged_type_at : Bytes → List Ty → Option Ty
-merged_type_at f [] = None
-merged_type_at f (t ∷ ts) = cond (some_has_field f ts) (merged_type_at f ts) (widened_in (field_type f (fields_of t)) (nullability_of t))
+merged_type_at f ts = option_and_then (type_in f) (last_giver names_in f ts)
 
 -- the fields with these names, each at its merged type
 abbrev pub merged_fields_at : List Bytes → List Ty → Fields
@@ -108,7 +98,7 @@ merged_fields_at (f ∷ fs) ts = with_field f (merged_type_at f ts) (merged_fiel
 
 -- the struct of several structs' fields
 abbrev pub merge_type : Nullability → List Ty → Result Ty Refusal
-merge_type n ts = unless (list_all is_struct_ty ts) not_struct (Ok (struct_ty (merged_fields_at (merged_names ts) ts) n))
+merge_type n ts = unless (list_all is_struct_ty ts) not_struct (Ok (struct_ty (merged_fields_at (merged_names names_in ts) ts) n))
 
 -- the union of two types' nullabilities
 abbrev pub union_of : Ty → Ty → Nullability
@@ -170,7 +160,8 @@ unfoldable mutual
   typed_of t (not_of e) = and_then (typed_of t e) not_type
   typed_of t (is_null_of e) = and_then (typed_of t e) (λ a. Ok (bool_ty NonNullable))
   typed_of t (like e p negated fold_case) = and_then (typed_of t e) (λ a. and_then (typed_of t p) (like_type a))
-  typed_of t (between e lower upper options) = and_then (typed_of t e) (λ a. and_then (typed_of t lower) (λ b. and_then (typed_of t upper) (between_type a b)))
+  typed_of t (between e lower upper options) =
+      and_then (typed_of t e) (λ a. and_then (typed_of t lower) (λ b. and_then (typed_of t upper) (between_type a b)))
   typed_of t (cast e target) = and_then (typed_of t e) (cast_type target)
   typed_of t (list_contains l v) = and_then (typed_of t l) (λ a. and_then (typed_of t v) (contains_type a))
   typed_of t (pack names es n) = and_then (all_typed t es) (pack_type names n)
@@ -178,7 +169,7 @@ unfoldable mutual
   typed_of t (select s e) = and_then (typed_of t e) (select_type s)
   typed_of t (dynamic e op k slot default) = and_then (typed_of t e) (dynamic_type slot)
 
-  -- the types of expressions in a row
+  -- the types of a list of expressions
   pub all_typed : Ty → Trees → Result (List Ty) Refusal
   all_typed t no_trees = Ok []
   all_typed t (tree e es) = and_then (typed_of t e) (λ a. and_then (all_typed t es) (λ ts. Ok (a ∷ ts)))

@@ -15,8 +15,8 @@ ghost use Rattle.vx_expr.specs.Operators.{inverse_comparison, range_as_binary};
 ghost use Rattle.vx_expr.specs.Slots.{slot_held};
 ghost use Rattle.vx_expr.specs.Children.{with_children_of, id_of, is_get_item, is_root_tree, literal_of, packed_of, packed_field};
 ghost use Rattle.vx_expr.specs.Selections.{is_included, listed_names, taken_names, names_where_known};
-ghost use Rattle.vx_semantics.specs.Samples.{col, number, ◌⟨◌⟩◌, comparisons, slot_of};
-ghost use Rattle.vx_rows.specs.Kinds.{kinds_over};
+ghost use Rattle.vx_worked_examples.specs.Samples.{col, number, ◌⟨◌⟩◌, comparisons, slot_of, ends};
+ghost use Rattle.vx_worked_examples.specs.Kinds.{kinds_over};
 
 /// The inverse of each comparison, in the order of their numbers.
 pub fn inverts_comparisons()
@@ -25,15 +25,15 @@ pub fn inverts_comparisons()
 
 /// A range as its two comparisons, each bound by its own strictness.
 pub fn writes_a_range_as_two_comparisons()
-    ensures lower { range_as_binary (col "x") (number I32 (pos 1)) (number I32 (pos 2)) (record { lower_strict = Strict; upper_strict = NonStrict }) ≡ (number I32 (pos 1) ⟨ Lt ⟩ col "x") ⟨ And ⟩ (col "x" ⟨ Lte ⟩ number I32 (pos 2)) }
-    ensures upper { range_as_binary (col "x") (number I32 (pos 1)) (number I32 (pos 2)) (record { lower_strict = NonStrict; upper_strict = Strict }) ≡ (number I32 (pos 1) ⟨ Lte ⟩ col "x") ⟨ And ⟩ (col "x" ⟨ Lt ⟩ number I32 (pos 2)) }
+    ensures lower { range_as_binary (col "x") (number I32 (pos 1)) (number I32 (pos 2)) (ends Strict NonStrict) ≡ (number I32 (pos 1) ⟨ Lt ⟩ col "x") ⟨ And ⟩ (col "x" ⟨ Lte ⟩ number I32 (pos 2)) }
+    ensures upper { range_as_binary (col "x") (number I32 (pos 1)) (number I32 (pos 2)) (ends NonStrict Strict) ≡ (number I32 (pos 1) ⟨ Lte ⟩ col "x") ⟨ And ⟩ (col "x" ⟨ Lt ⟩ number I32 (pos 2)) }
 {}
 
 /// The children of each kind of node over two expressions, in order.
 pub fn children_of_each_kind()
     ensures none { map children_of (root ∷ number I32 (pos 1) ∷ []) ≡ replicate 2 [] }
     ensures some { map children_of (kinds_over (col "x") (col "y")) ≡ (col "x" ∷ []) ∷ (col "x" ∷ col "y" ∷ []) ∷ (col "x" ∷ []) ∷ (col "x" ∷ []) ∷ (col "x" ∷ col "y" ∷ []) ∷ (col "x" ∷ []) ∷ (col "x" ∷ col "y" ∷ []) ∷ (col "x" ∷ col "y" ∷ []) ∷ (col "x" ∷ col "y" ∷ []) ∷ (col "x" ∷ []) ∷ (col "x" ∷ []) ∷ [] }
-    ensures three { children_of (between (col "x") (col "y") (col "z") (record { lower_strict = Strict; upper_strict = NonStrict })) ≡ col "x" ∷ col "y" ∷ col "z" ∷ [] }
+    ensures three { children_of (between (col "x") (col "y") (col "z") (ends Strict NonStrict)) ≡ col "x" ∷ col "y" ∷ col "z" ∷ [] }
     ensures row_of_trees { listed (trees_of (col "x" ∷ col "y" ∷ [])) ≡ col "x" ∷ col "y" ∷ [] }
     ensures trees { trees_of (col "x" ∷ col "y" ∷ []) ≡ tree (col "x") (tree (col "y") no_trees) }
 {}
@@ -43,8 +43,8 @@ pub fn nodes_with_other_children()
     ensures one { map (λ e. with_children_of e (col "u" ∷ [])) (kinds_over (col "x") (col "y")) ≡ Some (get_item (codes "a") (col "u")) ∷ None ∷ Some (not_of (col "u")) ∷ Some (is_null_of (col "u")) ∷ None ∷ Some (cast (col "u") (int_ty I64 Nullable)) ∷ None ∷ None ∷ None ∷ Some (select (Include (codes "a" ∷ [])) (col "u")) ∷ Some (dynamic (col "u") Below 3 (int_ty I32 NonNullable) true) ∷ [] }
     ensures two { map (λ e. with_children_of e (col "u" ∷ col "v" ∷ [])) (kinds_over (col "x") (col "y")) ≡ None ∷ Some (col "u" ⟨ And ⟩ col "v") ∷ None ∷ None ∷ Some (like (col "u") (col "v") true false) ∷ None ∷ Some (list_contains (col "u") (col "v")) ∷ Some (pack (codes "a" ∷ codes "b" ∷ []) (tree (col "u") (tree (col "v") no_trees)) NonNullable) ∷ Some (merge (tree (col "u") (tree (col "v") no_trees)) Nullable) ∷ None ∷ None ∷ [] }
     ensures folded_case { with_children_of (like (col "x") (col "y") false true) (col "u" ∷ col "v" ∷ []) ≡ Some (like (col "u") (col "v") false true) }
-    ensures three { with_children_of (between (col "x") (col "y") (col "z") (record { lower_strict = Strict; upper_strict = NonStrict })) (col "u" ∷ col "v" ∷ col "w" ∷ []) ≡ Some (between (col "u") (col "v") (col "w") (record { lower_strict = Strict; upper_strict = NonStrict })) }
-    ensures too_few { with_children_of (between (col "x") (col "y") (col "z") (record { lower_strict = Strict; upper_strict = NonStrict })) (col "u" ∷ col "v" ∷ []) ≡ None }
+    ensures three { with_children_of (between (col "x") (col "y") (col "z") (ends Strict NonStrict)) (col "u" ∷ col "v" ∷ col "w" ∷ []) ≡ Some (between (col "u") (col "v") (col "w") (ends Strict NonStrict)) }
+    ensures too_few { with_children_of (between (col "x") (col "y") (col "z") (ends Strict NonStrict)) (col "u" ∷ col "v" ∷ []) ≡ None }
     ensures none { map (λ e. with_children_of e []) (root ∷ number I32 (pos 1) ∷ []) ≡ Some root ∷ Some (number I32 (pos 1)) ∷ [] }
     ensures no_child { map (λ e. with_children_of e (col "u" ∷ [])) (root ∷ number I32 (pos 1) ∷ []) ≡ replicate 2 None }
     ensures too_many { map (λ e. with_children_of e (col "u" ∷ col "v" ∷ col "w" ∷ [])) (kinds_over (col "x") (col "y")) ≡ replicate 11 None }
@@ -52,7 +52,7 @@ pub fn nodes_with_other_children()
 
 /// The name of each kind of node, and which are the row, a field or a constant.
 pub fn names_of_kinds()
-    ensures ids { map id_of (root ∷ number I32 (pos 1) ∷ between (col "x") (col "y") (col "z") (record { lower_strict = Strict; upper_strict = NonStrict }) ∷ kinds_over (col "x") (col "y")) ≡ codes "root" ∷ codes "literal" ∷ codes "between" ∷ codes "get_item" ∷ codes "binary" ∷ codes "not" ∷ codes "is_null" ∷ codes "like" ∷ codes "cast" ∷ codes "list_contains" ∷ codes "pack" ∷ codes "merge" ∷ codes "select" ∷ codes "dynamic" ∷ [] }
+    ensures ids { map id_of (root ∷ number I32 (pos 1) ∷ between (col "x") (col "y") (col "z") (ends Strict NonStrict) ∷ kinds_over (col "x") (col "y")) ≡ codes "root" ∷ codes "literal" ∷ codes "between" ∷ codes "get_item" ∷ codes "binary" ∷ codes "not" ∷ codes "is_null" ∷ codes "like" ∷ codes "cast" ∷ codes "list_contains" ∷ codes "pack" ∷ codes "merge" ∷ codes "select" ∷ codes "dynamic" ∷ [] }
     ensures fields { map is_get_item (root ∷ col "x" ∷ not_of (col "x") ∷ []) ≡ false ∷ true ∷ false ∷ [] }
     ensures rows { map is_root_tree (root ∷ col "x" ∷ number I32 (pos 1) ∷ []) ≡ true ∷ false ∷ false ∷ [] }
     ensures constants { map literal_of (root ∷ col "x" ∷ number I32 (pos 1) ∷ []) ≡ None ∷ None ∷ Some (record { ty = int_ty I32 NonNullable; value = raw_int (pos 1) }) ∷ [] }

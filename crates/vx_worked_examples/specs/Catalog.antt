@@ -10,7 +10,7 @@ use Rattle.vx_expr.specs.declared.Operator.TheVariants.{Eq, Gte, And}
 use Rattle.vx_expr.specs.declared.FieldSelection.TheVariants.{Include}
 use Rattle.vx_expr.specs.Trees.{Tree, root, get_item, like, merge, select, no_trees, tree}
 use Rattle.vx_semantics.specs.Tables.{Table, ZoneStat}
-use Rattle.vx_semantics.specs.Samples.{col, number, quoted, ◌⟨◌⟩◌, bounds, statistic}
+use Rattle.vx_worked_examples.specs.Samples.{col, number, quoted, ◌⟨◌⟩◌, bounds, statistic}
 
 -- the columns: a number, a name, a price, tags, an address of city and zip code, and whether it is on sale
 abbrev pub catalog_columns : Fields
@@ -66,6 +66,10 @@ dear_in_oslo =
 -- number, name and city of the row and its address together
 abbrev pub brief : Tree
 brief = select (Include (codes "id" ∷ codes "name" ∷ codes "city" ∷ [])) (merge (tree root (tree (col "address") no_trees)) NonNullable)
+
+-- their types
+abbrev pub brief_columns : Fields
+brief_columns = field (codes "id") (int_ty U64 NonNullable) (field (codes "name") (text_ty Nullable) (field (codes "city") (text_ty Nullable) no_fields))
 
 -- a row of the answer
 abbrev pub brief_of : ℕ → String → String → Val

@@ -1,18 +1,24 @@
-// The rules on types and on which values a type has, worked by hand.
+// The rules on types, the values that a type has, and when types, values, scalars and paths are the same: worked by hand.
 #![tactic(auto, unfolding(crate::proofs::Computing::all_definitions))]
 
-ghost use Rattle.std.specs.Prelude.{◌≡◌, ℕ, [], ◌∷◌, ◌++◌, codes, pos, negsuc, map, replicate, true, false, Some, None};
-ghost use Rattle.vx_dtype.specs.declared.PType.TheVariants.{U8, U16, U32, U64, I8, I16, I32, I64};
+ghost use Rattle.std.specs.Prelude.{◌≡◌, [], ◌∷◌, ◌++◌, codes, pos, negsuc, map, replicate, true, false, Some, None, Err};
+ghost use Rattle.vx_dtype.specs.declared.PType.TheVariants.{U8, U16, I8, I32, I64};
 ghost use Rattle.vx_dtype.specs.declared.Nullability.TheVariants.{NonNullable, Nullable};
 ghost use Rattle.vx_dtype.specs.Types.{bool_ty, int_ty, text_ty, list_ty, struct_ty, no_fields, field};
 ghost use Rattle.vx_dtype.specs.TypeRules.{union, nullability_of, with_nullability, widened, same_ptype, alike, is_plain, is_bool_ty, is_int_ty, is_text_ty, no_name_twice, depth_of};
 ghost use Rattle.vx_dtype.specs.Values.{raw_null, raw_bool, raw_int, raw_text, raw_list, raw_struct, no_raws, raw, null_val, bool_val, int_val, text_val, list_val, struct_val, fault, no_vals, val, no_members, member, valued};
 ghost use Rattle.vx_dtype.specs.Fits.{fits, val_fits, fits_but_for_faults, holds_fault};
 ghost use Rattle.vx_dtype.specs.Structs.{first_names};
+ghost use Rattle.vx_dtype.specs.Equal.{same_nullability, ty_eq, raw_eq, typed_eq};
+ghost use Rattle.vx_dtype.specs.Paths.{has_path, distinct_paths, with_path};
 ghost use Rattle.vx_expr.specs.declared.Operator.TheVariants.{Eq, NotEq, Gt, Gte, Lt, Lte, And, Or, Add, Sub};
 ghost use Rattle.vx_expr.specs.Operators.{operator_number, comparison_of, operator_of, inverse_of, logical_inverse_of, swapped};
 ghost use Rattle.vx_expr.specs.Conjuncts.{conjuncts_of};
-ghost use Rattle.vx_semantics.specs.Samples.{col, ◌⟨◌⟩◌, only, alone, operators, comparisons as all_comparisons, kinds_of_types, integer_types, each_fits};
+ghost use Rattle.vx_expr.specs.Trees.{merge, pack, no_trees};
+ghost use Rattle.vx_semantics.specs.Typing.{not_struct, type_or_empty};
+ghost use Rattle.vx_semantics.specs.Slots.{held_fits, slots_fit};
+ghost use Rattle.vx_worked_examples.specs.Samples.{col, ◌⟨◌⟩◌, only, alone, operators, comparisons as all_comparisons, kinds_of_types, integer_types, each_fits};
+ghost use Rattle.vx_worked_examples.specs.Kinds.{raws};
 
 /// How deep types are.
 pub fn measures_depth()
@@ -40,7 +46,7 @@ pub fn tells_integer_types_apart()
 {}
 
 /// Each type is the same as itself alone, whatever is nullable.
-pub fn tells_types_apart()
+pub fn finds_types_alike()
     ensures each { map (λ t. map (alike t) kinds_of_types) kinds_of_types ≡
         (true ∷ replicate 8 false)
         ∷ (false ∷ true ∷ replicate 7 false)
@@ -193,4 +199,98 @@ pub fn tabulates_operators()
 /// Conjuncts from left to right, through both sides and no other operator.
 pub fn lists_conjuncts()
     ensures { conjuncts_of ((col "a" ⟨ And ⟩ col "b") ⟨ And ⟩ ((col "c" ⟨ Or ⟩ col "d") ⟨ And ⟩ col "e")) ≡ col "a" ∷ col "b" ∷ (col "c" ⟨ Or ⟩ col "d") ∷ col "e" ∷ [] }
+{}
+
+/// Types are equal but for nullability in each part, of lists of lists and of every field.
+pub fn compares_types_in_each_part()
+    ensures lists { alike (list_ty (list_ty (int_ty I32 NonNullable) NonNullable) NonNullable) (list_ty (list_ty (int_ty I32 Nullable) Nullable) NonNullable) ≡ true }
+    ensures elements { alike (list_ty (int_ty I32 NonNullable) NonNullable) (list_ty (int_ty I64 NonNullable) NonNullable) ≡ false }
+    ensures last_field { alike (struct_ty (field (codes "a") (int_ty I32 NonNullable) (only "b" (int_ty I32 NonNullable))) NonNullable) (struct_ty (field (codes "a") (int_ty I32 NonNullable) (only "b" (int_ty I32 Nullable))) NonNullable) ≡ true }
+{}
+
+/// A list of a type holds values of its element type alone.
+pub fn fits_elements()
+    ensures other { fits (raw_list (raw (raw_bool true) no_raws)) (list_ty (int_ty I32 NonNullable) NonNullable) ≡ false }
+    ensures last { fits (raw_list (raw (raw_int (pos 1)) (raw (raw_bool true) no_raws))) (list_ty (int_ty I32 NonNullable) NonNullable) ≡ false }
+    ensures null { fits (raw_list (raw raw_null no_raws)) (list_ty (int_ty I32 NonNullable) NonNullable) ≡ false }
+{}
+
+/// No part of a value that fits is a fault, wherever it stands; but for faults in place of plain values it may fit.
+pub fn fits_without_faults()
+    ensures element { val_fits (list_val (val fault no_vals)) (list_ty (int_ty I32 NonNullable) NonNullable) ≡ false }
+    ensures last_element { val_fits (list_val (val (int_val I32 (pos 1)) (val fault no_vals))) (list_ty (int_ty I32 NonNullable) NonNullable) ≡ false }
+    ensures member { val_fits (struct_val (member (codes "a") fault (member (codes "b") (int_val I32 (pos 1)) no_members))) (struct_ty (field (codes "a") (int_ty I32 NonNullable) (only "b" (int_ty I32 NonNullable))) NonNullable) ≡ false }
+    ensures last_member { val_fits (struct_val (member (codes "a") (int_val I32 (pos 1)) (member (codes "b") fault no_members))) (struct_ty (field (codes "a") (int_ty I32 NonNullable) (only "b" (int_ty I32 NonNullable))) NonNullable) ≡ false }
+    ensures but_for_the_element { fits_but_for_faults (list_val (val fault no_vals)) (list_ty (int_ty I32 NonNullable) NonNullable) ≡ true }
+    ensures but_for_the_last_element { fits_but_for_faults (list_val (val (int_val I32 (pos 1)) (val fault no_vals))) (list_ty (int_ty I32 NonNullable) NonNullable) ≡ true }
+    ensures but_for_the_member { fits_but_for_faults (struct_val (member (codes "a") fault (member (codes "b") (int_val I32 (pos 1)) no_members))) (struct_ty (field (codes "a") (int_ty I32 NonNullable) (only "b" (int_ty I32 NonNullable))) NonNullable) ≡ true }
+    ensures but_for_the_last_member { fits_but_for_faults (struct_val (member (codes "a") (int_val I32 (pos 1)) (member (codes "b") fault no_members))) (struct_ty (field (codes "a") (int_ty I32 NonNullable) (only "b" (int_ty I32 NonNullable))) NonNullable) ≡ true }
+{}
+
+/// A fault is held at any depth.
+pub fn holds_faults_at_any_depth()
+    ensures list_of_lists { holds_fault (list_val (val (list_val (val fault no_vals)) no_vals)) ≡ true }
+    ensures list_of_structs { holds_fault (list_val (val (alone "a" fault) no_vals)) ≡ true }
+{}
+
+/// What has no type gives no field: its type counts as the struct without fields, not nullable.
+pub fn counts_no_type_as_the_empty_struct()
+    ensures { type_or_empty (Err not_struct) ≡ struct_ty no_fields NonNullable }
+{}
+
+/// A slot may hold a constant of an equal type of other nullability, also of a list; a null within fits where the constant's own type has it.
+pub fn holds_constants_of_equal_types()
+    ensures nullable { held_fits (Some (record { ty = int_ty I32 Nullable; value = raw_int (pos 5) })) (int_ty I32 NonNullable) ≡ true }
+    ensures list { held_fits (Some (record { ty = (list_ty (int_ty I32 NonNullable) NonNullable); value = raw_list no_raws })) (list_ty (int_ty I32 NonNullable) NonNullable) ≡ true }
+    ensures null_within { held_fits (Some (record { ty = list_ty (int_ty I32 Nullable) NonNullable; value = raw_list (raw raw_null no_raws) })) (list_ty (int_ty I32 NonNullable) NonNullable) ≡ true }
+    ensures null { held_fits (Some (record { ty = int_ty I32 Nullable; value = raw_null })) (int_ty I32 NonNullable) ≡ false }
+    ensures no_parts { slots_fit [] (pack [] no_trees NonNullable) ≡ true }
+    ensures no_structs { slots_fit [] (merge no_trees NonNullable) ≡ true }
+{}
+
+/// Each type is the same as itself alone.
+pub fn tells_types_apart()
+    ensures kinds { map (λ t. map (ty_eq t) kinds_of_types) kinds_of_types ≡ (true ∷ replicate 8 false) ∷ (false ∷ true ∷ replicate 7 false) ∷ (replicate 2 false ++ (true ∷ replicate 6 false)) ∷ (replicate 3 false ++ (true ∷ replicate 5 false)) ∷ (replicate 4 false ++ (true ∷ replicate 4 false)) ∷ (replicate 5 false ++ (true ∷ replicate 3 false)) ∷ (replicate 6 false ++ (true ∷ replicate 2 false)) ∷ (replicate 7 false ++ (true ∷ false ∷ [])) ∷ (replicate 8 false ++ (true ∷ [])) ∷ [] }
+    ensures integers { map (λ p. map (λ q. ty_eq (int_ty p NonNullable) (int_ty q NonNullable)) integer_types) integer_types ≡ (true ∷ replicate 7 false) ∷ (false ∷ true ∷ replicate 6 false) ∷ (replicate 2 false ++ (true ∷ replicate 5 false)) ∷ (replicate 3 false ++ (true ∷ replicate 4 false)) ∷ (replicate 4 false ++ (true ∷ replicate 3 false)) ∷ (replicate 5 false ++ (true ∷ replicate 2 false)) ∷ (replicate 6 false ++ (true ∷ false ∷ [])) ∷ (replicate 7 false ++ (true ∷ [])) ∷ [] }
+    ensures nullabilities { map (λ n. map (same_nullability n) (NonNullable ∷ Nullable ∷ [])) (NonNullable ∷ Nullable ∷ []) ≡ (true ∷ false ∷ []) ∷ (false ∷ true ∷ []) ∷ [] }
+    ensures nullable { map (λ t. ty_eq t (with_nullability t Nullable)) kinds_of_types ≡ replicate 9 false }
+    ensures both_nullable { map (λ t. ty_eq (with_nullability t Nullable) (with_nullability t Nullable)) kinds_of_types ≡ replicate 9 true }
+    ensures nullable_elements { ty_eq (list_ty (int_ty I32 Nullable) NonNullable) (list_ty (int_ty I32 NonNullable) NonNullable) ≡ false }
+    ensures lists_of_lists { ty_eq (list_ty (list_ty (int_ty I32 Nullable) NonNullable) NonNullable) (list_ty (list_ty (int_ty I32 Nullable) NonNullable) NonNullable) ≡ true }
+{}
+
+/// Struct types are the same where each field is, its name and its type, nullability included.
+pub fn tells_struct_types_apart()
+    ensures same { ty_eq (struct_ty (field (codes "a") (int_ty I32 NonNullable) (only "b" (int_ty I32 NonNullable))) NonNullable) (struct_ty (field (codes "a") (int_ty I32 NonNullable) (only "b" (int_ty I32 NonNullable))) NonNullable) ≡ true }
+    ensures nested { ty_eq (struct_ty (only "s" (struct_ty (field (codes "a") (int_ty I32 NonNullable) (only "b" (int_ty I32 NonNullable))) Nullable)) NonNullable) (struct_ty (only "s" (struct_ty (field (codes "a") (int_ty I32 NonNullable) (only "b" (int_ty I32 NonNullable))) Nullable)) NonNullable) ≡ true }
+    ensures fewer { ty_eq (struct_ty (field (codes "a") (int_ty I32 NonNullable) (only "b" (int_ty I32 NonNullable))) NonNullable) (struct_ty (only "a" (int_ty I32 NonNullable)) NonNullable) ≡ false }
+    ensures more { ty_eq (struct_ty (only "a" (int_ty I32 NonNullable)) NonNullable) (struct_ty (field (codes "a") (int_ty I32 NonNullable) (only "b" (int_ty I32 NonNullable))) NonNullable) ≡ false }
+    ensures first_nullable { ty_eq (struct_ty (field (codes "a") (int_ty I32 NonNullable) (only "b" (int_ty I32 NonNullable))) NonNullable) (struct_ty (field (codes "a") (int_ty I32 Nullable) (only "b" (int_ty I32 NonNullable))) NonNullable) ≡ false }
+    ensures last_nullable { ty_eq (struct_ty (field (codes "a") (int_ty I32 NonNullable) (only "b" (int_ty I32 NonNullable))) NonNullable) (struct_ty (field (codes "a") (int_ty I32 NonNullable) (only "b" (int_ty I32 Nullable))) NonNullable) ≡ false }
+    ensures first_integer { ty_eq (struct_ty (field (codes "a") (int_ty I32 NonNullable) (only "b" (int_ty I32 NonNullable))) NonNullable) (struct_ty (field (codes "a") (int_ty I64 NonNullable) (only "b" (int_ty I32 NonNullable))) NonNullable) ≡ false }
+    ensures last_integer { ty_eq (struct_ty (field (codes "a") (int_ty I32 NonNullable) (only "b" (int_ty I32 NonNullable))) NonNullable) (struct_ty (field (codes "a") (int_ty I32 NonNullable) (only "b" (int_ty I64 NonNullable))) NonNullable) ≡ false }
+    ensures last_name { ty_eq (struct_ty (field (codes "a") (int_ty I32 NonNullable) (only "b" (int_ty I32 NonNullable))) NonNullable) (struct_ty (field (codes "a") (int_ty I32 NonNullable) (only "c" (int_ty I32 NonNullable))) NonNullable) ≡ false }
+    ensures first_name { ty_eq (struct_ty (field (codes "a") (int_ty I32 NonNullable) (only "b" (int_ty I32 NonNullable))) NonNullable) (struct_ty (field (codes "c") (int_ty I32 NonNullable) (only "b" (int_ty I32 NonNullable))) NonNullable) ≡ false }
+{}
+
+/// Each raw value is the same as itself alone, and a scalar where both its type and its value are.
+pub fn tells_raw_values_apart()
+    ensures kinds { map (λ x. map (raw_eq x) raws) raws ≡ (true ∷ replicate 13 false) ∷ (false ∷ true ∷ replicate 12 false) ∷ (replicate 2 false ++ (true ∷ replicate 11 false)) ∷ (replicate 3 false ++ (true ∷ replicate 10 false)) ∷ (replicate 4 false ++ (true ∷ replicate 9 false)) ∷ (replicate 5 false ++ (true ∷ replicate 8 false)) ∷ (replicate 6 false ++ (true ∷ replicate 7 false)) ∷ (replicate 7 false ++ (true ∷ replicate 6 false)) ∷ (replicate 8 false ++ (true ∷ replicate 5 false)) ∷ (replicate 9 false ++ (true ∷ replicate 4 false)) ∷ (replicate 10 false ++ (true ∷ replicate 3 false)) ∷ (replicate 11 false ++ (true ∷ replicate 2 false)) ∷ (replicate 12 false ++ (true ∷ false ∷ [])) ∷ (replicate 13 false ++ (true ∷ [])) ∷ [] }
+    ensures same { typed_eq (record { ty = int_ty I32 Nullable; value = raw_int (pos 1) }) (record { ty = int_ty I32 Nullable; value = raw_int (pos 1) }) ≡ true }
+    ensures other_type { typed_eq (record { ty = int_ty I32 Nullable; value = raw_int (pos 1) }) (record { ty = int_ty I32 NonNullable; value = raw_int (pos 1) }) ≡ false }
+    ensures other_integer { typed_eq (record { ty = list_ty (int_ty I64 Nullable) Nullable; value = raw_null }) (record { ty = list_ty (int_ty I32 Nullable) Nullable; value = raw_null }) ≡ false }
+    ensures other_value { typed_eq (record { ty = int_ty I32 Nullable; value = raw_int (pos 1) }) (record { ty = int_ty I32 Nullable; value = raw_int (pos 2) }) ≡ false }
+    ensures same_list { typed_eq (record { ty = list_ty (bool_ty Nullable) Nullable; value = raw_null }) (record { ty = list_ty (bool_ty Nullable) Nullable; value = raw_null }) ≡ true }
+{}
+
+/// A path is among others where one has its names; a set of paths has each once, in order of insertion.
+pub fn keeps_paths_once()
+    ensures there { has_path (codes "b" ∷ []) ((codes "a" ∷ []) ∷ (codes "b" ∷ []) ∷ []) ≡ true }
+    ensures missing { has_path (codes "c" ∷ []) ((codes "a" ∷ []) ∷ (codes "b" ∷ []) ∷ []) ≡ false }
+    ensures beginning { has_path (codes "a" ∷ []) ((codes "a" ∷ codes "b" ∷ []) ∷ []) ≡ false }
+    ensures distinct { distinct_paths ((codes "a" ∷ []) ∷ (codes "b" ∷ []) ∷ []) ≡ true }
+    ensures twice { distinct_paths ((codes "a" ∷ []) ∷ (codes "b" ∷ []) ∷ (codes "a" ∷ []) ∷ []) ≡ false }
+    ensures last_twice { distinct_paths ((codes "a" ∷ []) ∷ (codes "b" ∷ []) ∷ (codes "b" ∷ []) ∷ []) ≡ false }
+    ensures added { with_path (codes "c" ∷ []) ((codes "a" ∷ []) ∷ (codes "b" ∷ []) ∷ []) ≡ (codes "a" ∷ []) ∷ (codes "b" ∷ []) ∷ (codes "c" ∷ []) ∷ [] }
+    ensures kept { with_path (codes "a" ∷ []) ((codes "a" ∷ []) ∷ (codes "b" ∷ []) ∷ []) ≡ (codes "a" ∷ []) ∷ (codes "b" ∷ []) ∷ [] }
 {}

@@ -1,6 +1,7 @@
--- What has to unfold for the worked rows to compute.
+-- What has to unfold for the worked examples to compute.
 use Rattle.std.specs.Str.{chars}
 use Rattle.vx_dtype.specs.TypeRules.{alike, no_name_twice, depth_of}
+use Rattle.vx_dtype.specs.Equal.{ty_eq, raw_eq}
 use Rattle.vx_dtype.specs.Values.{valued}
 use Rattle.vx_dtype.specs.Fits.{fits, val_fits, fits_but_for_faults, holds_fault}
 use Rattle.vx_dtype.specs.Like.{matches}
@@ -15,5 +16,5 @@ use Rattle.vx_semantics.specs.Instances.{without_ranges, IsReplaced}
 
 -- named on an `unfolding` line it opens all of these
 unfoldable pub all_definitions : Unit {0}
-unfolding chars alike no_name_twice depth_of valued fits val_fits fits_but_for_faults holds_fault matches conjuncts_of typed_of loosely_typed mean asked rules_out slots_fit without_ranges IsReplaced
+unfolding chars alike no_name_twice depth_of ty_eq raw_eq valued fits val_fits fits_but_for_faults holds_fault matches conjuncts_of typed_of loosely_typed mean asked rules_out slots_fit without_ranges IsReplaced
 all_definitions = tt

@@ -1,18 +1,149 @@
 // Types by the looser rules, worked by hand for each kind over a struct of each kind of type.
 #![tactic(auto, unfolding(crate::proofs::Computing::all_definitions))]
 
-ghost use Rattle.std.specs.Prelude.{◌≡◌, [], ◌∷◌, ◌++◌, codes, pos, map, replicate, Ok, Err, true, false};
-ghost use Rattle.vx_dtype.specs.declared.PType.TheVariants.{I32, U8, I64};
+ghost use Rattle.std.specs.Prelude.{◌≡◌, [], ◌∷◌, codes, pos, Ok, Err, true, false, ◌++◌, map, replicate};
+ghost use Rattle.vx_dtype.specs.declared.PType.TheVariants.{I32, U16, U8, I64};
 ghost use Rattle.vx_dtype.specs.declared.Nullability.TheVariants.{NonNullable, Nullable};
+ghost use Rattle.vx_dtype.specs.Types.{bool_ty, int_ty, text_ty, list_ty, struct_ty, no_fields, field};
 ghost use Rattle.vx_dtype.specs.declared.StrictComparison.TheVariants.{Strict};
 ghost use Rattle.vx_dtype.specs.declared.CompareOperator.TheVariants.{Gt as Above};
-ghost use Rattle.vx_dtype.specs.Types.{bool_ty, int_ty, text_ty, list_ty, struct_ty, no_fields, field};
-ghost use Rattle.vx_expr.specs.declared.Operator.TheVariants.{Eq};
+ghost use Rattle.vx_expr.specs.declared.Operator.TheVariants.{Eq, NotEq, Gt, Gte, Lt, Lte, And, Or, Add};
 ghost use Rattle.vx_expr.specs.declared.FieldSelection.TheVariants.{Include, Exclude};
-ghost use Rattle.vx_expr.specs.Trees.{root, get_item, not_of, is_null_of, like, between, cast, list_contains, pack, merge, select, dynamic, tree, no_trees};
-ghost use Rattle.vx_semantics.specs.Typing.{not_struct, unknown_field, type_mismatch};
+ghost use Rattle.vx_expr.specs.Trees.{root, not_of, is_null_of, like, cast, list_contains, select, get_item, between, pack, merge, dynamic, tree, no_trees};
+ghost use Rattle.vx_semantics.specs.Typing.{typed_of, type_mismatch, unknown_field, nullable_select, duplicate_field, not_struct};
 ghost use Rattle.vx_semantics.specs.LooseTyping.{loosely_typed};
-ghost use Rattle.vx_semantics.specs.Samples.{col, number, ◌⟨◌⟩◌, only, pack_two, number_list, struct_p_q, mixed, operators};
+ghost use Rattle.vx_worked_examples.specs.Samples.{col, number, quoted, null_of, ◌⟨◌⟩◌, only, pack_two, five_columns, number_list, struct_p_q, mixed, operators, ends};
+
+/// A constant has its own type.
+pub fn types_a_constant()
+    ensures { loosely_typed (five_columns) (number I32 (pos 10)) ≡ Ok (int_ty I32 NonNullable) }
+{}
+
+/// The null of a type has it.
+pub fn types_a_null()
+    ensures { loosely_typed (five_columns) (null_of (bool_ty Nullable)) ≡ Ok (bool_ty Nullable) }
+{}
+
+/// `and` of two booleans.
+pub fn types_and()
+    ensures { loosely_typed (five_columns) (col "bool1" ⟨ And ⟩ col "bool2") ≡ Ok (bool_ty NonNullable) }
+{}
+
+/// `or` of two booleans.
+pub fn types_or()
+    ensures { loosely_typed (five_columns) (col "bool1" ⟨ Or ⟩ col "bool2") ≡ Ok (bool_ty NonNullable) }
+{}
+
+/// A negation.
+pub fn types_a_negation()
+    ensures { loosely_typed (five_columns) (not_of (col "bool1")) ≡ Ok (bool_ty NonNullable) }
+{}
+
+/// A cast looks at its target alone.
+pub fn types_a_cast()
+    ensures { loosely_typed (five_columns) (cast root (bool_ty NonNullable)) ≡ Ok (bool_ty NonNullable) }
+{}
+
+/// A null test looks at nothing.
+pub fn types_a_null_test()
+    ensures { loosely_typed (five_columns) (is_null_of root) ≡ Ok (bool_ty NonNullable) }
+{}
+
+/// A comparison of nullable columns is nullable: equality.
+pub fn types_equality()
+    ensures { loosely_typed (five_columns) (col "col1" ⟨ Eq ⟩ col "col2") ≡ Ok (bool_ty Nullable) }
+{}
+
+/// A comparison of nullable columns is nullable: inequality.
+pub fn types_inequality()
+    ensures { loosely_typed (five_columns) (col "col1" ⟨ NotEq ⟩ col "col2") ≡ Ok (bool_ty Nullable) }
+{}
+
+/// A comparison of nullable columns is nullable: greater.
+pub fn types_greater()
+    ensures { loosely_typed (five_columns) (col "col1" ⟨ Gt ⟩ col "col2") ≡ Ok (bool_ty Nullable) }
+{}
+
+/// A comparison of nullable columns is nullable: greater or equal.
+pub fn types_greater_or_equal()
+    ensures { loosely_typed (five_columns) (col "col1" ⟨ Gte ⟩ col "col2") ≡ Ok (bool_ty Nullable) }
+{}
+
+/// A comparison of nullable columns is nullable: less.
+pub fn types_less()
+    ensures { loosely_typed (five_columns) (col "col1" ⟨ Lt ⟩ col "col2") ≡ Ok (bool_ty Nullable) }
+{}
+
+/// A comparison of nullable columns is nullable: less or equal.
+pub fn types_less_or_equal()
+    ensures { loosely_typed (five_columns) (col "col1" ⟨ Lte ⟩ col "col2") ≡ Ok (bool_ty Nullable) }
+{}
+
+/// `or` of two comparisons.
+pub fn types_or_of_comparisons()
+    ensures { loosely_typed (five_columns) ((col "col1" ⟨ Lt ⟩ col "col2") ⟨ Or ⟩ (col "col1" ⟨ NotEq ⟩ col "col2")) ≡ Ok (bool_ty Nullable) }
+{}
+
+/// An included field.
+pub fn types_an_included_field()
+    ensures { loosely_typed (five_columns) (select (Include (codes "a" ∷ [])) root) ≡ Ok (struct_ty (only "a" (int_ty I32 NonNullable)) NonNullable) }
+{}
+
+/// All fields but four.
+pub fn types_all_but_four()
+    ensures { loosely_typed (five_columns) (select (Exclude (codes "col1" ∷ codes "col2" ∷ codes "bool1" ∷ codes "bool2" ∷ [])) root) ≡ Ok (struct_ty (only "a" (int_ty I32 NonNullable)) NonNullable) }
+{}
+
+/// All fields but two.
+pub fn types_all_but_two()
+    ensures { loosely_typed (five_columns) (select (Exclude (codes "col1" ∷ codes "col2" ∷ [])) root) ≡ Ok (struct_ty (field (codes "a") (int_ty I32 NonNullable) (field (codes "bool1") (bool_ty NonNullable) (only "bool2" (bool_ty NonNullable)))) NonNullable) }
+{}
+
+/// LIKE of two texts.
+pub fn types_like()
+    ensures { loosely_typed (text_ty NonNullable) (like root (quoted "%test%") false false) ≡ Ok (bool_ty NonNullable) }
+{}
+
+/// Membership in a nullable list.
+pub fn types_membership()
+    ensures { loosely_typed (struct_ty (only "array" (list_ty (int_ty I32 NonNullable) Nullable)) NonNullable) (list_contains (col "array") (number I32 (pos 2))) ≡ Ok (bool_ty Nullable) }
+{}
+
+/// Comparisons ask equal types by the strict rules alone.
+pub fn types_a_comparison_of_two_kinds_loosely()
+    ensures strictly { typed_of (five_columns) (col "a" ⟨ Eq ⟩ col "bool1") ≡ Err type_mismatch }
+    ensures loosely { loosely_typed (five_columns) (col "a" ⟨ Eq ⟩ col "bool1") ≡ Ok (bool_ty NonNullable) }
+{}
+
+/// A missing excluded name is refused by the strict rules alone.
+pub fn passes_over_a_missing_excluded_name_loosely()
+    ensures strictly { typed_of (five_columns) (select (Exclude (codes "zz" ∷ codes "a" ∷ codes "col1" ∷ codes "col2" ∷ codes "bool1" ∷ [])) root) ≡ Err unknown_field }
+    ensures loosely { loosely_typed (five_columns) (select (Exclude (codes "zz" ∷ codes "a" ∷ codes "col1" ∷ codes "col2" ∷ codes "bool1" ∷ [])) root) ≡ Ok (struct_ty (only "bool2" (bool_ty NonNullable)) NonNullable) }
+{}
+
+/// A select of a nullable struct is nullable by the looser rules, and has no strict type.
+pub fn types_a_nullable_select_loosely()
+    ensures strictly { typed_of (struct_ty (only "a" (int_ty I32 NonNullable)) Nullable) (select (Include (codes "a" ∷ [])) root) ≡ Err nullable_select }
+    ensures loosely { loosely_typed (struct_ty (only "a" (int_ty I32 NonNullable)) Nullable) (select (Include (codes "a" ∷ [])) root) ≡ Ok (struct_ty (only "a" (int_ty I32 NonNullable)) Nullable) }
+{}
+
+/// A name twice in a pack is refused by the strict rules alone; of two fields of one name the first is taken.
+pub fn takes_the_first_of_two_fields_loosely()
+    ensures strictly { typed_of (five_columns) (get_item (codes "n") (pack_two "n" (number I32 (pos 1)) "n" (number U8 (pos 2)))) ≡ Err duplicate_field }
+    ensures loosely { loosely_typed (five_columns) (get_item (codes "n") (pack_two "n" (number I32 (pos 1)) "n" (number U8 (pos 2)))) ≡ Ok (int_ty I32 NonNullable) }
+{}
+
+/// A sum of two integer types has no type by either rules.
+pub fn types_no_sum_of_two_integer_types()
+    ensures strictly { typed_of (five_columns) (col "a" ⟨ Add ⟩ col "col1") ≡ Err type_mismatch }
+    ensures loosely { loosely_typed (five_columns) (col "a" ⟨ Add ⟩ col "col1") ≡ Err type_mismatch }
+{}
+
+/// A sum of nullable numbers is nullable.
+pub fn types_a_sum()
+    ensures strictly { typed_of (five_columns) (col "col1" ⟨ Add ⟩ col "col2") ≡ Ok (int_ty U16 Nullable) }
+    ensures loosely { loosely_typed (five_columns) (col "col1" ⟨ Add ⟩ col "col2") ≡ Ok (int_ty U16 Nullable) }
+{}
 
 /// The row and constants have their types, whatever stands in them twice or doesn't fit.
 pub fn types_rows_and_constants_loosely()
@@ -58,14 +189,14 @@ pub fn types_likeness_and_membership_loosely()
 
 /// A range asks three equal types, lists and structs too.
 pub fn types_ranges_loosely()
-    ensures numbers { loosely_typed mixed (between (col "a") (col "a") (col "a") (record { lower_strict = Strict; upper_strict = Strict })) ≡ Ok (bool_ty NonNullable) }
-    ensures nullable_value { loosely_typed mixed (between (col "b") (col "a") (col "a") (record { lower_strict = Strict; upper_strict = Strict })) ≡ Ok (bool_ty Nullable) }
-    ensures nullable_lower { loosely_typed mixed (between (col "a") (col "b") (col "a") (record { lower_strict = Strict; upper_strict = Strict })) ≡ Ok (bool_ty Nullable) }
-    ensures nullable_upper { loosely_typed mixed (between (col "a") (col "a") (col "b") (record { lower_strict = Strict; upper_strict = Strict })) ≡ Ok (bool_ty Nullable) }
-    ensures other_lower { loosely_typed mixed (between (col "a") (col "f") (col "a") (record { lower_strict = Strict; upper_strict = Strict })) ≡ Err type_mismatch }
-    ensures other_upper { loosely_typed mixed (between (col "a") (col "a") (col "f") (record { lower_strict = Strict; upper_strict = Strict })) ≡ Err type_mismatch }
-    ensures lists { loosely_typed mixed (between (col "l") (col "l") (col "l") (record { lower_strict = Strict; upper_strict = Strict })) ≡ Ok (bool_ty Nullable) }
-    ensures structs { loosely_typed mixed (between (col "s") (col "s") (col "s") (record { lower_strict = Strict; upper_strict = Strict })) ≡ Ok (bool_ty NonNullable) }
+    ensures numbers { loosely_typed mixed (between (col "a") (col "a") (col "a") (ends Strict Strict)) ≡ Ok (bool_ty NonNullable) }
+    ensures nullable_value { loosely_typed mixed (between (col "b") (col "a") (col "a") (ends Strict Strict)) ≡ Ok (bool_ty Nullable) }
+    ensures nullable_lower { loosely_typed mixed (between (col "a") (col "b") (col "a") (ends Strict Strict)) ≡ Ok (bool_ty Nullable) }
+    ensures nullable_upper { loosely_typed mixed (between (col "a") (col "a") (col "b") (ends Strict Strict)) ≡ Ok (bool_ty Nullable) }
+    ensures other_lower { loosely_typed mixed (between (col "a") (col "f") (col "a") (ends Strict Strict)) ≡ Err type_mismatch }
+    ensures other_upper { loosely_typed mixed (between (col "a") (col "a") (col "f") (ends Strict Strict)) ≡ Err type_mismatch }
+    ensures lists { loosely_typed mixed (between (col "l") (col "l") (col "l") (ends Strict Strict)) ≡ Ok (bool_ty Nullable) }
+    ensures structs { loosely_typed mixed (between (col "s") (col "s") (col "s") (ends Strict Strict)) ≡ Ok (bool_ty NonNullable) }
 {}
 
 /// A comparison with a slot asks a type equal to the slot's, lists and structs too.
@@ -110,8 +241,8 @@ pub fn refuses_in_post_order_loosely()
     ensures left_again { loosely_typed mixed (not_of (col "a") ⟨ Eq ⟩ col "z") ≡ Err type_mismatch }
     ensures of_likeness { loosely_typed mixed (like (not_of (col "a")) (col "z") false false) ≡ Err type_mismatch }
     ensures of_a_pattern { loosely_typed mixed (like (col "t") (col "z") false false) ≡ Err unknown_field }
-    ensures of_a_range { loosely_typed mixed (between (col "a") (col "z") (not_of (col "a")) (record { lower_strict = Strict; upper_strict = Strict })) ≡ Err unknown_field }
-    ensures of_a_range_again { loosely_typed mixed (between (not_of (col "a")) (col "a") (col "z") (record { lower_strict = Strict; upper_strict = Strict })) ≡ Err type_mismatch }
+    ensures of_a_range { loosely_typed mixed (between (col "a") (col "z") (not_of (col "a")) (ends Strict Strict)) ≡ Err unknown_field }
+    ensures of_a_range_again { loosely_typed mixed (between (not_of (col "a")) (col "a") (col "z") (ends Strict Strict)) ≡ Err type_mismatch }
     ensures of_membership { loosely_typed mixed (list_contains (not_of (col "a")) (col "z")) ≡ Err type_mismatch }
     ensures of_a_member { loosely_typed mixed (list_contains (col "l") (col "z")) ≡ Err unknown_field }
     ensures of_a_pack { loosely_typed mixed (pack_two "x" (not_of (col "a")) "y" (col "z")) ≡ Err type_mismatch }
@@ -128,9 +259,9 @@ pub fn types_children_loosely()
     ensures negation { loosely_typed mixed (not_of ((get_item (codes "a") (select (Exclude (codes "z" ∷ [])) root)) ⟨ Eq ⟩ col "a")) ≡ Ok (bool_ty NonNullable) }
     ensures text { loosely_typed mixed (like (get_item (codes "a") (select (Exclude (codes "z" ∷ [])) root)) (col "t") false false) ≡ Ok (bool_ty NonNullable) }
     ensures pattern { loosely_typed mixed (like (col "t") (get_item (codes "a") (select (Exclude (codes "z" ∷ [])) root)) false false) ≡ Ok (bool_ty NonNullable) }
-    ensures range { loosely_typed mixed (between (get_item (codes "a") (select (Exclude (codes "z" ∷ [])) root)) (col "a") (col "a") (record { lower_strict = Strict; upper_strict = Strict })) ≡ Ok (bool_ty NonNullable) }
-    ensures lower { loosely_typed mixed (between (col "a") (get_item (codes "a") (select (Exclude (codes "z" ∷ [])) root)) (col "a") (record { lower_strict = Strict; upper_strict = Strict })) ≡ Ok (bool_ty NonNullable) }
-    ensures upper { loosely_typed mixed (between (col "a") (col "a") (get_item (codes "a") (select (Exclude (codes "z" ∷ [])) root)) (record { lower_strict = Strict; upper_strict = Strict })) ≡ Ok (bool_ty NonNullable) }
+    ensures range { loosely_typed mixed (between (get_item (codes "a") (select (Exclude (codes "z" ∷ [])) root)) (col "a") (col "a") (ends Strict Strict)) ≡ Ok (bool_ty NonNullable) }
+    ensures lower { loosely_typed mixed (between (col "a") (get_item (codes "a") (select (Exclude (codes "z" ∷ [])) root)) (col "a") (ends Strict Strict)) ≡ Ok (bool_ty NonNullable) }
+    ensures upper { loosely_typed mixed (between (col "a") (col "a") (get_item (codes "a") (select (Exclude (codes "z" ∷ [])) root)) (ends Strict Strict)) ≡ Ok (bool_ty NonNullable) }
     ensures list { loosely_typed mixed (list_contains (get_item (codes "a") (select (Exclude (codes "z" ∷ [])) root)) (col "a")) ≡ Ok (bool_ty NonNullable) }
     ensures value { loosely_typed mixed (list_contains (col "a") (get_item (codes "a") (select (Exclude (codes "z" ∷ [])) root))) ≡ Ok (bool_ty NonNullable) }
     ensures packed { loosely_typed mixed (pack_two "p" (col "a") "q" (get_item (codes "a") (select (Exclude (codes "z" ∷ [])) root))) ≡ Ok (struct_ty (field (codes "p") (int_ty I32 NonNullable) (only "q" (int_ty I32 NonNullable))) NonNullable) }

@@ -1,13 +1,13 @@
 // Honest and dishonest statistics, worked by hand: five, null and nine in one block.
 #![tactic(auto, unfolding(crate::proofs::Computing::all_definitions))]
 
-ghost use Rattle.std.specs.Prelude.{◌≡◌, [], ◌∷◌, codes, pos, true, false, Some, None};
+ghost use Rattle.std.specs.Prelude.{◌≡◌, [], ◌∷◌, codes, pos, true, false};
 ghost use Rattle.vx_dtype.specs.declared.PType.TheVariants.{I32, U64};
 ghost use Rattle.vx_dtype.specs.declared.Stat.TheVariants.{Min, Max, NullCount, NaNCount};
 ghost use Rattle.vx_dtype.specs.Values.{null_val, int_val};
 ghost use Rattle.vx_semantics.specs.Honest.{null_rows, honest_value, honest_values, IsHonest};
 ghost use Rattle.vx_semantics.specs.Paths.{path_value};
-ghost use Rattle.vx_semantics.specs.Samples.{alone, rows_of_numbers, number_table, nullable_table, bounds, statistic, zones_of, rows_with_null};
+ghost use Rattle.vx_worked_examples.specs.Samples.{alone, rows_of_numbers, number_table, bounds, statistic, zones_of, rows_with_null};
 
 /// The path of a value, from the row on.
 pub fn follows_paths()

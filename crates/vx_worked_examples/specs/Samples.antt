@@ -1,5 +1,5 @@
--- Words for the worked rows: constants, columns, tables of one column, and the answer of a scan as one record.
-use Rattle.std.specs.Prelude.{ℕ, ℤ, pos, Bool, true, false, List, [], ◌∷◌, map, length, codes, Option, Some, None}
+-- Words for the worked examples: constants, columns, tables of one column, and the answer of a scan as one record.
+use Rattle.std.specs.Prelude.{ℕ, ℤ, pos, Bool, true, false, List, [], ◌∷◌, map, length, codes, Option, Some, None, Result}
 use Prim.Native.String.{String}
 use Rattle.vx_dtype.specs.declared.PType.{PType}
 use Rattle.vx_dtype.specs.declared.PType.TheVariants.{U8, U16, U32, U64, I8, I16, I32, I64}
@@ -7,15 +7,19 @@ use Rattle.vx_dtype.specs.declared.Nullability.TheVariants.{NonNullable, Nullabl
 use Rattle.vx_dtype.specs.declared.Stat.{Stat}
 use Rattle.vx_dtype.specs.declared.Stat.TheVariants.{Min, Max}
 use Rattle.vx_dtype.specs.declared.CompareOperator.{CompareOperator}
+use Rattle.vx_dtype.specs.declared.StrictComparison.{StrictComparison}
+use Rattle.vx_dtype.specs.declared.BetweenOptions.{BetweenOptions}
 use Rattle.vx_dtype.specs.Types.{Bytes, Ty, bool_ty, int_ty, text_ty, list_ty, struct_ty, Fields, no_fields, field}
-use Rattle.vx_dtype.specs.Values.{raw_null, raw_bool, raw_int, raw_text, raw_list, Raws, no_raws, raw, Val, null_val, bool_val, int_val, fault, struct_val, no_members, member, Typed}
+use Rattle.vx_dtype.specs.Values.{raw_null, raw_bool, raw_int, raw_text, raw_list, Raws, no_raws, raw, Val, null_val, bool_val, int_val, fault, struct_val}
+use Rattle.vx_dtype.specs.Values.{no_members, member, Typed}
 use Rattle.vx_dtype.specs.Fits.{fits}
 use Rattle.vx_expr.specs.declared.Operator.{Operator}
 use Rattle.vx_expr.specs.Trees.{Tree, root, literal, get_item, binary, pack, dynamic, no_trees, tree}
-use Rattle.vx_semantics.specs.Meaning.{Slots}
+use Rattle.vx_semantics.specs.Typing.{Refusal, typed_of}
+use Rattle.vx_semantics.specs.Meaning.{Slots, mean}
 use Rattle.vx_semantics.specs.Tables.{Table, ZoneStat, Zones, row_type}
 use Rattle.vx_semantics.specs.Scans.{kept_rows_of, skipped_blocks, reads_of, read_columns, phases_of, phase_breaks_by}
-use Rattle.vx_semantics.specs.Breaks.{by_sum, by_cast}
+use Rattle.vx_semantics.specs.Breaks.{Cause, by_sum, by_cast, break_of}
 
 -- a column
 abbrev pub col : String → Tree
@@ -31,7 +35,7 @@ boolean b = literal (record { ty = bool_ty NonNullable; value = raw_bool b })
 abbrev pub quoted : String → Tree
 quoted s = literal (record { ty = text_ty NonNullable; value = raw_text (codes s) })
 
--- numbers as raw values in a row
+-- numbers as a list of raw values
 abbrev pub raw_numbers : List ℤ → Raws
 raw_numbers [] = no_raws
 raw_numbers (i ∷ is) = raw (raw_int i) (raw_numbers is)
@@ -76,8 +80,10 @@ statistic path stat values = record { path = map codes path; stat = stat; values
 abbrev pub zones_of : Table → List ZoneStat → Zones
 zones_of table stats = record { columns = table.columns; lengths = map length table.blocks; stats = stats }
 
--- what a scan answers: the rows over the kept blocks, the skipped blocks, the columns that are read, the reads
+-- what a scan answers: the strict types of filter and projection, the rows over the kept blocks, the skipped blocks, the columns that are read, the reads
 pub record Answer : Type 0 where
+  pub filter_type : Result Ty Refusal
+  pub projection_type : Result Ty Refusal
   pub rows : List Val
   pub skipped : List ℕ
   pub columns : List Bytes
@@ -86,11 +92,17 @@ pub record Answer : Type 0 where
 abbrev pub answer_of : Table → List ZoneStat → Slots → Tree → Tree → Answer
 answer_of table stats slots filter_expr projection =
     record {
+      filter_type = typed_of (row_type table.columns) filter_expr;
+      projection_type = typed_of (row_type table.columns) projection;
       rows = kept_rows_of table (zones_of table stats) slots filter_expr projection;
       skipped = skipped_blocks (zones_of table stats) slots filter_expr;
       columns = read_columns table (reads_of table (zones_of table stats) slots filter_expr projection);
       reads = reads_of table (zones_of table stats) slots filter_expr projection;
     }
+
+-- the strict types of a filter and a projection over a table
+abbrev pub types_of : Table → Tree → Tree → Result Ty Refusal × Result Ty Refusal
+types_of table filter_expr projection = (typed_of (row_type table.columns) filter_expr, typed_of (row_type table.columns) projection)
 
 -- of each phase of a scan in order, whether it breaks by a sum, and whether by a cast
 abbrev pub breaks_in_order : Table → List ZoneStat → Slots → Tree → Tree → List (Bool × Bool)
@@ -109,11 +121,11 @@ broken_sum = (true, false)
 abbrev pub broken_cast : Bool × Bool
 broken_cast = (false, true)
 
--- the table of the first rows: twelve and twenty are above ten
+-- the table of the first example: twelve and twenty are above ten
 abbrev pub two_blocks : Table
 two_blocks = number_table I32 "x" ((pos 1 ∷ pos 12 ∷ []) ∷ (pos 20 ∷ []) ∷ [])
 
--- the filter of the first rows: the column is above ten
+-- the filter of the first example: the column is above ten
 abbrev pub above_ten : Tree
 above_ten = col "x" ⟨ Operator.Gt ⟩ number I32 (pos 10)
 
@@ -253,3 +265,22 @@ operators =
 -- true, false, null and a fault
 abbrev pub values_of_truth : List Val
 values_of_truth = bool_val true ∷ bool_val false ∷ null_val ∷ fault ∷ []
+
+-- the ends of a range: how it is bound below and above
+abbrev pub ends : StrictComparison → StrictComparison → BetweenOptions
+ends lower upper = record { lower_strict = lower; upper_strict = upper }
+
+-- what an expression means that asks no column, and by what it breaks
+abbrev pub mean_of : Tree → Val
+mean_of e = mean (struct_ty no_fields NonNullable) [] (struct_val no_members) e
+
+abbrev pub break_in : Tree → Option Cause
+break_in e = break_of (struct_ty no_fields NonNullable) [] (struct_val no_members) e
+
+-- a table of two blocks of one row, one and twenty, and its bounds
+abbrev pub one_and_twenty : Table
+one_and_twenty = number_table I32 "x" ((pos 1 ∷ []) ∷ (pos 20 ∷ []) ∷ [])
+
+abbrev pub one_and_twenty_bounds : List ZoneStat
+one_and_twenty_bounds =
+    statistic ("x" ∷ []) Min (bounds I32 (pos 1 ∷ pos 20 ∷ [])) ∷ statistic ("x" ∷ []) Max (bounds I32 (pos 1 ∷ pos 20 ∷ [])) ∷ []

@@ -1,4 +1,4 @@
--- An expression of each kind over two expressions, all kinds of statistics, and raw values of each kind, for rows that hold for every kind.
+-- An expression of each kind over two expressions, all kinds of statistics, and raw values of each kind, for examples that hold for every kind.
 use Rattle.std.specs.Prelude.{ℕ, pos, true, false, List, [], ◌∷◌, Option, Some, None, codes}
 use Rattle.vx_dtype.specs.declared.PType.TheVariants.{I32, I64}
 use Rattle.vx_dtype.specs.declared.Nullability.TheVariants.{NonNullable, Nullable}
@@ -10,7 +10,7 @@ use Rattle.vx_dtype.specs.Values.{Raw, raw_null, raw_bool, raw_int, raw_text, ra
 use Rattle.vx_expr.specs.declared.Operator.{Operator}
 use Rattle.vx_expr.specs.declared.FieldSelection.TheVariants.{Include}
 use Rattle.vx_expr.specs.Trees.{Tree, get_item, binary, not_of, is_null_of, like, cast, list_contains, merge, select, dynamic, no_trees, tree}
-use Rattle.vx_semantics.specs.Samples.{pack_two}
+use Rattle.vx_worked_examples.specs.Samples.{pack_two}
 
 -- each kind but the row, a constant and a range, the first expression before the second
 abbrev pub kinds_over : Tree → Tree → List Tree

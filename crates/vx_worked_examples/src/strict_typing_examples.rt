@@ -6,13 +6,13 @@ ghost use Rattle.vx_dtype.specs.declared.PType.TheVariants.{I32, U8, I64};
 ghost use Rattle.vx_dtype.specs.declared.Nullability.TheVariants.{NonNullable, Nullable};
 ghost use Rattle.vx_dtype.specs.declared.StrictComparison.TheVariants.{Strict};
 ghost use Rattle.vx_dtype.specs.Types.{bool_ty, int_ty, text_ty, list_ty, struct_ty, no_fields, field};
-ghost use Rattle.vx_dtype.specs.Values.{raw_null, raw_int, raw_struct, no_raws};
-ghost use Rattle.vx_expr.specs.declared.Operator.TheVariants.{Eq};
+ghost use Rattle.vx_dtype.specs.Values.{raw_struct, no_raws};
 ghost use Rattle.vx_dtype.specs.declared.CompareOperator.TheVariants.{Gt as Above};
+ghost use Rattle.vx_expr.specs.declared.Operator.TheVariants.{Eq};
 ghost use Rattle.vx_expr.specs.declared.FieldSelection.TheVariants.{Include, Exclude};
 ghost use Rattle.vx_expr.specs.Trees.{root, literal, get_item, not_of, is_null_of, like, between, cast, list_contains, pack, merge, select, dynamic, tree, no_trees};
 ghost use Rattle.vx_semantics.specs.Typing.{typed_of, given_names, not_struct, nullable_select, unknown_field, duplicate_field, type_mismatch};
-ghost use Rattle.vx_semantics.specs.Samples.{col, number, null_of, ◌⟨◌⟩◌, only, pack_two, number_list, struct_p_q, mixed, operators};
+ghost use Rattle.vx_worked_examples.specs.Samples.{col, number, null_of, ◌⟨◌⟩◌, only, pack_two, number_list, struct_p_q, mixed, operators, ends};
 
 /// The row has the scope's type, where no struct in it has a name twice.
 pub fn types_the_row()
@@ -61,7 +61,7 @@ pub fn refuses_in_post_order()
     ensures left { typed_of mixed (col "z" ⟨ Eq ⟩ not_of (col "a")) ≡ Err unknown_field }
     ensures left_again { typed_of mixed (not_of (col "a") ⟨ Eq ⟩ col "z") ≡ Err type_mismatch }
     ensures right_before_the_node { typed_of mixed (col "a" ⟨ Eq ⟩ get_item (codes "q") (col "a")) ≡ Err not_struct }
-    ensures of_a_range { typed_of mixed (between (col "a") (col "z") (not_of (col "a")) (record { lower_strict = Strict; upper_strict = Strict })) ≡ Err unknown_field }
+    ensures of_a_range { typed_of mixed (between (col "a") (col "z") (not_of (col "a")) (ends Strict Strict)) ≡ Err unknown_field }
     ensures of_a_pack { typed_of mixed (pack_two "a" (col "z") "a" (not_of (col "a"))) ≡ Err unknown_field }
     ensures of_a_merge { typed_of mixed (merge (tree (col "a") (tree (col "z") no_trees)) NonNullable) ≡ Err unknown_field }
     ensures of_likeness { typed_of mixed (like (col "a") (col "z") false false) ≡ Err unknown_field }
@@ -91,13 +91,13 @@ pub fn types_likeness()
 
 /// A range asks three equal plain types.
 pub fn types_ranges()
-    ensures numbers { typed_of mixed (between (col "a") (col "a") (col "a") (record { lower_strict = Strict; upper_strict = Strict })) ≡ Ok (bool_ty NonNullable) }
-    ensures nullable_value { typed_of mixed (between (col "b") (col "a") (col "a") (record { lower_strict = Strict; upper_strict = Strict })) ≡ Ok (bool_ty Nullable) }
-    ensures nullable_lower { typed_of mixed (between (col "a") (col "b") (col "a") (record { lower_strict = Strict; upper_strict = Strict })) ≡ Ok (bool_ty Nullable) }
-    ensures nullable_upper { typed_of mixed (between (col "a") (col "a") (col "b") (record { lower_strict = Strict; upper_strict = Strict })) ≡ Ok (bool_ty Nullable) }
-    ensures other_lower { typed_of mixed (between (col "a") (col "f") (col "a") (record { lower_strict = Strict; upper_strict = Strict })) ≡ Err type_mismatch }
-    ensures other_upper { typed_of mixed (between (col "a") (col "a") (col "f") (record { lower_strict = Strict; upper_strict = Strict })) ≡ Err type_mismatch }
-    ensures lists { typed_of mixed (between (col "l") (col "l") (col "l") (record { lower_strict = Strict; upper_strict = Strict })) ≡ Err type_mismatch }
+    ensures numbers { typed_of mixed (between (col "a") (col "a") (col "a") (ends Strict Strict)) ≡ Ok (bool_ty NonNullable) }
+    ensures nullable_value { typed_of mixed (between (col "b") (col "a") (col "a") (ends Strict Strict)) ≡ Ok (bool_ty Nullable) }
+    ensures nullable_lower { typed_of mixed (between (col "a") (col "b") (col "a") (ends Strict Strict)) ≡ Ok (bool_ty Nullable) }
+    ensures nullable_upper { typed_of mixed (between (col "a") (col "a") (col "b") (ends Strict Strict)) ≡ Ok (bool_ty Nullable) }
+    ensures other_lower { typed_of mixed (between (col "a") (col "f") (col "a") (ends Strict Strict)) ≡ Err type_mismatch }
+    ensures other_upper { typed_of mixed (between (col "a") (col "a") (col "f") (ends Strict Strict)) ≡ Err type_mismatch }
+    ensures lists { typed_of mixed (between (col "l") (col "l") (col "l") (ends Strict Strict)) ≡ Err type_mismatch }
 {}
 
 /// A cast asks two integers, two booleans or two texts.
@@ -160,4 +160,23 @@ pub fn types_slots()
     ensures nullable_operand { typed_of mixed (dynamic (col "b") Above 0 (int_ty I32 NonNullable) true) ≡ Ok (bool_ty Nullable) }
     ensures other { typed_of mixed (dynamic (col "a") Above 0 (text_ty NonNullable) true) ≡ Err type_mismatch }
     ensures lists { typed_of mixed (dynamic (col "l") Above 0 (list_ty (int_ty I32 Nullable) Nullable) true) ≡ Err type_mismatch }
+{}
+
+/// Integers of two types are never equal types: in ranges, lists and slots.
+pub fn asks_one_integer_type()
+    ensures lower { typed_of mixed (between (number I32 (pos 1)) (number I64 (pos 1)) (number I32 (pos 1)) (ends Strict Strict)) ≡ Err type_mismatch }
+    ensures upper { typed_of mixed (between (number I32 (pos 1)) (number I32 (pos 1)) (number I64 (pos 1)) (ends Strict Strict)) ≡ Err type_mismatch }
+    ensures list { typed_of mixed (list_contains (number_list I32 (pos 1 ∷ [])) (number I64 (pos 1))) ≡ Err type_mismatch }
+    ensures slot { typed_of mixed (dynamic (number I32 (pos 1)) Above 0 (int_ty I64 NonNullable) true) ≡ Err type_mismatch }
+{}
+
+/// LIKE asks texts, also where its two operands have one type.
+pub fn asks_texts()
+    ensures numbers { typed_of mixed (like (number I32 (pos 1)) (number I32 (pos 1)) false false) ≡ Err type_mismatch }
+    ensures booleans { typed_of mixed (like (col "f") (col "f") false false) ≡ Err type_mismatch }
+{}
+
+/// A field of a merge is nullable where it is itself, though its struct is not.
+pub fn merges_nullable_fields()
+    ensures { typed_of mixed (merge (tree (pack (codes "b" ∷ []) (tree (col "b") no_trees) NonNullable) no_trees) NonNullable) ≡ Ok (struct_ty (only "b" (int_ty I32 Nullable)) NonNullable) }
 {}
