@@ -1,6 +1,6 @@
 -- Paths in types and values, and what is asked along them.
 use Rattle.std.proofs.Common.{◌≡◌, refl, ap, sym, ◌∙◌, Bool, true, false, cond, ◌||◌, Option, Some, None, subst, List, [], ◌∷◌, ◌++◌}
-use Rattle.std.specs.Prelude.{unwrap_or}
+use Rattle.std.specs.Prelude.{unwrap_or, option_map}
 use Rattle.std.specs.Str.{bytes_eq}
 use Rattle.std.specs.List.{list_any, flat_map, AllByRecursion}
 use Rattle.std.proofs.lemmas.Bool.{or_parts, or_from}
@@ -10,10 +10,12 @@ use Rattle.vx_dtype.specs.TypeRules.{widened, is_plain, fields_of, field_names, 
 use Rattle.vx_dtype.specs.Values.{Val, null_val, struct_val, fault, Members, no_members, member}
 use Rattle.vx_dtype.specs.Fits.{fits_but_for_faults, members_fit_but_for_faults, holds_fault, member_holds_fault}
 use Rattle.vx_dtype.specs.Structs.{member_named, field_of, members_at}
-use Rattle.vx_semantics.specs.Meaning.{Slots}
+use Rattle.vx_expr.specs.Trees.{Tree, root, get_item}
+use Rattle.vx_semantics.specs.Meaning.{Slots, mean}
 use Rattle.vx_semantics.specs.Asked.{Asking, asks_node, asks_column, each_asked, node_in}
-use Rattle.vx_semantics.specs.Paths.{path_value}
+use Rattle.vx_semantics.specs.Paths.{path_of, path_value}
 use Rattle.vx_laws.specs.Faults.{breaks}
+use Rattle.vx_laws.specs.Values.{AccessesMeanTheirPath}
 use Rattle.vx_laws.proofs.Structs.{member-fits, no-member-fits, no-field-fits, field_of-fits, IsStructOf, has_field}
 use Rattle.vx_laws.proofs.Preserving.{FitsButFaults}
 use Rattle.vx_laws.proofs.Sound.{IsNoFault, HoldsNoFault, plain-HoldsNoFault}
@@ -159,3 +161,25 @@ each-path P Q fs [] s h k = tt
 each-path P Q fs (f ∷ names) s h k =
     let found = has_field f fs h.0 in
     (s f (path_in-first f [] fs found.own found.found refl) k.0, each-path P Q fs names s h.1 k.1)
+
+-- the path of a field of an expression is the expression's, with the field behind it
+pub begun : (o : Option (List Bytes)) (f : Bytes) (path : List Bytes) → option_map (λ names. names ++ f ∷ []) o ≡ Some path → (before : List Bytes) × (o ≡ Some before) × (before ++ f ∷ [] ≡ path)
+begun None f path h = let no : ⊥ = cc in absurd no
+begun (Some before) f path h = (before, refl, cc)
+
+-- the value of a path with one more name behind
+path_value-behind : (fs : List Bytes) (f : Bytes) (v : Val) → path_value (fs ++ f ∷ []) v ≡ field_of f (path_value fs v)
+path_value-behind [] f v = refl
+path_value-behind (g ∷ fs) f v = path_value-behind fs f (field_of g v)
+
+-- a chain of field accesses means the value of its path
+pub path_of-means : (t : Ty) (slots : Slots) (row : Val) (e : Tree) (path : List Bytes) → path_of e ≡ Some path → mean t slots row e ≡ path_value path row
+unfolding mean
+path_of-means t slots row root path h = let same : [] ≡ path = cc in ap (λ (p : List Bytes). path_value p row) same
+path_of-means t slots row (get_item f d) path h =
+    let b = begun (path_of d) f path h in
+    ap (field_of f) (path_of-means t slots row d b.0 b.1) ∙ (sym (path_value-behind b.0 f row) ∙ ap (λ (p : List Bytes). path_value p row) b.2)
+path_of-means t slots row _ path h = let no : ⊥ = cc in absurd no
+
+pub accesses_mean_their_path : AccessesMeanTheirPath
+accesses_mean_their_path t slots row e path h = path_of-means t slots row e path h

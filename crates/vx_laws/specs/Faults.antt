@@ -23,4 +23,5 @@ some_asked_breaks t slots row e = list_any (breaks t slots row) (asked_nodes t e
 abbrev pub NoBreakNoFault : Type 0
 NoBreakNoFault =
     (t : Ty) (slots : Slots) (row : Val) (e : Tree) (u : Ty)
-    → val_fits row t ≡ true → slots_fit slots e ≡ true → typed_of t e ≡ Ok u → some_asked_breaks t slots row e ≡ false → holds_fault (mean t slots row e) ≡ false
+    → val_fits row t ≡ true → slots_fit slots e ≡ true → typed_of t e ≡ Ok u → some_asked_breaks t slots row e ≡ false
+    → holds_fault (mean t slots row e) ≡ false

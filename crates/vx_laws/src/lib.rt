@@ -11,4 +11,4 @@ pub use operators::{
     negations_exchange_and_with_or, or_is_associative, or_is_commutative,
     range_means_its_comparisons, swap_keeps_meaning, typed_swap_keeps_meaning,
 };
-pub use values::{faults_are_plain, meaning_fits_the_type};
+pub use values::{accesses_mean_their_path, faults_are_plain, meaning_fits_the_type};

@@ -36,7 +36,8 @@ pub fn swap_keeps_meaning()
     ensures { SwapKeepsMeaning }
 {}
 
-/// A strictly typed `l op r` means `r op.swap() l` for every operator but a difference, at a row that fits the scope's type but for faults, with slots that fit.
+/// A strictly typed `l op r` means `r op.swap() l` for every operator but a difference,
+/// at a row that fits the scope's type but for faults, with slots that fit.
 pub fn typed_swap_keeps_meaning()
     ensures { TypedSwapKeepsMeaning }
 {}

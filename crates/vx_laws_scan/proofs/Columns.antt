@@ -62,7 +62,7 @@ alike-asked columns slots e a b h =
 
 whole : (columns : Fields) (slots : Slots) (e : Tree) (u : Ty) (a b : Val) → AreAlike columns slots e u a b
     → Outcome columns slots a b (asked (row_type columns) e []) [] (mean (row_type columns) slots a e) (mean (row_type columns) slots b e)
-whole columns slots e u a b h = mean-agreeing columns slots a b e u h.first_fits h.second_fits h.fitting h.typed [] refl (alike-asked columns slots e a b h.agree)
+whole columns slots e u a b h = mean-agreeing columns slots a b e u h.first_fits h.second_fits h.is_typed.fitting h.is_typed.typed [] refl (alike-asked columns slots e a b h.agree)
 
 pub agreeing_rows_mean : AgreeingRowsMeanTheSame
 agreeing_rows_mean columns slots e u a b h = (whole columns slots e u a b h).value
@@ -91,7 +91,7 @@ same-meanings columns slots e u (a ∷ rows) (b ∷ others) t h k z =
     let x = and_parts (val_fits a (row_type columns)) (list_all (λ row. val_fits row (row_type columns)) rows) h in
     let y = and_parts (val_fits b (row_type columns)) (list_all (λ row. val_fits row (row_type columns)) others) k in (
       agreeing_rows_mean columns slots e u a b
-          (record { typed = t.typed; fitting = t.fitting; first_fits = fits-but_for_faults a (row_type columns) x.0; second_fits = fits-but_for_faults b (row_type columns) y.0; agree = z.0 }),
+          (record { is_typed = t; first_fits = fits-but_for_faults a (row_type columns) x.0; second_fits = fits-but_for_faults b (row_type columns) y.0; agree = z.0 }),
       same-meanings columns slots e u rows others t x.1 y.1 z.1,
     )
 

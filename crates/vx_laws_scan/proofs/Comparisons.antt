@@ -26,6 +26,7 @@ use Rattle.vx_laws.proofs.Comparing.{same_ptype-same, binary3-operator_of, not3-
 use Rattle.vx_laws.proofs.Fitting.{same_ptype-itself, valued-fits}
 use Rattle.vx_laws.proofs.Preserving.{one_test}
 use Rattle.vx_laws.proofs.Sound.{kind_of, alike-kind, is_broken}
+use Rattle.vx_laws_scan.specs.Pruned.{RangeRulesOutAsItsComparisons}
 use Rattle.vx_laws_scan.specs.Exactness.{is_operand, is_plain_filter, PathsAreBounded}
 use Rattle.vx_laws_scan.proofs.Ordered.{stands-compares, IsAtMost, IsBelow-from_gt, IsAtMost-from_below, IsAtMost-itself, ordered-left, ordered-right}
 use Rattle.vx_laws_scan.proofs.Bounds.{IsWithin, ruled_out_apart}
@@ -300,6 +301,11 @@ range-rules_out_negation zones slots block e lower upper options =
     let hi = bound_operator options.upper_strict in
     sym (ap (λ (b : Bool). b && rules_out_negation zones slots block (binary e (operator_of hi) upper)) (rules_out_negation-comparison zones slots block lower e lo)
     ∙ ap (λ (b : Bool). comparison_ruled_out (inverse_comparison lo) (λ s. known_bound zones block s lower) (λ s. known_bound zones block s e) && b) (rules_out_negation-comparison zones slots block e upper hi))
+
+pub range_rules_out : RangeRulesOutAsItsComparisons
+unfolding rules_out
+range_rules_out zones slots block e lower upper options =
+    (range-rules_out zones slots block e lower upper options, range-rules_out_negation zones slots block e lower upper options)
 
 pub range-plain : (zones : Zones) (slots : Slots) (block : ℕ) (row : Val) (e lower upper : Tree) (options : BetweenOptions) → IsPlainExact zones slots block row (range_as_binary e lower upper options)
     → IsPlainExact zones slots block row (between e lower upper options)

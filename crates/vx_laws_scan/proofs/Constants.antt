@@ -34,7 +34,8 @@ use Rattle.vx_laws.proofs.Fitting.{valued-fits}
 use Rattle.vx_laws.proofs.Preserving.{literal_type-ok}
 use Rattle.vx_laws.proofs.Sound.{kind_of}
 use Rattle.vx_laws_scan.specs.Exactness.{is_operand, IsBounded, PathsAreBounded}
-use Rattle.vx_laws_scan.proofs.HonestRows.{begun}
+use Rattle.vx_laws.proofs.Paths.{begun}
+use Rattle.vx_laws_scan.proofs.HonestRows.{}
 use Rattle.vx_laws_scan.proofs.Ordered.{compares-stands, compares-order, stands-compares, IsAtMost, IsAtMost-itself, is_ordered, ordered-left, ordered-right}
 use Rattle.vx_laws_scan.proofs.Bounds.{IsWithin, itself-within}
 

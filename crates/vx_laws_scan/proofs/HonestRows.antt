@@ -1,5 +1,5 @@
 -- What honest statistics say of each row of a block.
-use Rattle.std.proofs.Common.{◌≡◌, ℕ, zero, suc, refl, ap, sym, Bool, true, false, cond, ◌||◌, Option, Some, None, subst, List, [], ◌∷◌, arith, option_map, ◌++◌, ◌∙◌}
+use Rattle.std.proofs.Common.{◌≡◌, ℕ, zero, suc, refl, ap, sym, Bool, true, false, cond, ◌||◌, Option, Some, None, subst, List, [], ◌∷◌, arith}
 use Rattle.std.specs.declared.cmp.Ordering.{Ordering}
 use Rattle.std.specs.declared.cmp.Ordering.TheVariants.{Less, Equal, Greater}
 use Rattle.std.specs.Prelude.{◌<ℤ◌, pos, nat_eq, length, slice_get}
@@ -15,16 +15,16 @@ use Rattle.vx_dtype.specs.declared.Stat.{Stat}
 use Rattle.vx_dtype.specs.declared.Stat.TheVariants.{Min, Max, NaNCount, NullCount}
 use Rattle.vx_dtype.specs.Types.{Bytes, Ty}
 use Rattle.vx_dtype.specs.Values.{Val, null_val, bool_val, int_val, text_val, list_val, struct_val, fault, Typed, value_of}
-use Rattle.vx_expr.specs.Trees.{Tree, root, literal, get_item}
+use Rattle.vx_expr.specs.Trees.{Tree, literal}
 use Rattle.vx_semantics.specs.Meaning.{Slots, mean}
 use Rattle.vx_dtype.specs.Equal.{names_eq}
 use Rattle.vx_dtype.specs.EqualLaws.{names_decides}
 use Rattle.vx_semantics.specs.Tables.{Table, ZoneStat, Zones, same_stat, joined_name}
-use Rattle.vx_dtype.specs.Structs.{field_of}
 use Rattle.vx_semantics.specs.Honest.{null_rows, honest_value, honest_values, IsHonest}
 use Rattle.vx_semantics.specs.Paths.{path_value, path_of}
 use Rattle.vx_dtype.specs.Logic.{is_null_val}
 use Rattle.vx_semantics.specs.Pruning.{is_joined, is_statistic, available, known, value_in, known_in, known_at, known_bound}
+use Rattle.vx_laws.proofs.Paths.{path_of-means}
 use Rattle.vx_laws_scan.proofs.Ordered.{compares-stands, IsAtMost, IsAtMost-trans, IsAtMost-from_gte, IsAtMost-from_eq, is_ordered}
 use Rattle.vx_laws_scan.proofs.Bounds.{IsWithin, itself-within}
 
@@ -220,24 +220,6 @@ rows-honest zones table block rows h e =
     always (λ row. (a : Fact zones block) → HonestAt a.stat a.path a.value row) (RowHonest zones block) rows
     (λ row all. record { at = λ stat path v k. all (record { stat = stat; path = path; value = v; is = k }) })
     (each_row (λ (a : Fact zones block) row. HonestAt a.stat a.path a.value row) rows (λ a. known_at-honest zones table block rows h e a.stat a.path a.value a.is))
-
--- the path of a field of an expression is the expression's, with the field behind it
-pub begun : (o : Option (List Bytes)) (f : Bytes) (path : List Bytes) → option_map (λ names. names ++ f ∷ []) o ≡ Some path → (before : List Bytes) × (o ≡ Some before) × (before ++ f ∷ [] ≡ path)
-begun None f path h = let no : ⊥ = cc in absurd no
-begun (Some before) f path h = (before, refl, cc)
-
--- a chain of field accesses means the value of its path
-path_value-behind : (fs : List Bytes) (f : Bytes) (v : Val) → path_value (fs ++ f ∷ []) v ≡ field_of f (path_value fs v)
-path_value-behind [] f v = refl
-path_value-behind (g ∷ fs) f v = path_value-behind fs f (field_of g v)
-
-pub path_of-means : (t : Ty) (slots : Slots) (row : Val) (e : Tree) (path : List Bytes) → path_of e ≡ Some path → mean t slots row e ≡ path_value path row
-unfolding mean
-path_of-means t slots row root path h = let same : [] ≡ path = cc in ap (λ (p : List Bytes). path_value p row) same
-path_of-means t slots row (get_item f d) path h =
-    let b = begun (path_of d) f path h in
-    ap (field_of f) (path_of-means t slots row d b.0 b.1) ∙ (sym (path_value-behind b.0 f row) ∙ ap (λ (p : List Bytes). path_value p row) b.2)
-path_of-means t slots row _ path h = let no : ⊥ = cc in absurd no
 
 -- what an operand means at a row lies within its known bounds
 path-within : (zones : Zones) (block : ℕ) (row : Val) (v : Val) (o : Option (List Bytes)) → RowHonest zones block row → ((path : List Bytes) → o ≡ Some path → v ≡ path_value path row)

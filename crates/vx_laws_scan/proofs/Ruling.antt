@@ -26,7 +26,8 @@ use Rattle.vx_laws.proofs.Kleene.{tri-truth}
 use Rattle.vx_laws.proofs.Comparing.{not3-compare3}
 use Rattle.vx_laws_scan.specs.Pruned.{RuledOutIsNeverTrue}
 use Rattle.vx_laws_scan.proofs.Bounds.{IsWithin, itself-within, ruled_out_apart, outside-apart}
-use Rattle.vx_laws_scan.proofs.HonestRows.{RowHonest, rows-honest, path_of-means, operand-within}
+use Rattle.vx_laws.proofs.Paths.{path_of-means}
+use Rattle.vx_laws_scan.proofs.HonestRows.{RowHonest, rows-honest, operand-within}
 
 -- a value is true
 abbrev pub Holds : Val → Type 0

@@ -20,17 +20,23 @@ use Rattle.vx_semantics.specs.Slots.{slots_fit}
 abbrev pub AgreeOn : List Bytes → Val → Val → Type 0
 AgreeOn columns a b = All (λ c. field_of c a ≡ field_of c b) columns
 
--- an expression that is strictly typed over the rows of these columns, whose slots fit, and two rows of that type, but perhaps for faults in place of plain values
-pub record AreAlike (columns : Fields) (slots : Slots) (e : Tree) (u : Ty) (a b : Val) : Type 0 where
+-- an expression that is strictly typed over the rows of these columns, whose slots fit
+pub record IsTyped (columns : Fields) (slots : Slots) (e : Tree) (u : Ty) : Type 0 where
   pub typed : typed_of (row_type columns) e ≡ Ok u
   pub fitting : slots_fit slots e ≡ true
+
+-- such an expression and two rows of that type, but perhaps for faults in place of plain values, that agree on its asked columns
+pub record AreAlike (columns : Fields) (slots : Slots) (e : Tree) (u : Ty) (a b : Val) : Type 0 where
+  pub is_typed : IsTyped columns slots e u
   pub first_fits : fits_but_for_faults a (row_type columns) ≡ true
   pub second_fits : fits_but_for_faults b (row_type columns) ≡ true
   pub agree : AgreeOn (asked_columns (row_type columns) e) a b
 
 -- rows that agree on the asked columns mean the same, faults included
 abbrev pub AgreeingRowsMeanTheSame : Type 0
-AgreeingRowsMeanTheSame = (columns : Fields) (slots : Slots) (e : Tree) (u : Ty) (a b : Val) → AreAlike columns slots e u a b → mean (row_type columns) slots a e ≡ mean (row_type columns) slots b e
+AgreeingRowsMeanTheSame =
+    (columns : Fields) (slots : Slots) (e : Tree) (u : Ty) (a b : Val) → AreAlike columns slots e u a b
+    → mean (row_type columns) slots a e ≡ mean (row_type columns) slots b e
 
 -- at them the same asked nodes break, by the same cause
 abbrev pub AgreeingRowsBreakTheSame : Type 0
@@ -44,11 +50,6 @@ BlocksAgree zones slots filter_expr columns n [] [] = Unit {0}
 BlocksAgree zones slots filter_expr columns n (rows ∷ blocks) (others ∷ more) =
     (rules_out zones slots n filter_expr ≡ false → AllZip (AgreeOn columns) rows others) × BlocksAgree zones slots filter_expr columns (suc n) blocks more
 BlocksAgree zones slots filter_expr columns n _ _ = ⊥
-
--- an expression that is strictly typed over the rows of these columns, whose slots fit
-pub record IsTyped (columns : Fields) (slots : Slots) (e : Tree) (u : Ty) : Type 0 where
-  pub typed : typed_of (row_type columns) e ≡ Ok u
-  pub fitting : slots_fit slots e ≡ true
 
 -- each row of each block is a value of the type
 abbrev pub all_rows_fit : Ty → List (List Val) → Bool
@@ -73,7 +74,8 @@ table_of columns blocks = record { columns = columns; blocks = blocks }
 abbrev pub AgreeingTablesHaveTheSameRows : Type 0
 AgreeingTablesHaveTheSameRows =
     (zones : Zones) (columns : Fields) (slots : Slots) (filter_expr projection : Tree) (blocks others : List (List Val))
-    → TablesAgree zones columns slots filter_expr projection blocks others → IsHonest zones (table_of columns blocks) → IsHonest zones (table_of columns others)
+    → TablesAgree zones columns slots filter_expr projection blocks others
+    → IsHonest zones (table_of columns blocks) → IsHonest zones (table_of columns others)
     → rows_of (table_of columns blocks) slots filter_expr projection ≡ rows_of (table_of columns others) slots filter_expr projection
 
 -- such tables have the same reads, honest or not

@@ -71,7 +71,8 @@ PathsAreBounded zones block root = IsBounded zones block root
 PathsAreBounded zones block (get_item f e) = IsBounded zones block (get_item f e)
 PathsAreBounded zones block (binary l op r) = PathsAreBounded zones block l × PathsAreBounded zones block r
 PathsAreBounded zones block (not_of e) = PathsAreBounded zones block e
-PathsAreBounded zones block (between e lower upper options) = PathsAreBounded zones block e × PathsAreBounded zones block lower × PathsAreBounded zones block upper
+PathsAreBounded zones block (between e lower upper options) =
+    PathsAreBounded zones block e × PathsAreBounded zones block lower × PathsAreBounded zones block upper
 PathsAreBounded zones block (list_contains l e) = PathsAreBounded zones block e
 PathsAreBounded zones block _ = Unit {0}
 

@@ -4,7 +4,9 @@ use Rattle.std.specs.List.{All}
 use Rattle.vx_dtype.specs.Types.{Ty}
 use Rattle.vx_dtype.specs.Values.{Val}
 use Rattle.vx_dtype.specs.Logic.{is_true_val}
-use Rattle.vx_expr.specs.Trees.{Tree}
+use Rattle.vx_dtype.specs.declared.BetweenOptions.{BetweenOptions}
+use Rattle.vx_expr.specs.Trees.{Tree, between, not_of}
+use Rattle.vx_expr.specs.Operators.{range_as_binary}
 use Rattle.vx_semantics.specs.Meaning.{Slots, mean}
 use Rattle.vx_semantics.specs.Tables.{Table, Zones}
 use Rattle.vx_semantics.specs.Honest.{IsHonest}
@@ -29,3 +31,10 @@ abbrev pub KeptNumbersAreKeptBlocks : Type 0
 KeptNumbersAreKeptBlocks =
     (zones : Zones) (table : Table) (slots : Slots) (filter_expr : Tree)
     → length table.blocks ≡ length zones.lengths → map (λ b. b.0) (kept_of table zones slots filter_expr) ≡ kept_blocks zones slots filter_expr
+
+-- a range rules out what its two comparisons joined by `and` rule out, and so do the negations of both
+abbrev pub RangeRulesOutAsItsComparisons : Type 0
+RangeRulesOutAsItsComparisons =
+    (zones : Zones) (slots : Slots) (block : ℕ) (e lower upper : Tree) (options : BetweenOptions)
+    → (rules_out zones slots block (between e lower upper options) ≡ rules_out zones slots block (range_as_binary e lower upper options))
+    × (rules_out zones slots block (not_of (between e lower upper options)) ≡ rules_out zones slots block (not_of (range_as_binary e lower upper options)))

@@ -11,11 +11,13 @@ use Rattle.vx_laws_scan.specs.Agreeing.{IsTyped, all_rows_fit}
 
 -- whether some phase of a scan breaks
 abbrev pub some_phase_breaks : Table → Zones → Slots → Tree → Tree → Bool
-some_phase_breaks table zones slots filter_expr projection = list_any (phase_breaks (row_type table.columns) slots) (phases_of table zones slots filter_expr projection)
+some_phase_breaks table zones slots filter_expr projection =
+    list_any (phase_breaks (row_type table.columns) slots) (phases_of table zones slots filter_expr projection)
 
 -- where no phase breaks, no row of the kept blocks' answer holds a fault
 abbrev pub QuietRowsHoldNoFault : Type 0
 QuietRowsHoldNoFault =
     (table : Table) (zones : Zones) (slots : Slots) (filter_expr projection : Tree) (u : Ty)
-    → IsTyped table.columns slots projection u → all_rows_fit (row_type table.columns) table.blocks ≡ true → some_phase_breaks table zones slots filter_expr projection ≡ false
+    → IsTyped table.columns slots projection u → all_rows_fit (row_type table.columns) table.blocks ≡ true
+    → some_phase_breaks table zones slots filter_expr projection ≡ false
     → list_any holds_fault (kept_rows_of table zones slots filter_expr projection) ≡ false

@@ -1,6 +1,7 @@
 // The laws of rows and tables that agree on the asked columns.
 
-ghost use Rattle.vx_laws_scan.specs.Agreeing.{AgreeingRowsBreakTheSame, AgreeingRowsMeanTheSame, AgreeingTablesHaveTheSameReads, AgreeingTablesHaveTheSameRows};
+ghost use Rattle.vx_laws_scan.specs.Agreeing.{AgreeingRowsBreakTheSame, AgreeingRowsMeanTheSame};
+ghost use Rattle.vx_laws_scan.specs.Agreeing.{AgreeingTablesHaveTheSameReads, AgreeingTablesHaveTheSameRows};
 
 /// Two rows of the table's type that agree on an expression's asked columns mean the same, faults included.
 pub fn agreeing_rows_mean_the_same()

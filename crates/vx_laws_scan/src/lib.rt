@@ -11,5 +11,8 @@ pub use agreement::{
     agreeing_tables_have_the_same_rows,
 };
 pub use exact::pruning_is_exact;
-pub use pruning::{kept_numbers_are_kept_blocks, kept_rows_are_all, ruled_out_is_never_true};
+pub use pruning::{
+    kept_numbers_are_kept_blocks, kept_rows_are_all, range_rules_out_as_its_comparisons,
+    ruled_out_is_never_true,
+};
 pub use quiet::quiet_rows_hold_no_fault;

@@ -114,7 +114,7 @@ abbrev pub bound_available : Zones → Tree → Stat → Bool
 bound_available zones (literal s) stat = true
 bound_available zones e stat = available_at zones (path_of e) stat
 
--- membership in a constant list that is not null: it has no elements, or the value has both bounds available and each element lies outside those that are known
+-- membership in a constant list that is not null: it has no elements, or the value has both bounds available and each element lies outside the known ones
 abbrev pub elements_ruled_out : Val → Bool → Option Val → Option Val → Bool
 elements_ruled_out (list_val no_vals) bounded least_known greatest_known = true
 elements_ruled_out (list_val vs) bounded least_known greatest_known = bounded && all_outside vs least_known greatest_known
@@ -122,7 +122,8 @@ elements_ruled_out _ bounded least_known greatest_known = false
 
 abbrev pub contains_ruled_out : Zones → ℕ → Tree → Tree → Bool
 contains_ruled_out zones block (literal s) e =
-    elements_ruled_out (value_of s) (bound_available zones e Min && bound_available zones e Max) (known_bound zones block Min e) (known_bound zones block Max e)
+    elements_ruled_out (value_of s) (bound_available zones e Min && bound_available zones e Max)
+    (known_bound zones block Min e) (known_bound zones block Max e)
 contains_ruled_out zones block _ e = false
 
 -- a comparison with a slot: by its value where it has one, else by its default
