@@ -1,8 +1,8 @@
 -- What the status of a run tells.
 use Rattle.std.proofs.Common.{◌≡◌, ◌∙◌, sym, ap, refl, subst, ℕ, ◌+◌, ◌≤◌, Bool, true, false, cond, nat_le, length, Option, Some, None, is_some, arith, true≢false}
 use Rattle.vx_expr.specs.Trees.{Tree}
-use Rattle.vx_wire_text.specs.Nodes.{Node}
-use Rattle.vx_wire_text.specs.Nodes as nodes
+use Rattle.vx_wire_text.specs.Wires.{Wire}
+use Rattle.vx_wire_text.specs.Wires as wires
 use Rattle.vx_wire.specs.Building.{IsBuilt}
 use Rattle.vx_wire.specs.Encodings.{is_default_kind}
 use Rattle.vx_wire.specs.declared.ExprEncoding.{ExprEncoding}
@@ -135,10 +135,10 @@ completed i i' o o' used status tells run still quiet memory = by run.outcome ru
 
 -- a wire text spells one tree at most, and a wire tree builds one expression at most
 abbrev pub SpellsOnce : Type 0
-SpellsOnce = (bytes : Bytes) (a b : Node) → nodes.Spells bytes a → nodes.Spells bytes b → a ≡ b
+SpellsOnce = (bytes : Bytes) (a b : Wire) → wires.Spells bytes a → wires.Spells bytes b → a ≡ b
 
 abbrev pub BuildsOnce : Type 0
-BuildsOnce = (holds : ExprEncoding → Bool) (wire : Node) (a b : Tree) → IsBuilt holds wire a → IsBuilt holds wire b → a ≡ b
+BuildsOnce = (holds : ExprEncoding → Bool) (wire : Wire) (a b : Tree) → IsBuilt holds wire a → IsBuilt holds wire b → a ≡ b
 
 -- so bytes spell one expression at most
 spelled_once : SpellsOnce → BuildsOnce → (holds : ExprEncoding → Bool) (bytes : Bytes) (a b : Tree) → SpellsTree holds bytes a → SpellsTree holds bytes b → a ≡ b

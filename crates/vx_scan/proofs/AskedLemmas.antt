@@ -8,7 +8,7 @@ use Rattle.vx_dtype.specs.Types.{Bytes, Ty, Fields}
 use Rattle.vx_expr.specs.Operators.{operator_of, comparison_of}
 use Rattle.vx_expr.specs.Trees.{Tree}
 use Rattle.vx_semantics.specs.Tables.{Zones}
-use Rattle.vx_wire_text.specs.Nodes.{Node}
+use Rattle.vx_wire_text.specs.Wires.{Wire}
 use Rattle.vx_wire_text.specs.ReadAnswers.{IsRead, IsRefused}
 use Rattle.vx_wire_text.specs.declared.WireError.{WireError}
 use Rattle.vx_wire_text.specs.declared.WireError.TheVariants as wire_errors
@@ -23,7 +23,7 @@ use Rattle.vx_scan.specs.FirstForm.{i64_ty, are_plain_zones, is_column, is_compa
 use Rattle.vx_scan.specs.Planning.{IsOver, BuildsOne, SpellsOne, IsPlanOf, Asks}
 
 -- bytes are read as one tree, and spell one expression
-one_read : (bytes : Bytes) (a b : Node) → IsRead bytes a → IsRead bytes b → a ≡ b
+one_read : (bytes : Bytes) (a b : Wire) → IsRead bytes a → IsRead bytes b → a ≡ b
 one_read bytes a b p q = (one_node a b [] [] p.spelled.spellable q.spelled.spellable (ap (λ (x : Bytes). x ++ []) (sym p.spelled.spelled ∙ q.spelled.spelled))).0
 
 pub one_spelled : (holds : ExprEncoding → Bool) (bytes : Bytes) (a b : Tree) → SpellsTree holds bytes a → SpellsTree holds bytes b → a ≡ b
@@ -32,7 +32,7 @@ one_spelled holds bytes a b p q =
     one_built holds q.0 a b (subst (λ w. IsBuilt holds w a) same p.2) q.2
 
 -- what is read and builds nothing, and what isn't read, spells nothing
-pub read_gives : (holds : ExprEncoding → Bool) (bytes : Bytes) (wire : Node) (found : Option Tree) → IsRead bytes wire → BuildsOne holds wire found → SpellsOne holds bytes found
+pub read_gives : (holds : ExprEncoding → Bool) (bytes : Bytes) (wire : Wire) (found : Option Tree) → IsRead bytes wire → BuildsOne holds wire found → SpellsOne holds bytes found
 read_gives holds bytes wire (Some e) r b = (wire, r, b)
 read_gives holds bytes wire None r b = λ e s. b e (subst (λ w. IsBuilt holds w e) (one_read bytes s.0 wire s.1 r) s.2)
 
@@ -44,7 +44,7 @@ unread holds bytes wire_errors.TooManyNodes n h e s = s.1.not_many h
 unread holds bytes wire_errors.TooLong n h e s = h
 unread holds bytes wire_errors.NotSerializable n h e s = h
 
-pub unbuilt : (holds : ExprEncoding → Bool) (wire : Node) (why : BuildError) → why ≢ build_errors.NoMemory → IsUnbuilt holds wire why → (e : Tree) → ¬ (IsBuilt holds wire e)
+pub unbuilt : (holds : ExprEncoding → Bool) (wire : Wire) (why : BuildError) → why ≢ build_errors.NoMemory → IsUnbuilt holds wire why → (e : Tree) → ¬ (IsBuilt holds wire e)
 unbuilt holds wire why n h e b = never_both holds wire e why b n h
 
 -- a plan's filter compares a column with a constant
@@ -89,7 +89,7 @@ pub unasked_projection : (holds : ExprEncoding → Bool) (zones : Zones) (filter
 unasked_projection holds zones filter projection h = λ f p a. h p a.projection_spelled
 
 -- the same of an answer that may lack memory
-pub expression_read : (holds : ExprEncoding → Bool) (bytes : Bytes) (wire : Node) (answer : Result (Option Tree) NoMemory) → IsRead bytes wire → IfOk answer (λ found. BuildsOne holds wire found) → IfOk answer (λ found. SpellsOne holds bytes found)
+pub expression_read : (holds : ExprEncoding → Bool) (bytes : Bytes) (wire : Wire) (answer : Result (Option Tree) NoMemory) → IsRead bytes wire → IfOk answer (λ found. BuildsOne holds wire found) → IfOk answer (λ found. SpellsOne holds bytes found)
 expression_read holds bytes wire (Ok found) r b = read_gives holds bytes wire found r b
 expression_read holds bytes wire (Err e) r b = tt
 

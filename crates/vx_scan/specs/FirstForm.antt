@@ -11,7 +11,7 @@ use Rattle.vx_dtype.specs.Equal.{ty_eq}
 use Rattle.vx_expr.specs.Operators.{comparison_of}
 use Rattle.vx_expr.specs.Trees.{Tree, root, literal, get_item, binary}
 use Rattle.vx_semantics.specs.Tables.{ZoneStat, Zones, same_stat}
-use Rattle.vx_wire_text.specs.Nodes.{Node}
+use Rattle.vx_wire_text.specs.Wires.{Wire}
 use Rattle.vx_wire_text.specs.ReadAnswers.{IsRead}
 use Rattle.vx_wire.specs.Building.{IsBuilt}
 use Rattle.vx_wire.specs.declared.ExprEncoding.{ExprEncoding}
@@ -50,7 +50,7 @@ is_comparison names _ = false
 
 -- bytes that spell an expression of which each kind is held
 abbrev pub SpellsTree : (ExprEncoding → Bool) → Bytes → Tree → Type 0
-SpellsTree holds bytes e = (wire : Node) × IsRead bytes wire × IsBuilt holds wire e
+SpellsTree holds bytes e = (wire : Wire) × IsRead bytes wire × IsBuilt holds wire e
 
 -- two byte texts that spell the filter and the projection of such a scan
 pub record IsAsked (holds : ExprEncoding → Bool) (zones : Zones) (filter projection : Bytes) (f p : Tree) : Type 0 where

@@ -6,7 +6,7 @@ use Rattle.vx_dtype.specs.Values.{Typed}
 use Rattle.vx_expr.specs.Operators.{operator_of}
 use Rattle.vx_expr.specs.Trees.{Tree, root, literal, get_item, binary}
 use Rattle.vx_semantics.specs.Tables.{Zones}
-use Rattle.vx_wire_text.specs.Nodes.{Node}
+use Rattle.vx_wire_text.specs.Wires.{Wire}
 use Rattle.vx_wire.specs.Building.{IsBuilt}
 use Rattle.vx_wire.specs.declared.ExprEncoding.{ExprEncoding}
 use Rattle.vx_scan.specs.declared.plans.Plan.{Plan}
@@ -31,7 +31,7 @@ pub record IsPlan (zones : Zones) (plan : Plan) : Type 0 where
   pub over : IsOver (field_names zones.columns) plan
 
 -- the expression that a wire tree builds, none where it builds none
-abbrev pub BuildsOne : (ExprEncoding → Bool) → Node → Option Tree → Type 0
+abbrev pub BuildsOne : (ExprEncoding → Bool) → Wire → Option Tree → Type 0
 BuildsOne holds wire (Some e) = IsBuilt holds wire e
 BuildsOne holds wire None = (e : Tree) → ¬ (IsBuilt holds wire e)
 

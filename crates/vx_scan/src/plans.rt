@@ -6,7 +6,7 @@ ghost use Rattle.vx_dtype.specs.StructTypes.{field_types};
 ghost use Rattle.vx_dtype.specs.TypeRules.{field_names, has_name};
 ghost use Rattle.vx_dtype.specs.TypeViews.{type_view};
 ghost use Rattle.vx_prune.specs.ZoneViews.{stat_view};
-ghost use Rattle.vx_wire_text.specs.NodeViews.{tree_view};
+ghost use Rattle.vx_wire_text.specs.WireViews.{tree_view};
 ghost use Rattle.vx_wire.specs.Registries.{registered};
 ghost use Rattle.vx_scan.specs.FirstForm.{i64_ty, is_i64, is_column_bound, are_plain_zones};
 ghost use Rattle.vx_scan.specs.Planning.{BuildsOne, SpellsOne, IsColumnOf, IsConstantOf, IsPlanOf, Asks};

@@ -20,12 +20,13 @@ use Rattle.vx_expr.specs.Codes.{operator_at, operator_at-number}
 use Rattle.vx_expr.specs.Trees.{Tree, root, literal, get_item, binary, not_of, is_null_of, like, between, cast, list_contains, pack, merge, select, dynamic, Trees, trees_of, listed, children_of}
 use Rattle.vx_expr.specs.Children.{id_of}
 use Rattle.vx_expr.proofs.TreeLemmas.{trees_of_listed}
-use Rattle.vx_wire_text.specs.Nodes.{Node, node, Nodes, no_nodes, first, number_of, node_bytes, IsSpellable, AreSpellable, IsShort, AreShort}
+use Rattle.vx_wire_text.specs.Wires.{Wire, node, Wires, no_wires, first, number_of, wire_bytes, IsSpellable, AreSpellable, HasShortParts, HaveShortParts}
 use Rattle.vx_wire_text.specs.Openings.{IsTooDeep, IsTooMany}
 use Rattle.vx_wire_text.specs.ReadAnswers.{IsRead}
 use Rattle.vx_wire_text.specs.Numbers.{piece_bytes}
 use Rattle.vx_wire_text.specs.Fields.{IsText}
-use Rattle.vx_wire_text.specs.TypeForms.{nullability_byte, type_bytes, IsType}
+use Rattle.vx_wire_text.specs.TypeForms.{type_bytes, IsType}
+use Rattle.vx_dtype.specs.TypeRules.{null_number}
 use Rattle.vx_wire_text.specs.ValueForms.{truth_byte, value_bytes, IsValue}
 use Rattle.vx_wire.specs.Encodings.{encoding_of, encoding_id, kind_named, kind_place, is_default_kind}
 use Rattle.vx_wire.specs.Registries.{held_named}
@@ -54,7 +55,7 @@ same_truth true false e = absurd (omega (arith, e))
 same_truth false true e = absurd (omega (arith, e))
 same_truth false false e = refl
 
-same_null : (a b : Nullability) → nullability_byte a ≡ nullability_byte b → a ≡ b
+same_null : (a b : Nullability) → null_number a ≡ null_number b → a ≡ b
 same_null Nullable Nullable e = refl
 same_null Nullable NonNullable e = absurd (omega (arith, e))
 same_null NonNullable Nullable e = absurd (omega (arith, e))
@@ -143,13 +144,13 @@ same_node (between a b c o) (between x y z w) k p q m h =
 same_node (cast e t) (cast d u) k p q m h = let dtype = alike t u p q m in let child = only_child e d h in λ i. cast (child i) (dtype i)
 same_node (list_contains l v) (list_contains x y) k p q m h = let both = both_children l v x y h in λ i. list_contains (both.0 i) (both.1 i)
 same_node (pack f es n) (pack g ds o) k p q m h =
-    let one = heads (nullability_byte n) (nullability_byte o) (names_bytes f) (names_bytes g) m in
+    let one = heads (null_number n) (null_number o) (names_bytes f) (names_bytes g) m in
     let names = names_same f g p q one.1 in
     let null = same_null n o one.0 in
     let values = all_values es ds h in
     λ i. pack (names i) (values i) (null i)
 same_node (merge es n) (merge ds o) k p q m h =
-    let null = same_null n o (heads (nullability_byte n) (nullability_byte o) [] [] m).0 in let values = all_values es ds h in λ i. merge (values i) (null i)
+    let null = same_null n o (heads (null_number n) (null_number o) [] [] m).0 in let values = all_values es ds h in λ i. merge (values i) (null i)
 same_node (select s e) (select t d) k p q m h = let fields = same_selection s t p q m in let child = only_child e d h in λ i. select (fields i) (child i)
 same_node (dynamic e op slot t default) b k p q m h = absurd p
 same_node a b k p q m h = absurd (omega (arith, ap kind_place k))
@@ -167,7 +168,7 @@ same_takes (between a b c o) (between x y z w) n k p q m = refl
 same_takes (cast e t) (cast d u) n k p q m = refl
 same_takes (list_contains l v) (list_contains x y) n k p q m = refl
 same_takes (pack f es c) (pack g ds o) n k p q m =
-    ap (λ x. nat_eq n (length x)) (names_same f g p q (heads (nullability_byte c) (nullability_byte o) (names_bytes f) (names_bytes g) m).1)
+    ap (λ x. nat_eq n (length x)) (names_same f g p q (heads (null_number c) (null_number o) (names_bytes f) (names_bytes g) m).1)
 same_takes (merge es c) (merge ds o) n k p q m = refl
 same_takes (select s e) (select t d) n k p q m = refl
 same_takes (dynamic e op slot t default) b n k p q m = absurd p
@@ -175,14 +176,14 @@ same_takes a b n k p q m = absurd (omega (arith, ap kind_place k))
 
 -- ---- one expression
 
-parts : (id x : Bytes) (m y : Bytes) (ns ms : Nodes) → node id m ns ≡ node x y ms → (id ≡ x) × (m ≡ y) × (ns ≡ ms)
+parts : (id x : Bytes) (m y : Bytes) (ns ms : Wires) → node id m ns ≡ node x y ms → (id ≡ x) × (m ≡ y) × (ns ≡ ms)
 parts id x m y ns ms e = (cc, cc, cc)
 
-row_parts : (n m : Node) (ns ms : Nodes) → first n ns ≡ first m ms → (n ≡ m) × (ns ≡ ms)
+row_parts : (n m : Wire) (ns ms : Wires) → first n ns ≡ first m ms → (n ≡ m) × (ns ≡ ms)
 row_parts n m ns ms e = (cc, cc)
 
 -- the parts of a wire node of an expression
-parts_of : (id m : Bytes) (ns : Nodes) (e : Tree) → node id m ns ≡ wire_of e → (id ≡ id_of e) × (m ≡ metadata_bytes e) × (ns ≡ wires_of (trees_of (children_of e)))
+parts_of : (id m : Bytes) (ns : Wires) (e : Tree) → node id m ns ≡ wire_of e → (id ≡ id_of e) × (m ≡ metadata_bytes e) × (ns ≡ wires_of (trees_of (children_of e)))
 parts_of id m ns e h = parts id (id_of e) m (metadata_bytes e) ns (wires_of (trees_of (children_of e))) (h ∙ wire_of-children e)
 
 same_kinds : (a b : ExprEncoding) → encoding_id a ≡ encoding_id b → a ≡ b
@@ -192,17 +193,17 @@ kinds_of : (a b : Tree) → id_of a ≡ id_of b → encoding_of a ≡ encoding_o
 kinds_of a b e = same_kinds (encoding_of a) (encoding_of b) (encoding_id-encoding_of a ∙ e ∙ sym (encoding_id-encoding_of b))
 
 mutual
-  one_form : (w : Node) (a b : Tree) → w ≡ wire_of a → w ≡ wire_of b → Everywhere HasForm a → Everywhere HasForm b → a ≡ b
+  one_form : (w : Wire) (a b : Tree) → w ≡ wire_of a → w ≡ wire_of b → Everywhere HasForm a → Everywhere HasForm b → a ≡ b
   one_form (node id m ns) a b x y p q =
       let s = parts_of id m ns a x in
       let t = parts_of id m ns b y in
       let children = one_row ns (children_of a) (children_of b) s.2 t.2 (below HasForm a p) (below HasForm b q) in
       same_node a b (kinds_of a b (sym s.0 ∙ t.0)) (here HasForm a p).metadata (here HasForm b q).metadata (sym s.1 ∙ t.1) children
 
-  one_row : (ns : Nodes) (es ds : List Tree) → ns ≡ wires_of (trees_of es) → ns ≡ wires_of (trees_of ds) → EverywhereIn HasForm (trees_of es) → EverywhereIn HasForm (trees_of ds) → es ≡ ds
-  one_row no_nodes [] [] x y p q = refl
-  one_row no_nodes [] (b ∷ ds) x y p q = absurd cc
-  one_row no_nodes (a ∷ es) ds x y p q = absurd cc
+  one_row : (ns : Wires) (es ds : List Tree) → ns ≡ wires_of (trees_of es) → ns ≡ wires_of (trees_of ds) → EverywhereIn HasForm (trees_of es) → EverywhereIn HasForm (trees_of ds) → es ≡ ds
+  one_row no_wires [] [] x y p q = refl
+  one_row no_wires [] (b ∷ ds) x y p q = absurd cc
+  one_row no_wires (a ∷ es) ds x y p q = absurd cc
   one_row (first n ns) [] ds x y p q = absurd cc
   one_row (first n ns) (a ∷ es) [] x y p q = absurd cc
   one_row (first n ns) (a ∷ es) (b ∷ ds) x y p q =
@@ -210,7 +211,7 @@ mutual
       let t = row_parts n (wire_of b) ns (wires_of (trees_of ds)) y in
       ap (λ c. c ∷ es) (one_form n a b s.0 t.0 p.0 q.0) ∙ ap (λ cs. b ∷ cs) (one_row ns es ds s.1 t.1 p.1 q.1)
 
-pub one_built : (holds : ExprEncoding → Bool) (w : Node) (a b : Tree) → IsBuilt holds w a → IsBuilt holds w b → a ≡ b
+pub one_built : (holds : ExprEncoding → Bool) (w : Wire) (a b : Tree) → IsBuilt holds w a → IsBuilt holds w b → a ≡ b
 one_built holds w a b p q = one_form w a b p.form q.form p.forms q.forms
 
 -- ---- never both built and refused
@@ -243,7 +244,7 @@ not_refused_at k e m n why cause known bytes form number h = go why cause (subst
     go errors.WrongChildren c r = not_refused_of e m n errors.WrongChildren c bytes form number r
 
 mutual
-  not_refused : (holds : ExprEncoding → Bool) (why : BuildError) → why ≢ errors.NoMemory → (w : Node) (e : Tree) → w ≡ wire_of e → Everywhere HasForm e → Everywhere (λ n. holds (encoding_of n) ≡ true) e → ¬ (IsRefusedFirst holds why w)
+  not_refused : (holds : ExprEncoding → Bool) (why : BuildError) → why ≢ errors.NoMemory → (w : Wire) (e : Tree) → w ≡ wire_of e → Everywhere HasForm e → Everywhere (λ n. holds (encoding_of n) ≡ true) e → ¬ (IsRefusedFirst holds why w)
   not_refused holds why cause (node id m ns) e x p q h =
       let s = parts_of id m ns e x in
       elim h [
@@ -253,8 +254,8 @@ mutual
             not_refused_at (held_named holds id) e m (number_of ns) why cause (found_kind holds id e s.0 (here (λ n. holds (encoding_of n) ≡ true) e q)) s.1 (here HasForm e p) number itself.1
       ]
 
-  row_not_refused : (holds : ExprEncoding → Bool) (why : BuildError) → why ≢ errors.NoMemory → (ns : Nodes) (es : List Tree) → ns ≡ wires_of (trees_of es) → EverywhereIn HasForm (trees_of es) → EverywhereIn (λ n. holds (encoding_of n) ≡ true) (trees_of es) → ¬ (IsOneRefused holds why ns)
-  row_not_refused holds why cause no_nodes es x p q h = h
+  row_not_refused : (holds : ExprEncoding → Bool) (why : BuildError) → why ≢ errors.NoMemory → (ns : Wires) (es : List Tree) → ns ≡ wires_of (trees_of es) → EverywhereIn HasForm (trees_of es) → EverywhereIn (λ n. holds (encoding_of n) ≡ true) (trees_of es) → ¬ (IsOneRefused holds why ns)
+  row_not_refused holds why cause no_wires es x p q h = h
   row_not_refused holds why cause (first n ns) [] x p q h = absurd cc
   row_not_refused holds why cause (first n ns) (e ∷ es) x p q h =
       let s = row_parts n (wire_of e) ns (wires_of (trees_of es)) x in
@@ -263,7 +264,7 @@ mutual
         | inr others ↦ row_not_refused holds why cause ns es s.1 p.1 q.1 others.1
       ]
 
-pub never_both : (holds : ExprEncoding → Bool) (w : Node) (e : Tree) (why : BuildError) → IsBuilt holds w e → why ≢ errors.NoMemory → ¬ (IsUnbuilt holds w why)
+pub never_both : (holds : ExprEncoding → Bool) (w : Wire) (e : Tree) (why : BuildError) → IsBuilt holds w e → why ≢ errors.NoMemory → ¬ (IsUnbuilt holds w why)
 never_both holds w e errors.NoMemory b cause h = cause refl
 never_both holds w e errors.UnknownExpr b cause h = not_refused holds errors.UnknownExpr cause w e b.form b.forms b.held h
 never_both holds w e errors.BadMetadata b cause h = not_refused holds errors.BadMetadata cause w e b.form b.forms b.held h
@@ -305,19 +306,19 @@ id_utf8 : (e : Tree) → is_utf8 (id_of e) ≡ true
 id_utf8 e = is_utf8-from_IsUtf8 (id_of e) (IsUtf8-from_ascii (id_of e) (ascii (id_of e) (id_ascii e)))
 
 mutual
-  spellable : (w : Node) (e : Tree) → w ≡ wire_of e → IsShort w → IsSpellable w
+  spellable : (w : Wire) (e : Tree) → w ≡ wire_of e → HasShortParts w → IsSpellable w
   spellable (node id m ns) e x short =
       let s = parts_of id m ns e x in
       (record { text = ap is_utf8 s.0 ∙ id_utf8 e; id = short.0; metadata = short.1; children = short.2 }, row_spellable ns (children_of e) s.2 short.3)
 
-  row_spellable : (ns : Nodes) (es : List Tree) → ns ≡ wires_of (trees_of es) → AreShort ns → AreSpellable ns
-  row_spellable no_nodes es x short = tt
+  row_spellable : (ns : Wires) (es : List Tree) → ns ≡ wires_of (trees_of es) → HaveShortParts ns → AreSpellable ns
+  row_spellable no_wires es x short = tt
   row_spellable (first n ns) [] x short = absurd cc
   row_spellable (first n ns) (e ∷ es) x short =
       let s = row_parts n (wire_of e) ns (wires_of (trees_of es)) x in
       (spellable n e s.0 short.0, row_spellable ns es s.1 short.1)
 
-pub read_again : (e : Tree) → IsShort (wire_of e) → ¬ (IsTooDeep (node_bytes (wire_of e))) → ¬ (IsTooMany (node_bytes (wire_of e))) → IsRead (node_bytes (wire_of e)) (wire_of e)
+pub read_again : (e : Tree) → HasShortParts (wire_of e) → ¬ (IsTooDeep (wire_bytes (wire_of e))) → ¬ (IsTooMany (wire_bytes (wire_of e))) → IsRead (wire_bytes (wire_of e)) (wire_of e)
 read_again e short shallow few = record { spelled = record { spellable = spellable (wire_of e) e refl short; spelled = refl }; not_deep = shallow; not_many = few }
 
 pub form_built : (e : Tree) → Everywhere HasForm e → IsBuilt is_default_kind (wire_of e) e

@@ -8,9 +8,9 @@ use Rattle.vx_expr.specs.Children.{id_of}
 use Rattle.vx_expr.specs.Packed.{Packed, pack_tree}
 use Rattle.vx_expr.proofs.TreeLemmas.{listed_trees_of}
 use Rattle.vx_dtype.specs.declared.Nullability.{Nullability}
-use Rattle.vx_wire_text.specs.TypeForms.{nullability_byte}
-use Rattle.vx_wire_text.specs.Nodes.{Node, node, first}
-use Rattle.vx_wire_text.specs.NodeViews.{nodes_of, tree_view, trees_view}
+use Rattle.vx_dtype.specs.TypeRules.{null_number}
+use Rattle.vx_wire_text.specs.Wires.{Wire, node, first}
+use Rattle.vx_wire_text.specs.WireViews.{wires_in, tree_view, trees_view}
 use Rattle.vx_wire_text.specs.Numbers.{number_bytes, piece_bytes}
 use Rattle.vx_wire_text.specs.Fields.{IsShort, IsText}
 use Rattle.vx_wire_text.specs.declared.trees.WireTree.{WireTree}
@@ -72,7 +72,7 @@ long_name names i name why lt is h = also_long (IsShort name) ((length names < 2
 
 -- ---- nodes
 
-wires_listed : (es : List Tree) → wires_of (trees_of es) ≡ nodes_of (map wire_of es)
+wires_listed : (es : List Tree) → wires_of (trees_of es) ≡ wires_in (map wire_of es)
 wires_listed [] = refl
 wires_listed (e ∷ es) = ap (first (wire_of e)) (wires_listed es)
 
@@ -87,7 +87,7 @@ children_start e own = record { own = own; form = refl; written = λ h. h }
 
 map-push : (ts : List WireTree) (t : WireTree) → map tree_view (ts ++ t ∷ []) ≡ map tree_view ts ++ tree_view t ∷ []
 map-push [] t = refl
-map-push (u ∷ ts) t = ap (λ (ns : List Node). tree_view u ∷ ns) (map-push ts t)
+map-push (u ∷ ts) t = ap (λ (ns : List Wire). tree_view u ∷ ns) (map-push ts t)
 
 pub children_go_on : (e c : Tree) (i : ℕ) (trees more : List WireTree) (t : WireTree) → slice_get (children_of e) i ≡ Some c → tree_view t ≡ wire_of c → Everywhere IsWritten c → more ≡ trees ++ t ∷ [] → AreFirstWritten e i trees → AreFirstWritten e (i + 1) more
 children_go_on e c i trees more t at form written row w =
@@ -95,8 +95,8 @@ children_go_on e c i trees more t at form written row w =
     let left = map wire_of (drop (i + 1) (children_of e)) in
     record {
       own = w.own;
-      form = ap (λ (ts : List WireTree). map tree_view ts ++ left) row ∙ ap (λ (ns : List Node). ns ++ left) (map-push trees t) ∙ append_assoc (map tree_view trees) (tree_view t ∷ []) left
-          ∙ ap (λ (n : Node). map tree_view trees ++ n ∷ left) form ∙ ap (λ (ds : List Tree). map tree_view trees ++ map wire_of ds) (sym step) ∙ w.form;
+      form = ap (λ (ts : List WireTree). map tree_view ts ++ left) row ∙ ap (λ (ns : List Wire). ns ++ left) (map-push trees t) ∙ append_assoc (map tree_view trees) (tree_view t ∷ []) left
+          ∙ ap (λ (n : Wire). map tree_view trees ++ n ∷ left) form ∙ ap (λ (ds : List Tree). map tree_view trees ++ map wire_of ds) (sym step) ∙ w.form;
       written = λ h. w.written (subst (λ ds. EverywhereIn IsWritten (trees_of ds)) (sym step) (written, h));
     }
 
@@ -105,7 +105,7 @@ children_form e i trees id metadata le w name bytes =
     let none : drop i (children_of e) ≡ [] = drop_all i (children_of e) le in
     let all : map tree_view trees ≡ map wire_of (children_of e) = sym (append-nil (map tree_view trees)) ∙ ap (λ (ds : List Tree). map tree_view trees ++ map wire_of ds) (sym none) ∙ w.form in
     ap (λ (x : Bytes). node x metadata (trees_view trees)) name ∙ ap (λ (x : Bytes). node (id_of e) x (trees_view trees)) bytes
-    ∙ ap (node_with e) (ap nodes_of all ∙ sym (wires_listed (children_of e))) ∙ sym (wire_of-children e)
+    ∙ ap (node_with e) (ap wires_in all ∙ sym (wires_listed (children_of e))) ∙ sym (wire_of-children e)
 
 pub children_written : (e : Tree) (i : ℕ) (trees : List WireTree) → length (children_of e) ≤ i → AreFirstWritten e i trees → Everywhere IsWritten e
 children_written e i trees le w =
@@ -125,7 +125,7 @@ default_kind e h = refl
 pub spelled_everywhere : (e : Tree) → Everywhere IsWritten e → Everywhere HasMetadata e
 spelled_everywhere = also_everywhere IsWritten HasMetadata (λ e w. w.metadata)
 
-pub built_again : (wire : Node) (e : Tree) → wire ≡ wire_of e → Everywhere IsWritten e → Everywhere IsNoEmptyMerge e → IsBuilt is_default_kind wire e
+pub built_again : (wire : Wire) (e : Tree) → wire ≡ wire_of e → Everywhere IsWritten e → Everywhere IsNoEmptyMerge e → IsBuilt is_default_kind wire e
 built_again wire e form written some = record {
   form = form;
   forms = both_everywhere IsWritten IsNoEmptyMerge HasForm (λ d w m. record { metadata = w.metadata; children = w.children m }) e written some;
@@ -136,7 +136,7 @@ pub spelled_again : {A : Type 0} (e : Tree) (result : Result A WireError) → If
 spelled_again e (Ok x) h = spelled_everywhere e h
 spelled_again e (Err why) h = tt
 
-pub all_built_again : {A : Type 0} (see : A → Node) (e : Tree) (result : Result A WireError) → IfOk result (λ x. see x ≡ wire_of e) → IfOk result (λ x. Everywhere IsWritten e) → IfOk result (λ x. Everywhere IsNoEmptyMerge e → IsBuilt is_default_kind (see x) e)
+pub all_built_again : {A : Type 0} (see : A → Wire) (e : Tree) (result : Result A WireError) → IfOk result (λ x. see x ≡ wire_of e) → IfOk result (λ x. Everywhere IsWritten e) → IfOk result (λ x. Everywhere IsNoEmptyMerge e → IsBuilt is_default_kind (see x) e)
 all_built_again see e (Ok x) form written = built_again (see x) e form written
 all_built_again see e (Err why) form written = tt
 
@@ -153,14 +153,14 @@ same_number m n e = grind arith
 
 -- a struct that has as many values as names
 packed_written : {B : Type 0} (see : B → Bytes) (p : Packed) (result : Result B WireError) → length p.names ≡ length p.values
-    → IfOk result (λ b. AreNames p.names × (see b ≡ nullability_byte p.nullability ∷ names_bytes p.names)) → IfOk result (λ b. IsWritten (pack_tree p) × (see b ≡ metadata_bytes (pack_tree p)))
+    → IfOk result (λ b. AreNames p.names × (see b ≡ null_number p.nullability ∷ names_bytes p.names)) → IfOk result (λ b. IsWritten (pack_tree p) × (see b ≡ metadata_bytes (pack_tree p)))
 packed_written see p (Err why) as_many h = tt
 packed_written see p (Ok b) as_many h =
     let number : length (listed (trees_of p.values)) ≡ length p.values = ap length (listed_trees_of p.values) in
     (record { metadata = h.0; children = λ some. same_number (length p.names) (length (listed (trees_of p.values))) (as_many ∙ sym number) }, h.1)
 
 pub pack_written : {B : Type 0} (see : B → Bytes) (p : Packed) (names : List Bytes) (n : Nullability) (e : Tree) (result : Result B WireError) → e ≡ pack_tree p → names ≡ p.names → n ≡ p.nullability → length p.names ≡ length p.values
-    → IfOk result (λ b. AreNames names × (see b ≡ nullability_byte n ∷ names_bytes names)) → IfOk result (λ b. IsWritten e × (see b ≡ metadata_bytes e))
+    → IfOk result (λ b. AreNames names × (see b ≡ null_number n ∷ names_bytes names)) → IfOk result (λ b. IsWritten e × (see b ≡ metadata_bytes e))
 pack_written see p names n e result is names_are n_is as_many h =
-    let known = subst (λ m. IfOk result (λ b. AreNames p.names × (see b ≡ nullability_byte m ∷ names_bytes p.names))) n_is (subst (λ x. IfOk result (λ b. AreNames x × (see b ≡ nullability_byte n ∷ names_bytes x))) names_are h) in
+    let known = subst (λ m. IfOk result (λ b. AreNames p.names × (see b ≡ null_number m ∷ names_bytes p.names))) n_is (subst (λ x. IfOk result (λ b. AreNames x × (see b ≡ null_number n ∷ names_bytes x))) names_are h) in
     subst (λ d. IfOk result (λ b. IsWritten d × (see b ≡ metadata_bytes d))) (sym is) (packed_written see p result as_many known)

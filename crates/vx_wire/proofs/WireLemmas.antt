@@ -7,8 +7,8 @@ use Rattle.vx_dtype.specs.Types.{Bytes}
 use Rattle.vx_expr.specs.Trees.{Tree, root, literal, get_item, binary, not_of, is_null_of, like, between, cast, list_contains, pack, merge, select, dynamic, trees_of, children_of}
 use Rattle.vx_expr.specs.Children.{id_of}
 use Rattle.vx_expr.proofs.TreeLemmas.{trees_of_listed}
-use Rattle.vx_wire_text.specs.Nodes.{Node, node, Nodes, no_nodes, first, number_of}
-use Rattle.vx_wire_text.specs.NodeViews.{tree_view, trees_view}
+use Rattle.vx_wire_text.specs.Wires.{Wire, node, Wires, no_wires, first, number_of}
+use Rattle.vx_wire_text.specs.WireViews.{tree_view, trees_view}
 use Rattle.vx_wire_text.specs.declared.trees.WireTree.{WireTree}
 use Rattle.vx_wire_text.specs.declared.trees.WireTree.TheViews.{out-WireTree}
 use Rattle.vx_wire_text.proofs.TreeLemmas.{tree_view-out}
@@ -87,22 +87,22 @@ everywhere P (select s e) p h = (p, h.0)
 everywhere P (dynamic e op k t default) p h = (p, h.0)
 
 -- each of the nodes in a row builds the expression at its place
-abbrev pub AreBuiltTo : (ExprEncoding → Bool) → Nodes → List Tree → Type 0
-AreBuiltTo holds no_nodes [] = Unit {0}
-AreBuiltTo holds no_nodes (e ∷ es) = ⊥
+abbrev pub AreBuiltTo : (ExprEncoding → Bool) → Wires → List Tree → Type 0
+AreBuiltTo holds no_wires [] = Unit {0}
+AreBuiltTo holds no_wires (e ∷ es) = ⊥
 AreBuiltTo holds (first n ns) [] = ⊥
 AreBuiltTo holds (first n ns) (e ∷ es) = IsBuilt holds n e × AreBuiltTo holds ns es
 
-pub record RowBuilt (holds : ExprEncoding → Bool) (ns : Nodes) (es : List Tree) : Type 0 where
+pub record RowBuilt (holds : ExprEncoding → Bool) (ns : Wires) (es : List Tree) : Type 0 where
   pub form : ns ≡ wires_of (trees_of es)
   pub forms : EverywhereIn HasForm (trees_of es)
   pub held : EverywhereIn (λ n. holds (encoding_of n) ≡ true) (trees_of es)
   pub number : number_of ns ≡ length es
   pub all : AreBuilt holds ns
 
-row_built : (holds : ExprEncoding → Bool) (ns : Nodes) (es : List Tree) → AreBuiltTo holds ns es → RowBuilt holds ns es
-row_built holds no_nodes [] h = record { form = refl; forms = tt; held = tt; number = refl; all = tt }
-row_built holds no_nodes (e ∷ es) h = absurd h
+row_built : (holds : ExprEncoding → Bool) (ns : Wires) (es : List Tree) → AreBuiltTo holds ns es → RowBuilt holds ns es
+row_built holds no_wires [] h = record { form = refl; forms = tt; held = tt; number = refl; all = tt }
+row_built holds no_wires (e ∷ es) h = absurd h
 row_built holds (first n ns) [] h = absurd h
 row_built holds (first n ns) (e ∷ es) h =
     let others = row_built holds ns es h.1 in
@@ -123,7 +123,7 @@ held_is holds (Some k) kind e = go (holds k) refl e
     go false test h = absurd (none-some kind h)
 
 -- a node whose children are built is built, where its kind is held
-pub node_built : (holds : ExprEncoding → Bool) (id metadata : Bytes) (ns : Nodes) (es : List Tree) (kind : ExprEncoding) (e : Tree) → AreBuiltTo holds ns es → Some kind ≡ held_named holds id → IsBuiltOf kind metadata es e → IsBuilt holds (node id metadata ns) e
+pub node_built : (holds : ExprEncoding → Bool) (id metadata : Bytes) (ns : Wires) (es : List Tree) (kind : ExprEncoding) (e : Tree) → AreBuiltTo holds ns es → Some kind ≡ held_named holds id → IsBuiltOf kind metadata es e → IsBuilt holds (node id metadata ns) e
 node_built holds id metadata ns es kind e children known h =
     let row = row_built holds ns es children in
     let found = held_is holds (kind_named id) kind (sym known) in
@@ -136,17 +136,17 @@ node_built holds id metadata ns es kind e children known h =
     }
 
 -- a refusal that is in the node itself
-refused_here : (holds : ExprEncoding → Bool) (id metadata : Bytes) (ns : Nodes) (es : List Tree) (why : BuildError) → AreBuiltTo holds ns es → IsRefusedAt (held_named holds id) metadata (number_of ns) why → IsUnbuilt holds (node id metadata ns) why
+refused_here : (holds : ExprEncoding → Bool) (id metadata : Bytes) (ns : Wires) (es : List Tree) (why : BuildError) → AreBuiltTo holds ns es → IsRefusedAt (held_named holds id) metadata (number_of ns) why → IsUnbuilt holds (node id metadata ns) why
 refused_here holds id metadata ns es errors.NoMemory children h = tt
 refused_here holds id metadata ns es errors.UnknownExpr children h = inr ((row_built holds ns es children).all, h)
 refused_here holds id metadata ns es errors.BadMetadata children h = inr ((row_built holds ns es children).all, h)
 refused_here holds id metadata ns es errors.WrongChildren children h = inr ((row_built holds ns es children).all, h)
 
-pub unknown_here : (holds : ExprEncoding → Bool) (id metadata : Bytes) (ns : Nodes) (es : List Tree) → AreBuiltTo holds ns es → None ≡ held_named holds id → IsUnbuilt holds (node id metadata ns) errors.UnknownExpr
+pub unknown_here : (holds : ExprEncoding → Bool) (id metadata : Bytes) (ns : Wires) (es : List Tree) → AreBuiltTo holds ns es → None ≡ held_named holds id → IsUnbuilt holds (node id metadata ns) errors.UnknownExpr
 unknown_here holds id metadata ns es children e =
     refused_here holds id metadata ns es errors.UnknownExpr children (subst (λ k. IsRefusedAt k metadata (number_of ns) errors.UnknownExpr) e refl)
 
-pub unbuilt_here : (holds : ExprEncoding → Bool) (id metadata : Bytes) (ns : Nodes) (es : List Tree) (kind : ExprEncoding) (why : BuildError) → AreBuiltTo holds ns es → Some kind ≡ held_named holds id → IsUnbuiltOf kind metadata (length es) why → IsUnbuilt holds (node id metadata ns) why
+pub unbuilt_here : (holds : ExprEncoding → Bool) (id metadata : Bytes) (ns : Wires) (es : List Tree) (kind : ExprEncoding) (why : BuildError) → AreBuiltTo holds ns es → Some kind ≡ held_named holds id → IsUnbuiltOf kind metadata (length es) why → IsUnbuilt holds (node id metadata ns) why
 unbuilt_here holds id metadata ns es kind errors.NoMemory children e h = tt
 unbuilt_here holds id metadata ns es kind errors.UnknownExpr children e h = absurd h
 unbuilt_here holds id metadata ns es kind errors.BadMetadata children e h =
@@ -159,14 +159,14 @@ unbuilt_here holds id metadata ns es kind errors.WrongChildren children e h =
 -- ---- the children of a wire tree, one after the other
 
 -- the first children are built, and the others are left
-pub record AreFirstBuilt (holds : ExprEncoding → Bool) (all left : Nodes) (es : List Tree) : Type 0 where
+pub record AreFirstBuilt (holds : ExprEncoding → Bool) (all left : Wires) (es : List Tree) : Type 0 where
   pub built : (more : List Tree) → AreBuiltTo holds left more → AreBuiltTo holds all (es ++ more)
   pub refused : (why : BuildError) → IsOneRefused holds why left → IsOneRefused holds why all
 
-pub none_built : (holds : ExprEncoding → Bool) (all : Nodes) → AreFirstBuilt holds all all []
+pub none_built : (holds : ExprEncoding → Bool) (all : Wires) → AreFirstBuilt holds all all []
 none_built holds all = record { built = λ more h. h; refused = λ why h. h }
 
-one_more : (holds : ExprEncoding → Bool) (all : Nodes) (n : Node) (left : Nodes) (es : List Tree) (e : Tree) → AreFirstBuilt holds all (first n left) es → IsBuilt holds n e → AreFirstBuilt holds all left (es ++ e ∷ [])
+one_more : (holds : ExprEncoding → Bool) (all : Wires) (n : Wire) (left : Wires) (es : List Tree) (e : Tree) → AreFirstBuilt holds all (first n left) es → IsBuilt holds n e → AreFirstBuilt holds all left (es ++ e ∷ [])
 one_more holds all n left es e h built = record {
   built = λ more b. subst (AreBuiltTo holds all) (sym (append_assoc es (e ∷ []) more)) (h.built (e ∷ more) (built, b));
   refused = λ why r. h.refused why (inr ((e, built), r));

@@ -2,7 +2,7 @@
 use Rattle.std.specs.Prelude.{◌≡◌, ◌⊎◌, ℕ, Bool, true, false, List, length, Option, Some, None}
 use Rattle.vx_dtype.specs.Types.{Bytes}
 use Rattle.vx_expr.specs.Trees.{Tree, children_of}
-use Rattle.vx_wire_text.specs.Nodes.{Node, node, Nodes, no_nodes, first, number_of}
+use Rattle.vx_wire_text.specs.Wires.{Wire, node, Wires, no_wires, first, number_of}
 use Rattle.vx_wire.specs.Encodings.{encoding_of}
 use Rattle.vx_wire.specs.Registries.{held_named}
 use Rattle.vx_wire.specs.Metadata.{metadata_bytes, HasMetadata, takes, HasForm}
@@ -31,14 +31,14 @@ IsUnbuiltOf kind metadata children errors.BadMetadata = (e : Tree) → ¬ (IsSpe
 IsUnbuiltOf kind metadata children errors.WrongChildren = (e : Tree) × IsSpelled kind metadata e × (takes e children ≡ false)
 
 -- the expression is the one whose wire form this is, each node has a form, and each kind is held
-pub record IsBuilt (holds : ExprEncoding → Bool) (wire : Node) (e : Tree) : Type 0 where
+pub record IsBuilt (holds : ExprEncoding → Bool) (wire : Wire) (e : Tree) : Type 0 where
   pub form : wire ≡ wire_of e
   pub forms : Everywhere HasForm e
   pub held : Everywhere (λ n. holds (encoding_of n) ≡ true) e
 
 -- each of the wire nodes in a row builds an expression
-abbrev pub AreBuilt : (ExprEncoding → Bool) → Nodes → Type 0
-AreBuilt holds no_nodes = Unit {0}
+abbrev pub AreBuilt : (ExprEncoding → Bool) → Wires → Type 0
+AreBuilt holds no_wires = Unit {0}
 AreBuilt holds (first n ns) = ((e : Tree) × IsBuilt holds n e) × AreBuilt holds ns
 
 -- why a wire node whose children are built, so many, is refused: its kind, its metadata, the number of its children, in this order
@@ -49,15 +49,15 @@ IsRefusedAt (Some kind) metadata children why = IsUnbuiltOf kind metadata childr
 
 abbrev mutual
   -- the refusal is that of the first node in post-order that has one
-  pub IsRefusedFirst : (ExprEncoding → Bool) → BuildError → Node → Type 0
+  pub IsRefusedFirst : (ExprEncoding → Bool) → BuildError → Wire → Type 0
   IsRefusedFirst holds why (node id metadata children) =
       IsOneRefused holds why children ⊎ (AreBuilt holds children × IsRefusedAt (held_named holds id) metadata (number_of children) why)
 
-  pub IsOneRefused : (ExprEncoding → Bool) → BuildError → Nodes → Type 0
-  IsOneRefused holds why no_nodes = ⊥
+  pub IsOneRefused : (ExprEncoding → Bool) → BuildError → Wires → Type 0
+  IsOneRefused holds why no_wires = ⊥
   IsOneRefused holds why (first n ns) = IsRefusedFirst holds why n ⊎ (((e : Tree) × IsBuilt holds n e) × IsOneRefused holds why ns)
 
 -- why a wire tree builds nothing; want of memory has no cause in it
-abbrev pub IsUnbuilt : (ExprEncoding → Bool) → Node → BuildError → Type 0
+abbrev pub IsUnbuilt : (ExprEncoding → Bool) → Wire → BuildError → Type 0
 IsUnbuilt holds wire errors.NoMemory = Unit {0}
 IsUnbuilt holds wire why = IsRefusedFirst holds why wire

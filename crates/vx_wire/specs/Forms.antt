@@ -1,28 +1,28 @@
 -- The wire form of expressions: the tree of an expression, and what holds at each of its nodes.
 use Rattle.vx_expr.specs.Children.{id_of}
 use Rattle.vx_expr.specs.Trees.{Tree, root, literal, get_item, binary, not_of, is_null_of, like, between, cast, list_contains, pack, merge, select, dynamic, Trees, no_trees, tree}
-use Rattle.vx_wire_text.specs.Nodes.{Node, node, Nodes, no_nodes, first}
+use Rattle.vx_wire_text.specs.Wires.{Wire, node, Wires, no_wires, first}
 use Rattle.vx_wire.specs.Metadata.{metadata_bytes}
 
 -- the wire node of an expression's node, with these children
-abbrev pub node_with : Tree → Nodes → Node
+abbrev pub node_with : Tree → Wires → Wire
 node_with e children = node (id_of e) (metadata_bytes e) children
 
 -- one wire node, two, and three in a row
-abbrev pub only : Node → Nodes
-only a = first a no_nodes
+abbrev pub only : Wire → Wires
+only a = first a no_wires
 
-abbrev pub two : Node → Node → Nodes
+abbrev pub two : Wire → Wire → Wires
 two a b = first a (only b)
 
-abbrev pub three : Node → Node → Node → Nodes
+abbrev pub three : Wire → Wire → Wire → Wires
 three a b c = first a (two b c)
 
 abbrev mutual
   -- the wire tree of an expression
-  pub wire_of : Tree → Node
-  wire_of root = node_with root no_nodes
-  wire_of (literal s) = node_with (literal s) no_nodes
+  pub wire_of : Tree → Wire
+  wire_of root = node_with root no_wires
+  wire_of (literal s) = node_with (literal s) no_wires
   wire_of (get_item f e) = node_with (get_item f e) (only (wire_of e))
   wire_of (binary l op r) = node_with (binary l op r) (two (wire_of l) (wire_of r))
   wire_of (not_of e) = node_with (not_of e) (only (wire_of e))
@@ -37,8 +37,8 @@ abbrev mutual
   wire_of (dynamic e op k t default) = node_with (dynamic e op k t default) (only (wire_of e))
 
   -- the wire trees of expressions in a row
-  pub wires_of : Trees → Nodes
-  wires_of no_trees = no_nodes
+  pub wires_of : Trees → Wires
+  wires_of no_trees = no_wires
   wires_of (tree e es) = first (wire_of e) (wires_of es)
 
 abbrev mutual

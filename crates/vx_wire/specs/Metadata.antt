@@ -2,7 +2,7 @@
 use Rattle.std.specs.Prelude.{◌≡◌, ℕ, ◌<◌, ◌≤◌, ◌^◌, ◌==◌, nat_le, Bool, true, false, List, [], ◌∷◌, ◌++◌, length}
 use Rattle.std.specs.List.{AllByRecursion}
 use Rattle.vx_dtype.specs.Types.{Bytes}
-use Rattle.vx_dtype.specs.TypeRules.{depth_of, most_deep}
+use Rattle.vx_dtype.specs.TypeRules.{depth_of, most_deep, null_number}
 use Rattle.vx_dtype.specs.declared.StrictComparison.{StrictComparison}
 use Rattle.vx_dtype.specs.declared.StrictComparison.TheVariants.{Strict, NonStrict}
 use Rattle.vx_expr.specs.Trees.{Tree, root, literal, get_item, binary, not_of, is_null_of, like, between, cast, list_contains, pack, merge, select, dynamic, children_of}
@@ -10,7 +10,7 @@ use Rattle.vx_expr.specs.Operators.{operator_number}
 use Rattle.vx_expr.specs.Selections.{is_included, listed_names}
 use Rattle.vx_wire_text.specs.Numbers.{number_bytes, piece_bytes}
 use Rattle.vx_wire_text.specs.Fields.{IsShort, IsText}
-use Rattle.vx_wire_text.specs.TypeForms.{nullability_byte, type_bytes, NamesAre, IsType}
+use Rattle.vx_wire_text.specs.TypeForms.{type_bytes, NamesAre, IsType}
 use Rattle.vx_wire_text.specs.ValueForms.{truth_byte, value_bytes, TextsAre, IsValue}
 
 -- the byte of a bound: 1 where it is strict
@@ -45,8 +45,8 @@ metadata_bytes (like e p negated fold_case) = truth_byte negated ∷ truth_byte 
 metadata_bytes (get_item f e) = piece_bytes f
 metadata_bytes (cast e t) = type_bytes t
 metadata_bytes (select s e) = choice_byte (is_included s) ∷ names_bytes (listed_names s)
-metadata_bytes (pack names es n) = nullability_byte n ∷ names_bytes names
-metadata_bytes (merge es n) = nullability_byte n ∷ []
+metadata_bytes (pack names es n) = null_number n ∷ names_bytes names
+metadata_bytes (merge es n) = null_number n ∷ []
 metadata_bytes (dynamic e op k t default) = []
 
 -- names that have a spelling in a row

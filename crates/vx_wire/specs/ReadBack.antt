@@ -8,7 +8,8 @@ use Rattle.vx_expr.specs.declared.operators.Operator.{Operator}
 use Rattle.vx_expr.specs.declared.selections.FieldSelection.{FieldSelection}
 use Rattle.vx_expr.specs.Operators.{operator_number}
 use Rattle.vx_expr.specs.Selections.{is_included, listed_names}
-use Rattle.vx_wire_text.specs.TypeForms.{nullability_byte, type_bytes, IsType}
+use Rattle.vx_wire_text.specs.TypeForms.{type_bytes, IsType}
+use Rattle.vx_dtype.specs.TypeRules.{null_number}
 use Rattle.vx_wire_text.specs.ValueForms.{truth_byte, value_bytes, IsValue}
 use Rattle.vx_wire.specs.Metadata.{strictness_byte, choice_byte, names_bytes, AreNames}
 
@@ -35,11 +36,11 @@ truths_bytes b = truth_byte b.0 ∷ truth_byte b.1 ∷ []
 
 -- the byte of a nullability
 abbrev pub null_bytes : Nullability → Bytes
-null_bytes n = nullability_byte n ∷ []
+null_bytes n = null_number n ∷ []
 
 -- the bytes of a nullability and names
 abbrev pub packing_bytes : Nullability × List Bytes → Bytes
-packing_bytes p = nullability_byte p.0 ∷ names_bytes p.1
+packing_bytes p = null_number p.0 ∷ names_bytes p.1
 
 -- a nullability and names that have a spelling
 abbrev pub IsPacking : Nullability × List Bytes → Type 0

@@ -1,6 +1,6 @@
 // Expressions built from wire trees.
 ghost use Rattle.std.specs.Prelude.{IfOk, IfErr};
-ghost use Rattle.vx_wire_text.specs.NodeViews.{tree_view};
+ghost use Rattle.vx_wire_text.specs.WireViews.{tree_view};
 ghost use Rattle.vx_wire.specs.Registries.{registered};
 ghost use Rattle.vx_wire.specs.Building.{IsBuilt, IsUnbuilt};
 

@@ -3,7 +3,7 @@ ghost use Rattle.std.specs.Prelude.{◌≡◌, ◌≢◌, Bool, Some};
 ghost use Rattle.vx_dtype.specs.Types.{Bytes};
 ghost use Rattle.vx_expr.specs.Trees.{Tree};
 ghost use Rattle.vx_expr.specs.Children.{id_of};
-ghost use Rattle.vx_wire_text.specs.Nodes.{Node, node_bytes, IsShort};
+ghost use Rattle.vx_wire_text.specs.Wires.{Wire, wire_bytes, HasShortParts};
 ghost use Rattle.vx_wire_text.specs.Openings.{IsTooDeep, IsTooMany};
 ghost use Rattle.vx_wire_text.specs.ReadAnswers.{IsRead};
 ghost use Rattle.vx_wire.specs.Building.{IsBuilt, IsUnbuilt};
@@ -27,17 +27,17 @@ pub fn encodings_have_ids()
 
 /// A wire tree builds one expression at most.
 pub fn one_expression()
-    ensures { (holds : ExprEncoding → Bool) (wire : Node) (a b : Tree) → IsBuilt holds wire a → IsBuilt holds wire b → a ≡ b }
+    ensures { (holds : ExprEncoding → Bool) (wire : Wire) (a b : Tree) → IsBuilt holds wire a → IsBuilt holds wire b → a ≡ b }
 {}
 
 /// A wire tree that builds an expression has no refusal but want of memory.
 pub fn built_is_not_refused()
-    ensures { (holds : ExprEncoding → Bool) (wire : Node) (e : Tree) (why : BuildError) → IsBuilt holds wire e → why ≢ NoMemory → ¬ (IsUnbuilt holds wire why) }
+    ensures { (holds : ExprEncoding → Bool) (wire : Wire) (e : Tree) (why : BuildError) → IsBuilt holds wire e → why ≢ NoMemory → ¬ (IsUnbuilt holds wire why) }
 {}
 
 /// Where each node of an expression has a form, and `write_tree` writes its wire tree, the bytes are read as that tree if they meet
 /// no limit, and the default registry builds the expression of it again.
 pub fn written_is_read_and_built_again()
-    ensures read { (e : Tree) → IsShort (wire_of e) → ¬ (IsTooDeep (node_bytes (wire_of e))) → ¬ (IsTooMany (node_bytes (wire_of e))) → IsRead (node_bytes (wire_of e)) (wire_of e) }
+    ensures read { (e : Tree) → HasShortParts (wire_of e) → ¬ (IsTooDeep (wire_bytes (wire_of e))) → ¬ (IsTooMany (wire_bytes (wire_of e))) → IsRead (wire_bytes (wire_of e)) (wire_of e) }
     ensures built { (e : Tree) → Everywhere HasForm e → IsBuilt is_default_kind (wire_of e) e }
 {}

@@ -3,7 +3,8 @@ ghost use Rattle.std.specs.Prelude.{IfOk, option_map};
 ghost use Rattle.vx_dtype.specs.TypeViews.{type_view};
 ghost use Rattle.vx_wire_text.specs.Fields.{IsText};
 ghost use Rattle.vx_wire_text.specs.Numbers.{piece_bytes};
-ghost use Rattle.vx_wire_text.specs.TypeForms.{nullability_byte, type_bytes, IsType};
+ghost use Rattle.vx_wire_text.specs.TypeForms.{type_bytes, IsType};
+ghost use Rattle.vx_dtype.specs.TypeRules.{null_number};
 ghost use Rattle.vx_wire_text.specs.ValueForms.{truth_byte};
 ghost use Rattle.vx_wire.specs.Metadata.{strictness_byte, choice_byte, names_bytes, AreNames};
 ghost use Rattle.vx_wire.specs.ReadBack.{IsReadBack, IsAny, operator_bytes, bounds_bytes, truths_bytes, null_bytes, packing_bytes, IsPacking, selection_bytes, IsSelection, literal_bytes, IsLiteral};
@@ -40,7 +41,7 @@ fn strictness_of(byte: u8) -> Option<StrictComparison>
 
 /// The nullability of a byte.
 fn nullability_of(byte: u8) -> Option<Nullability>
-    ensures { IsReadBack nullability_byte IsAny byte result }
+    ensures { IsReadBack null_number IsAny byte result }
 {
     match byte {
         0 => Some(Nullability::NonNullable),

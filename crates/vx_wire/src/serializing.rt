@@ -3,7 +3,7 @@ ghost use Rattle.std.specs.Prelude.{◌≡◌, ◌≤◌, true, Decides, IfOk, I
 ghost use Rattle.vx_dtype.specs.TypeViews.{type_view};
 ghost use Rattle.vx_dtype.specs.TypeRules.{depth_of, most_deep};
 ghost use Rattle.vx_expr.specs.Trees.{Tree};
-ghost use Rattle.vx_wire_text.specs.NodeViews.{tree_view};
+ghost use Rattle.vx_wire_text.specs.WireViews.{tree_view};
 ghost use Rattle.vx_wire.specs.Encodings.{is_default_kind};
 ghost use Rattle.vx_wire.specs.Forms.{wire_of, Everywhere};
 ghost use Rattle.vx_wire.specs.Metadata.{HasMetadata, IsSerializable, HasShortMetadata, IsNoEmptyMerge};

@@ -3,13 +3,13 @@ ghost use Rattle.std.specs.Prelude.{◌≡◌, ◌<◌, ◌≤◌, ◌^◌, ◌+
 ghost use Rattle.std.specs.List.{AllByRecursion};
 ghost use Rattle.vx_dtype.specs.TypeViews.{type_view};
 ghost use Rattle.vx_dtype.specs.RawViews.{raw_view};
-ghost use Rattle.vx_dtype.specs.TypeRules.{depth_of, most_deep};
+ghost use Rattle.vx_dtype.specs.TypeRules.{depth_of, most_deep, null_number};
 ghost use Rattle.vx_expr.specs.Trees.{children_of};
 ghost use Rattle.vx_expr.specs.Operators.{operator_number};
 ghost use Rattle.vx_expr.specs.Selections.{listed_names};
 ghost use Rattle.vx_wire_text.specs.Fields.{IsShort, IsText};
 ghost use Rattle.vx_wire_text.specs.Numbers.{piece_bytes};
-ghost use Rattle.vx_wire_text.specs.TypeForms.{nullability_byte, type_bytes, NamesAre, IsType};
+ghost use Rattle.vx_wire_text.specs.TypeForms.{type_bytes, NamesAre, IsType};
 ghost use Rattle.vx_wire_text.specs.ValueForms.{truth_byte, value_bytes, TextsAre, IsValue};
 ghost use Rattle.vx_wire.specs.Metadata.{strictness_byte, choice_byte, texts_bytes, names_bytes, AreNames, metadata_bytes, HasMetadata, takes, IsSerializable, HasShortMetadata, IsNoEmptyMerge};
 ghost use Rattle.vx_wire.specs.ReadBack.{literal_bytes, IsLiteral, packing_bytes, selection_bytes, IsSelection};
@@ -44,7 +44,7 @@ fn strictness_byte_of(strictness: StrictComparison) -> u8
 
 /// The byte of a nullability.
 fn nullability_byte_of(nullability: Nullability) -> u8
-    ensures { result ≡ nullability_byte nullability }
+    ensures { result ≡ null_number nullability }
 {
     match nullability {
         Nullability::NonNullable => 0,
@@ -166,7 +166,7 @@ fn named_bytes(
     nullability: Nullability,
     names: &FieldNames,
 ) -> Result<Vec<u8>, WireError>
-    ensures ok { IfOk result (λ bytes. AreNames names.now × (bytes.items ≡ nullability_byte nullability ∷ names_bytes names.now)) }
+    ensures ok { IfOk result (λ bytes. AreNames names.now × (bytes.items ≡ null_number nullability ∷ names_bytes names.now)) }
     ensures err { IfErr result (IsUnwrittenLong ((length names.now < 2 ^ 32) × AllByRecursion IsShort names.now)) }
 {
     let mut out = Vec::new(alloc);

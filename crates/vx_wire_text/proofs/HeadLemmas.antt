@@ -6,7 +6,7 @@ use Rattle.std.proofs.lemmas.Bool.{ltb-false, le-ltb}
 use Rattle.std.proofs.lemmas.List.{take_at, drop_at, take-append-drop, length-append, length-take, get_or-drop}
 use Rattle.vx_dtype.specs.Types.{Bytes}
 use Rattle.vx_wire_text.specs.Numbers.{number_bytes, piece_bytes}
-use Rattle.vx_wire_text.specs.Nodes.{Head, head_bytes, IsHead}
+use Rattle.vx_wire_text.specs.Wires.{Head, head_bytes, IsHead}
 use Rattle.vx_wire_text.specs.Reading.{◌>>=◌, number_at, split_bytes, piece_at, checked_text, text_at, head_at}
 use Rattle.vx_wire_text.proofs.NumberLemmas.{IsBytes, bind_some, guard_some, some_is, Takes, Takes-then, number_takes, number_again, number_some}
 

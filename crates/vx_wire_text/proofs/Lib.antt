@@ -15,3 +15,4 @@ pub mod LengthLemmas
 pub mod ValueWriting
 pub mod ValueLoops
 pub mod ValueLemmas
+pub mod EqualLemmas

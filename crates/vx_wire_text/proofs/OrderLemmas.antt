@@ -4,7 +4,7 @@ use Rattle.std.specs.List.{AllByRecursion}
 use Rattle.std.proofs.lemmas.Bool.{cases_lt, lt-ltb, le-ltb, eqb-true}
 use Rattle.std.proofs.lemmas.List.{append-nil, length-append}
 use Rattle.vx_dtype.specs.Types.{Bytes}
-use Rattle.vx_wire_text.specs.Nodes.{Node, node, no_nodes, number_of, size_of, sizes_of, node_bytes, nodes_bytes, IsSpellable, Head, head_of, head_bytes, IsHead}
+use Rattle.vx_wire_text.specs.Wires.{Wire, node, no_wires, number_of, size_of, sizes_of, wire_bytes, wires_bytes, IsSpellable, Head, head_of, head_bytes, IsHead}
 use Rattle.vx_wire_text.specs.Openings.{Open, IsOpen, open_bytes, opening_bytes, begun}
 use Rattle.vx_wire_text.specs.Reading.{head_at, appended, Closed, still_open, all_whole, closed, Place, before, behind, nowhere, place_of, begins, place_after, next, place}
 use Rattle.vx_wire_text.proofs.NumberLemmas.{IsBytes}
@@ -21,9 +21,9 @@ pub record IsBefore (bytes : Bytes) (k : ℕ) (nodes : List Open) (rest : Bytes)
   pub fits : IsBytes rest
 
 -- the bytes before the rest are the tree
-pub record IsBehind (bytes : Bytes) (k : ℕ) (tree : Node) (rest : Bytes) : Type 0 where
+pub record IsBehind (bytes : Bytes) (k : ℕ) (tree : Wire) (rest : Bytes) : Type 0 where
   pub spellable : IsSpellable tree
-  pub parts : bytes ≡ node_bytes tree ++ rest
+  pub parts : bytes ≡ wire_bytes tree ++ rest
   pub count : size_of tree ≡ k
   pub fits : IsBytes rest
 
@@ -32,22 +32,22 @@ IsAt bytes k (before nodes rest) = IsBefore bytes k nodes rest
 IsAt bytes k (behind tree rest) = IsBehind bytes k tree rest
 IsAt bytes k nowhere = Unit {0}
 
-closed_is : (nodes : List Open) → AllByRecursion IsOpen nodes → (n : Node) → IsSpellable n → (bytes rest : Bytes) (k : ℕ) → bytes ≡ opening_bytes nodes ++ (node_bytes n ++ rest) → IsBytes rest → begun nodes + size_of n ≡ k → IsAt bytes k (place_of (closed nodes n) rest)
+closed_is : (nodes : List Open) → AllByRecursion IsOpen nodes → (n : Wire) → IsSpellable n → (bytes rest : Bytes) (k : ℕ) → bytes ≡ opening_bytes nodes ++ (wire_bytes n ++ rest) → IsBytes rest → begun nodes + size_of n ≡ k → IsAt bytes k (place_of (closed nodes n) rest)
 unfolding closed
 closed_is [] each n fits bytes rest k e are count = record { spellable = fits; parts = e; count = omega arith; fits = are }
 closed_is (o ∷ outer) each n fits bytes rest k e are count =
     let whole = appended o.whole n in
     let more = each.0.more in
-    let bytes_of : open_bytes o ++ (node_bytes n ++ rest) ≡ (head_bytes o.head ++ nodes_bytes whole) ++ rest =
-    sym (append_assoc (open_bytes o) (node_bytes n) rest) ∙ ap (λ (b : Bytes). b ++ rest) (append_assoc (head_bytes o.head) (nodes_bytes o.whole) (node_bytes n) ∙ ap (λ (b : Bytes). head_bytes o.head ++ b) (sym (nodes_bytes-appended o.whole n))) in
-    let parts : bytes ≡ opening_bytes outer ++ ((head_bytes o.head ++ nodes_bytes whole) ++ rest) = e ∙ append_assoc (opening_bytes outer) (open_bytes o) (node_bytes n ++ rest) ∙ ap (λ (b : Bytes). opening_bytes outer ++ b) bytes_of in
+    let bytes_of : open_bytes o ++ (wire_bytes n ++ rest) ≡ (head_bytes o.head ++ wires_bytes whole) ++ rest =
+    sym (append_assoc (open_bytes o) (wire_bytes n) rest) ∙ ap (λ (b : Bytes). b ++ rest) (append_assoc (head_bytes o.head) (wires_bytes o.whole) (wire_bytes n) ∙ ap (λ (b : Bytes). head_bytes o.head ++ b) (sym (nodes_bytes-appended o.whole n))) in
+    let parts : bytes ≡ opening_bytes outer ++ ((head_bytes o.head ++ wires_bytes whole) ++ rest) = e ∙ append_assoc (opening_bytes outer) (open_bytes o) (wire_bytes n ++ rest) ∙ ap (λ (b : Bytes). opening_bytes outer ++ b) bytes_of in
     let spellable = AreSpellable-appended o.whole n each.0.whole fits in
     let sizes : begun outer + (1 + sizes_of whole) ≡ k = omega (arith, sizes_of-appended o.whole n) in
     elim (cases_lt (number_of whole) o.head.children) [
       | inl lt ↦ rw (lt-ltb (number_of whole) o.head.children lt)
           (record {
             each = (record { head = each.0.head; whole = spellable; more = lt }, each.1);
-            parts = parts ∙ sym (append_assoc (opening_bytes outer) (head_bytes o.head ++ nodes_bytes whole) rest);
+            parts = parts ∙ sym (append_assoc (opening_bytes outer) (head_bytes o.head ++ wires_bytes whole) rest);
             count = sizes;
             fits = are;
           })
@@ -55,7 +55,7 @@ closed_is (o ∷ outer) each n fits bytes rest k e are count =
           let number : number_of whole ≡ o.head.children = omega (arith, number_of-appended o.whole n) in
           let head : head_of o.head.id o.head.metadata whole ≡ o.head = ap (λ (c : ℕ). let h : Head = record { id = o.head.id; metadata = o.head.metadata; children = c } in h) number in
           let is_head : IsHead (head_of o.head.id o.head.metadata whole) = subst IsHead (sym head) each.0.head in
-          let same : (head_bytes o.head ++ nodes_bytes whole) ++ rest ≡ node_bytes (node o.head.id o.head.metadata whole) ++ rest = ap (λ h. (head_bytes h ++ nodes_bytes whole) ++ rest) (sym head) in
+          let same : (head_bytes o.head ++ wires_bytes whole) ++ rest ≡ wire_bytes (node o.head.id o.head.metadata whole) ++ rest = ap (λ h. (head_bytes h ++ wires_bytes whole) ++ rest) (sym head) in
           rw (le-ltb (number_of whole) o.head.children le)
           (closed_is outer each.1 (node o.head.id o.head.metadata whole) (is_head, spellable) bytes rest k (parts ∙ ap (λ (b : Bytes). opening_bytes outer ++ b) same) are sizes)
     ]
@@ -75,9 +75,9 @@ begins_is nodes h bytes rest k each fits e are count =
       | inr le ↦
           let none : h.children ≡ 0 = omega arith in
           let test : eqb h.children 0 ≡ true = ap (λ n. eqb n 0) none in
-          let head : head_of h.id h.metadata no_nodes ≡ h = ap (λ (c : ℕ). let g : Head = record { id = h.id; metadata = h.metadata; children = c } in g) (sym none) in
-          let same : head_bytes h ++ rest ≡ node_bytes (node h.id h.metadata no_nodes) ++ rest = ap (λ (g : Head). head_bytes g ++ rest) (sym head) ∙ ap (λ (b : Bytes). b ++ rest) (sym (append-nil (head_bytes (head_of h.id h.metadata no_nodes)))) in
-          rw test (closed_is nodes each (node h.id h.metadata no_nodes) (subst IsHead (sym head) fits, tt) bytes rest (suc k) (e ∙ ap (λ (b : Bytes). opening_bytes nodes ++ b) same) are (omega arith))
+          let head : head_of h.id h.metadata no_wires ≡ h = ap (λ (c : ℕ). let g : Head = record { id = h.id; metadata = h.metadata; children = c } in g) (sym none) in
+          let same : head_bytes h ++ rest ≡ wire_bytes (node h.id h.metadata no_wires) ++ rest = ap (λ (g : Head). head_bytes g ++ rest) (sym head) ∙ ap (λ (b : Bytes). b ++ rest) (sym (append-nil (head_bytes (head_of h.id h.metadata no_wires)))) in
+          rw test (closed_is nodes each (node h.id h.metadata no_wires) (subst IsHead (sym head) fits, tt) bytes rest (suc k) (e ∙ ap (λ (b : Bytes). opening_bytes nodes ++ b) same) are (omega arith))
     ]
 
 next_is : (bytes : Bytes) (k : ℕ) (p : Place) → IsAt bytes k p → IsAt bytes (suc k) (next p)
@@ -108,7 +108,7 @@ over bytes (suc j) k e =
     let i : suc j + k ≡ suc (j + k) = omega arith in
     ap (λ i. place i bytes) i ∙ ap next (over bytes j k e)
 
-pub behind_next : (bytes : Bytes) (k : ℕ) (tree : Node) (rest : Bytes) → place k bytes ≡ behind tree rest → place (suc k) bytes ≡ nowhere
+pub behind_next : (bytes : Bytes) (k : ℕ) (tree : Wire) (rest : Bytes) → place k bytes ≡ behind tree rest → place (suc k) bytes ≡ nowhere
 unfolding place
 behind_next bytes k tree rest e = ap next e
 

@@ -3,7 +3,7 @@ use Rattle.std.proofs.Common.{◌≡◌, ◌≢◌, ℕ, suc, ◌+◌, ◌<◌, 
 use Rattle.std.proofs.lemmas.Bool.{cases_lt}
 use Rattle.std.proofs.lemmas.List.{append-nil, length-append}
 use Rattle.vx_dtype.specs.Types.{Bytes}
-use Rattle.vx_wire_text.specs.Nodes.{Node, size_of, node_bytes, IsSpellable, Spells, Head}
+use Rattle.vx_wire_text.specs.Wires.{Wire, size_of, wire_bytes, IsSpellable, Spells, Head}
 use Rattle.vx_wire_text.specs.Openings.{Open, opening_bytes, Opening, most_open, most_nodes, IsTooDeep, IsTooMany}
 use Rattle.vx_wire_text.specs.Reading.{head_at, Closed, closed, Place, before, behind, nowhere, place_of, begins, place_after, next, place}
 use Rattle.vx_wire_text.specs.ReadAnswers.{IsRead, IsBadWire}
@@ -147,14 +147,14 @@ no_limit bytes k nodes rest r lt shallow last = record {
 }
 
 -- where a tree is spelled, reading comes behind it
-spelled_is : (bytes : Bytes) (tree : Node) → Spells bytes tree → place (size_of tree) bytes ≡ behind tree []
+spelled_is : (bytes : Bytes) (tree : Wire) → Spells bytes tree → place (size_of tree) bytes ≡ behind tree []
 unfolding place closed
 spelled_is bytes tree s =
     let i : 0 + size_of tree ≡ size_of tree = omega arith in
-    ap (λ i. place i bytes) (sym i) ∙ node_step tree s.spellable 0 bytes [] [] (ap (before []) (s.spelled ∙ sym (append-nil (node_bytes tree))))
+    ap (λ i. place i bytes) (sym i) ∙ node_step tree s.spellable 0 bytes [] [] (ap (before []) (s.spelled ∙ sym (append-nil (wire_bytes tree))))
 
 -- the places before the one that was reached are between nodes
-is_between : (bytes : Bytes) (j k : ℕ) (nodes : List Open) (rest : Bytes) (tree : Node) (left : Bytes) → j ≤ k → place k bytes ≡ before nodes rest → place j bytes ≢ behind tree left
+is_between : (bytes : Bytes) (j k : ℕ) (nodes : List Open) (rest : Bytes) (tree : Wire) (left : Bytes) → j ≤ k → place k bytes ≡ before nodes rest → place j bytes ≢ behind tree left
 is_between bytes j k nodes rest tree left le here at =
     elim (cases_lt j k) [
       | inl lt ↦
@@ -185,20 +185,20 @@ bad_head bytes k nodes rest r lt shallow none =
       not_many = limit.not_many;
     }
 
-behind_last : (bytes : Bytes) (k : ℕ) (tree : Node) (left : Bytes) → place (suc k) bytes ≡ behind tree left → IsLast bytes k
+behind_last : (bytes : Bytes) (k : ℕ) (tree : Wire) (left : Bytes) → place (suc k) bytes ≡ behind tree left → IsLast bytes k
 behind_last bytes k tree left at ns rest e = let never : behind tree left ≡ before ns rest = sym at ∙ e in cc
 
-pub is_read : (bytes : Bytes) → IsBytes bytes → (k : ℕ) (nodes : List Open) (rest : Bytes) (tree : Node) → Reached bytes k nodes rest → k < most_nodes → length nodes ≢ most_open → place (suc k) bytes ≡ behind tree [] → IsRead bytes tree
+pub is_read : (bytes : Bytes) → IsBytes bytes → (k : ℕ) (nodes : List Open) (rest : Bytes) (tree : Wire) → Reached bytes k nodes rest → k < most_nodes → length nodes ≢ most_open → place (suc k) bytes ≡ behind tree [] → IsRead bytes tree
 is_read bytes fits k nodes rest tree r lt shallow at =
     let limit = no_limit bytes k nodes rest r lt shallow (behind_last bytes k tree [] at) in
     let b : IsBehind bytes (suc k) tree [] = subst (IsAt bytes (suc k)) at (place_is bytes fits (suc k)) in
     record {
-      spelled = record { spellable = b.spellable; spelled = b.parts ∙ append-nil (node_bytes tree) };
+      spelled = record { spellable = b.spellable; spelled = b.parts ∙ append-nil (wire_bytes tree) };
       not_deep = limit.not_deep;
       not_many = limit.not_many;
     }
 
-pub left_over : (bytes : Bytes) (k : ℕ) (nodes : List Open) (rest : Bytes) (tree : Node) (left : Bytes) → Reached bytes k nodes rest → k < most_nodes → length nodes ≢ most_open → place (suc k) bytes ≡ behind tree left → left ≢ [] → IsBadWire bytes
+pub left_over : (bytes : Bytes) (k : ℕ) (nodes : List Open) (rest : Bytes) (tree : Wire) (left : Bytes) → Reached bytes k nodes rest → k < most_nodes → length nodes ≢ most_open → place (suc k) bytes ≡ behind tree left → left ≢ [] → IsBadWire bytes
 left_over bytes k nodes rest tree left r lt shallow at some =
     let limit = no_limit bytes k nodes rest r lt shallow (behind_last bytes k tree left at) in
     record {
@@ -225,10 +225,10 @@ left_over bytes k nodes rest tree left r lt shallow at some =
 -- ---- laws
 
 -- no text of a node begins another
-pub one_node : (a b : Node) (x y : Bytes) → IsSpellable a → IsSpellable b → node_bytes a ++ x ≡ node_bytes b ++ y → (a ≡ b) × (x ≡ y)
+pub one_node : (a b : Wire) (x y : Bytes) → IsSpellable a → IsSpellable b → wire_bytes a ++ x ≡ wire_bytes b ++ y → (a ≡ b) × (x ≡ y)
 unfolding place closed
 one_node a b x y fa fb e =
-    let bytes = node_bytes a ++ x in
+    let bytes = wire_bytes a ++ x in
     let i : 0 + size_of a ≡ size_of a = omega arith in
     let j : 0 + size_of b ≡ size_of b = omega arith in
     let at_a : place (size_of a) bytes ≡ behind a x = ap (λ i. place i bytes) (sym i) ∙ node_step a fa 0 bytes [] x refl in

@@ -3,9 +3,9 @@ use Rattle.std.proofs.Common.{◌≡◌, ◌<◌, ◌≤◌, List, [], ◌∷◌
 use Rattle.std.specs.Prelude.{reverse}
 use Rattle.std.proofs.lemmas.Bool.{lt-ltb, le-ltb}
 use Rattle.std.proofs.lemmas.List.{map-append, reverse-append, length-reverse, length-map}
-use Rattle.vx_wire_text.specs.Nodes.{Node, node, first, number_of}
+use Rattle.vx_wire_text.specs.Wires.{Wire, node, first, number_of}
 use Rattle.vx_wire_text.specs.Reading.{appended, Closed, still_open, all_whole, closed}
-use Rattle.vx_wire_text.specs.NodeViews.{tree_view, trees_view, nodes_of}
+use Rattle.vx_wire_text.specs.WireViews.{tree_view, trees_view, wires_in}
 use Rattle.vx_wire_text.specs.OpenViews.{head_view, open_view, stack_of}
 use Rattle.vx_wire_text.specs.declared.trees.WireTree.{WireTree}
 use Rattle.vx_wire_text.specs.declared.reading.OpenNode.{OpenNode}
@@ -13,12 +13,12 @@ use Rattle.vx_wire_text.specs.declared.reading.OpenNode.{OpenNode}
 pub stack_of-push : (os : List OpenNode) (o : OpenNode) → stack_of (os ++ o ∷ []) ≡ open_view o ∷ stack_of os
 stack_of-push os o = ap reverse (map-append open_view os (o ∷ [])) ∙ reverse-append (map open_view os) (open_view o ∷ [])
 
-nodes_of-push : (ns : List Node) (n : Node) → nodes_of (ns ++ n ∷ []) ≡ appended (nodes_of ns) n
+nodes_of-push : (ns : List Wire) (n : Wire) → wires_in (ns ++ n ∷ []) ≡ appended (wires_in ns) n
 nodes_of-push [] n = refl
 nodes_of-push (m ∷ ns) n = ap (first m) (nodes_of-push ns n)
 
 pub trees_view-push : (ts : List WireTree) (t : WireTree) → trees_view (ts ++ t ∷ []) ≡ appended (trees_view ts) (tree_view t)
-trees_view-push ts t = ap nodes_of (map-append tree_view ts (t ∷ [])) ∙ nodes_of-push (map tree_view ts) (tree_view t)
+trees_view-push ts t = ap wires_in (map-append tree_view ts (t ∷ [])) ∙ nodes_of-push (map tree_view ts) (tree_view t)
 
 pub number_of-trees_view : (ts : List WireTree) → number_of (trees_view ts) ≡ length ts
 number_of-trees_view [] = refl

@@ -5,21 +5,21 @@ use Rattle.vx_dtype.specs.declared.PType.{PType}
 use Rattle.vx_dtype.specs.declared.PType.TheVariants.{U8, U16, U32, U64, I8, I16, I32, I64}
 use Rattle.vx_dtype.specs.declared.Nullability.{Nullability}
 use Rattle.vx_dtype.specs.declared.Nullability.TheVariants.{NonNullable, Nullable}
-use Rattle.vx_dtype.specs.TypeRules.{depth_of, depth_below}
+use Rattle.vx_dtype.specs.TypeRules.{depth_of, depth_below, null_number, ptype_number, null_numbered, ptype_numbered}
 use Rattle.vx_wire_text.specs.Numbers.{number_bytes, piece_bytes}
-use Rattle.vx_wire_text.specs.TypeForms.{nullability_byte, width_byte, fields_number, type_bytes, fields_bytes, HasNames, HaveNames}
+use Rattle.vx_wire_text.specs.TypeForms.{fields_number, type_bytes, fields_bytes, HasNames, HaveNames}
 use Rattle.vx_wire_text.specs.Reading.{◌>>=◌, number_at, text_at}
-use Rattle.vx_wire_text.specs.TypeReading.{nullability_at, width_at, fields_with, all_fields_with, kind_with, type_at}
+use Rattle.vx_wire_text.specs.TypeReading.{fields_with, all_fields_with, kind_with, type_at}
 use Rattle.vx_wire_text.proofs.NumberLemmas.{IsBytes, IsBytes-rest, bind_some, some_is, Takes, Takes-then, number_takes, number_again}
 use Rattle.vx_wire_text.proofs.HeadLemmas.{text_takes, text_again}
 
 -- ---- what was written is read again
 
-nullability_again : (n : Nullability) → nullability_at (nullability_byte n) ≡ Some n
+nullability_again : (n : Nullability) → null_numbered (null_number n) ≡ Some n
 nullability_again NonNullable = refl
 nullability_again Nullable = refl
 
-width_again : (p : PType) → width_at (width_byte p) ≡ Some p
+width_again : (p : PType) → ptype_numbered (ptype_number p) ≡ Some p
 width_again U8 = refl
 width_again U16 = refl
 width_again U32 = refl
@@ -64,20 +64,20 @@ mutual
 
 -- ---- what is read is spelled so
 
-nullability_takes : (b : ℕ) (n : Nullability) → nullability_at b ≡ Some n → nullability_byte n ≡ b
-nullability_takes zero n e = ap nullability_byte (sym (some_is NonNullable n e))
-nullability_takes (suc zero) n e = ap nullability_byte (sym (some_is Nullable n e))
+nullability_takes : (b : ℕ) (n : Nullability) → null_numbered b ≡ Some n → null_number n ≡ b
+nullability_takes zero n e = ap null_number (sym (some_is NonNullable n e))
+nullability_takes (suc zero) n e = ap null_number (sym (some_is Nullable n e))
 nullability_takes (suc (suc b)) n e = absurd cc
 
-width_takes : (b : ℕ) (p : PType) → width_at b ≡ Some p → width_byte p ≡ b
-width_takes zero p e = ap width_byte (sym (some_is U8 p e))
-width_takes (suc zero) p e = ap width_byte (sym (some_is U16 p e))
-width_takes (suc (suc zero)) p e = ap width_byte (sym (some_is U32 p e))
-width_takes (suc (suc (suc zero))) p e = ap width_byte (sym (some_is U64 p e))
-width_takes (suc (suc (suc (suc zero)))) p e = ap width_byte (sym (some_is I8 p e))
-width_takes (suc (suc (suc (suc (suc zero))))) p e = ap width_byte (sym (some_is I16 p e))
-width_takes (suc (suc (suc (suc (suc (suc zero)))))) p e = ap width_byte (sym (some_is I32 p e))
-width_takes (suc (suc (suc (suc (suc (suc (suc zero))))))) p e = ap width_byte (sym (some_is I64 p e))
+width_takes : (b : ℕ) (p : PType) → ptype_numbered b ≡ Some p → ptype_number p ≡ b
+width_takes zero p e = ap ptype_number (sym (some_is U8 p e))
+width_takes (suc zero) p e = ap ptype_number (sym (some_is U16 p e))
+width_takes (suc (suc zero)) p e = ap ptype_number (sym (some_is U32 p e))
+width_takes (suc (suc (suc zero))) p e = ap ptype_number (sym (some_is U64 p e))
+width_takes (suc (suc (suc (suc zero)))) p e = ap ptype_number (sym (some_is I8 p e))
+width_takes (suc (suc (suc (suc (suc zero))))) p e = ap ptype_number (sym (some_is I16 p e))
+width_takes (suc (suc (suc (suc (suc (suc zero)))))) p e = ap ptype_number (sym (some_is I32 p e))
+width_takes (suc (suc (suc (suc (suc (suc (suc zero))))))) p e = ap ptype_number (sym (some_is I64 p e))
 width_takes (suc (suc (suc (suc (suc (suc (suc (suc b)))))))) p e = absurd cc
 
 -- a type that was taken from the front, no deeper than so much
@@ -114,20 +114,20 @@ fields_take deep read reads (suc k) bytes x fits e =
     (record { taken = all; names = (record { utf8 = name.2; short = name.1 }, type.names, others.names); number = omega (arith, others.number); depth = omega (arith, type.depth, others.depth) })
 
 -- the two bytes before what a kind has
-tagged : (tag null : ℕ) (n : Nullability) (text rest left : Bytes) → nullability_byte n ≡ null → Takes rest text left → Takes (tag ∷ null ∷ rest) (tag ∷ nullability_byte n ∷ text) left
+tagged : (tag null : ℕ) (n : Nullability) (text rest left : Bytes) → null_number n ≡ null → Takes rest text left → Takes (tag ∷ null ∷ rest) (tag ∷ null_number n ∷ text) left
 tagged tag null n text rest left e t = record { parts = ap (λ (b : Bytes). tag ∷ null ∷ b) t.parts ∙ ap (λ b. tag ∷ b ∷ (text ++ left)) (sym e); fits = t.fits }
 
-kind_takes : (deep : ℕ) (read : Bytes → Option (Ty × Bytes)) → ReadsTypes deep read → (tag null : ℕ) (n : Nullability) (rest : Bytes) (x : Ty × Bytes) → IsBytes rest → nullability_byte n ≡ null → kind_with read tag n rest ≡ Some x → TakesType (suc deep) (tag ∷ null ∷ rest) x.0 x.1
+kind_takes : (deep : ℕ) (read : Bytes → Option (Ty × Bytes)) → ReadsTypes deep read → (tag null : ℕ) (n : Nullability) (rest : Bytes) (x : Ty × Bytes) → IsBytes rest → null_number n ≡ null → kind_with read tag n rest ≡ Some x → TakesType (suc deep) (tag ∷ null ∷ rest) x.0 x.1
 unfolding depth_of all_fields_with
 kind_takes deep read reads zero null n rest x fits is e =
     subst (λ (y : Ty × Bytes). TakesType (suc deep) (0 ∷ null ∷ rest) y.0 y.1) (some_is (bool_ty n, rest) x e)
     (record { taken = tagged 0 null n [] rest rest is (record { parts = refl; fits = fits }); names = tt; depth = omega arith })
 kind_takes deep read reads (suc zero) null n [] x fits is e = absurd cc
 kind_takes deep read reads (suc zero) null n (w ∷ rest) x fits is e =
-    let a = bind_some (width_at w) (λ p. Some (int_ty p n, rest)) x e in
+    let a = bind_some (ptype_numbered w) (λ p. Some (int_ty p n, rest)) x e in
     let width = width_takes w a.0 a.1 in
     subst (λ (y : Ty × Bytes). TakesType (suc deep) (1 ∷ null ∷ w ∷ rest) y.0 y.1) (some_is (int_ty a.0 n, rest) x a.2)
-    (record { taken = tagged 1 null n (width_byte a.0 ∷ []) (w ∷ rest) rest is (record { parts = ap (λ b. b ∷ rest) (sym width); fits = IsBytes-rest w rest fits }); names = tt; depth = omega arith })
+    (record { taken = tagged 1 null n (ptype_number a.0 ∷ []) (w ∷ rest) rest is (record { parts = ap (λ b. b ∷ rest) (sym width); fits = IsBytes-rest w rest fits }); names = tt; depth = omega arith })
 kind_takes deep read reads (suc (suc zero)) null n rest x fits is e =
     subst (λ (y : Ty × Bytes). TakesType (suc deep) (2 ∷ null ∷ rest) y.0 y.1) (some_is (text_ty n, rest) x e)
     (record { taken = tagged 2 null n [] rest rest is (record { parts = refl; fits = fits }); names = tt; depth = omega arith })
@@ -153,5 +153,5 @@ type_takes zero bytes x fits e = absurd cc
 type_takes (suc deep) [] x fits e = absurd cc
 type_takes (suc deep) (tag ∷ []) x fits e = absurd cc
 type_takes (suc deep) (tag ∷ null ∷ rest) x fits e =
-    let a = bind_some (nullability_at null) (λ n. kind_with (type_at deep) tag n rest) x e in
+    let a = bind_some (null_numbered null) (λ n. kind_with (type_at deep) tag n rest) x e in
     kind_takes deep (type_at deep) (type_takes deep) tag null a.0 rest x (IsBytes-rest null rest (IsBytes-rest tag (null ∷ rest) fits)) (nullability_takes null a.0 a.1) a.2

@@ -3,9 +3,9 @@ use Rattle.std.proofs.Common.{◌≡◌, ℕ, zero, suc, ◌+◌, ◌/◌, ◌%�
 use Rattle.std.proofs.lemmas.List.{append-nil, take_all}
 use Rattle.vx_dtype.specs.Types.{Bytes}
 use Rattle.vx_wire_text.specs.Numbers.{sevens, bound, number_bytes, piece_bytes}
-use Rattle.vx_wire_text.specs.Nodes.{node, node_bytes, nodes_bytes, head_bytes, head_of_tree, IsHead, IsSpellable, AreSpellable, IsShort, AreShort}
+use Rattle.vx_wire_text.specs.Wires.{node, wire_bytes, wires_bytes, head_bytes, head_of_tree, IsHead, IsSpellable, AreSpellable, HasShortParts, HaveShortParts}
 use Rattle.vx_wire_text.specs.Reading.{appended}
-use Rattle.vx_wire_text.specs.NodeViews.{tree_view, trees_view}
+use Rattle.vx_wire_text.specs.WireViews.{tree_view, trees_view}
 use Rattle.vx_wire_text.specs.WriteAnswers.{IsUnwritten}
 use Rattle.vx_wire_text.specs.declared.errors.WireError.{WireError}
 use Rattle.vx_wire_text.specs.declared.errors.WireError.TheVariants as errors
@@ -52,43 +52,43 @@ head_written old after_id after_metadata new id metadata n a b c =
 pub record IsWritingNode (old new : Bytes) (tree : WireTree) (k : ℕ) : Type 0 where
   pub head : IsHead (head_of_tree (tree_view tree))
   pub whole : AreSpellable (trees_view (take k (out-WireTree tree).children.items))
-  pub written : new ≡ old ++ (head_bytes (head_of_tree (tree_view tree)) ++ nodes_bytes (trees_view (take k (out-WireTree tree).children.items)))
+  pub written : new ≡ old ++ (head_bytes (head_of_tree (tree_view tree)) ++ wires_bytes (trees_view (take k (out-WireTree tree).children.items)))
 
 pub node_goes_on : (old new after : Bytes) (tree : WireTree) (k : ℕ) (child : WireTree) → IsWritingNode old new tree k → take (k + 1) (out-WireTree tree).children.items ≡ take k (out-WireTree tree).children.items ++ child ∷ []
-    → IsSpellable (tree_view child) → after ≡ new ++ node_bytes (tree_view child) → IsWritingNode old after tree (k + 1)
+    → IsSpellable (tree_view child) → after ≡ new ++ wire_bytes (tree_view child) → IsWritingNode old after tree (k + 1)
 node_goes_on old new after tree k child w more fits e =
     let front = trees_view (take k (out-WireTree tree).children.items) in
     let row : trees_view (take (k + 1) (out-WireTree tree).children.items) ≡ appended front (tree_view child) = ap trees_view more ∙ trees_view-push (take k (out-WireTree tree).children.items) child in
-    let bytes : nodes_bytes (trees_view (take (k + 1) (out-WireTree tree).children.items)) ≡ nodes_bytes front ++ node_bytes (tree_view child) = ap nodes_bytes row ∙ nodes_bytes-appended front (tree_view child) in
+    let bytes : wires_bytes (trees_view (take (k + 1) (out-WireTree tree).children.items)) ≡ wires_bytes front ++ wire_bytes (tree_view child) = ap wires_bytes row ∙ nodes_bytes-appended front (tree_view child) in
     let head = head_bytes (head_of_tree (tree_view tree)) in
     record {
       head = w.head;
       whole = subst AreSpellable (sym row) (AreSpellable-appended front (tree_view child) w.whole fits);
-      written = e ∙ ap (λ (b : Bytes). b ++ node_bytes (tree_view child)) w.written ∙ append_assoc old (head ++ nodes_bytes front) (node_bytes (tree_view child))
-          ∙ ap (λ (b : Bytes). old ++ b) (append_assoc head (nodes_bytes front) (node_bytes (tree_view child)) ∙ ap (λ (b : Bytes). head ++ b) (sym bytes));
+      written = e ∙ ap (λ (b : Bytes). b ++ wire_bytes (tree_view child)) w.written ∙ append_assoc old (head ++ wires_bytes front) (wire_bytes (tree_view child))
+          ∙ ap (λ (b : Bytes). old ++ b) (append_assoc head (wires_bytes front) (wire_bytes (tree_view child)) ∙ ap (λ (b : Bytes). head ++ b) (sym bytes));
     }
 
-pub node_ends : (old new : Bytes) (tree : WireTree) (k : ℕ) → length (out-WireTree tree).children.items ≤ k → IsWritingNode old new tree k → IsSpellable (tree_view tree) × (new ≡ old ++ node_bytes (tree_view tree))
+pub node_ends : (old new : Bytes) (tree : WireTree) (k : ℕ) → length (out-WireTree tree).children.items ≤ k → IsWritingNode old new tree k → IsSpellable (tree_view tree) × (new ≡ old ++ wire_bytes (tree_view tree))
 node_ends old new tree k le w =
     let items = (out-WireTree tree).children.items in
     let all : take k items ≡ items = take_all k items le in
     let see = tree_view-out tree in
     let whole : AreSpellable (trees_view items) = subst (λ ts. AreSpellable (trees_view ts)) all w.whole in
     let head : IsHead (head_of_tree (node (out-WireTree tree).id (out-WireTree tree).metadata.items (trees_view items))) = subst (λ n. IsHead (head_of_tree n)) see w.head in
-    let written : new ≡ old ++ (head_bytes (head_of_tree (tree_view tree)) ++ nodes_bytes (trees_view items)) = w.written ∙ ap (λ ts. old ++ (head_bytes (head_of_tree (tree_view tree)) ++ nodes_bytes (trees_view ts))) all in (
+    let written : new ≡ old ++ (head_bytes (head_of_tree (tree_view tree)) ++ wires_bytes (trees_view items)) = w.written ∙ ap (λ ts. old ++ (head_bytes (head_of_tree (tree_view tree)) ++ wires_bytes (trees_view ts))) all in (
       subst IsSpellable (sym see) (head, whole),
-      written ∙ ap (λ n. old ++ (head_bytes (head_of_tree n) ++ nodes_bytes (trees_view items))) see ∙ ap (λ n. old ++ node_bytes n) (sym see),
+      written ∙ ap (λ n. old ++ (head_bytes (head_of_tree n) ++ wires_bytes (trees_view items))) see ∙ ap (λ n. old ++ wire_bytes n) (sym see),
     )
 
 -- a child that is too long makes its parent too long
-short_items : (ts : List WireTree) (i : ℕ) (t : WireTree) → i < length ts → t ≡ get_or ts i t → AreShort (trees_view ts) → IsShort (tree_view t)
+short_items : (ts : List WireTree) (i : ℕ) (t : WireTree) → i < length ts → t ≡ get_or ts i t → HaveShortParts (trees_view ts) → HasShortParts (tree_view t)
 short_items [] i t lt e short = absurd (omega arith)
-short_items (x ∷ ts) zero t lt e short = subst (λ y. IsShort (tree_view y)) (sym e) short.0
+short_items (x ∷ ts) zero t lt e short = subst (λ y. HasShortParts (tree_view y)) (sym e) short.0
 short_items (x ∷ ts) (suc i) t lt e short = short_items ts i t (omega arith) e short.1
 
-pub short_child : (tree t : WireTree) (i : ℕ) → i < length (out-WireTree tree).children.items → t ≡ get_or (out-WireTree tree).children.items i t → IsShort (tree_view tree) → IsShort (tree_view t)
+pub short_child : (tree t : WireTree) (i : ℕ) → i < length (out-WireTree tree).children.items → t ≡ get_or (out-WireTree tree).children.items i t → HasShortParts (tree_view tree) → HasShortParts (tree_view t)
 short_child tree t i lt e short =
-    let parts = subst IsShort (tree_view-out tree) short in
+    let parts = subst HasShortParts (tree_view-out tree) short in
     short_items (out-WireTree tree).children.items i t lt e parts.3
 
 pub unwritten_child : (tree t : WireTree) (i : ℕ) (e : WireError) → i < length (out-WireTree tree).children.items → t ≡ get_or (out-WireTree tree).children.items i t → IsUnwritten (tree_view t) e → IsUnwritten (tree_view tree) e

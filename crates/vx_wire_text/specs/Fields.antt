@@ -13,18 +13,18 @@ abbrev pub IsFieldAt : {A : Type 0} → (A → Bytes) → (A → Type 0) → Byt
 IsFieldAt spelling HasSpelling bytes at (Some found) = HasSpelling found.0 × Stands bytes at (spelling found.0) found.1
 IsFieldAt {A} spelling HasSpelling bytes at None = (value : A) (rest : Bytes) → HasSpelling value → drop at bytes ≢ spelling value ++ rest
 
--- a number that has a spelling
+-- a number that has a spelling: below 2 ^ 32
 abbrev pub IsNumber : ℕ → Type 0
 IsNumber n = n < 2 ^ 32
 
 -- bytes whose number has a spelling
 abbrev pub IsShort : Bytes → Type 0
-IsShort bytes = length bytes < 2 ^ 32
+IsShort bytes = IsNumber (length bytes)
 
--- a text that has a spelling: UTF-8, and shorter than 2 ^ 32
+-- a text that has a spelling: UTF-8 whose length has one
 pub record IsText (text : Bytes) : Type 0 where
   pub utf8 : is_utf8 text ≡ true
-  pub short : length text < 2 ^ 32
+  pub short : IsShort text
 
 -- something was written behind what stood there
 pub record Extends (old new : Bytes) : Type 0 where

@@ -1,8 +1,10 @@
 pub mod Numbers
-pub mod Nodes
+pub mod Wires
+pub mod WireEqual
+pub mod EqualLaws
 pub mod Openings
 pub mod Reading
-pub mod NodeViews
+pub mod WireViews
 pub mod OpenViews
 pub mod ReadAnswers
 pub mod WriteAnswers

@@ -1,9 +1,10 @@
+-- For the checker: no public clause cites this.
 -- How the reader's stack is seen: as the open nodes, the innermost first.
 use Rattle.std.specs.Prelude.{List, map, reverse, Option, Some, None}
-use Rattle.vx_wire_text.specs.Nodes.{Head}
+use Rattle.vx_wire_text.specs.Wires.{Head}
 use Rattle.vx_wire_text.specs.Openings.{Open}
 use Rattle.vx_wire_text.specs.Reading.{Closed, still_open, all_whole}
-use Rattle.vx_wire_text.specs.NodeViews.{tree_view, trees_view}
+use Rattle.vx_wire_text.specs.WireViews.{tree_view, trees_view}
 use Rattle.vx_wire_text.specs.declared.trees.WireTree.{WireTree}
 use Rattle.vx_wire_text.specs.declared.reading.OpenNode.{OpenNode}
 

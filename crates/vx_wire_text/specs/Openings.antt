@@ -2,12 +2,12 @@
 use Rattle.std.specs.Prelude.{◌≡◌, ℕ, ◌+◌, ◌<◌, ◌≤◌, List, [], ◌∷◌, ◌++◌, length}
 use Rattle.std.specs.List.{AllByRecursion}
 use Rattle.vx_dtype.specs.Types.{Bytes}
-use Rattle.vx_wire_text.specs.Nodes.{Nodes, number_of, sizes_of, nodes_bytes, AreSpellable, Head, head_bytes, IsHead}
+use Rattle.vx_wire_text.specs.Wires.{Wires, number_of, sizes_of, wires_bytes, AreSpellable, Head, head_bytes, IsHead}
 
 -- a node that is open: its head, and the children of it that stand whole
 pub record Open : Type 0 where
   pub head : Head
-  pub whole : Nodes
+  pub whole : Wires
 
 -- more children than those that stand whole are to come, and all that stands has a spelling
 pub record IsOpen (o : Open) : Type 0 where
@@ -17,7 +17,7 @@ pub record IsOpen (o : Open) : Type 0 where
 
 -- what is written of an open node: its head, and its whole children
 abbrev pub open_bytes : Open → Bytes
-open_bytes o = head_bytes o.head ++ nodes_bytes o.whole
+open_bytes o = head_bytes o.head ++ wires_bytes o.whole
 
 -- what is written of nodes that are open one in the other, of which the list names the innermost first
 abbrev pub opening_bytes : List Open → Bytes

@@ -1,19 +1,19 @@
 -- What reading a wire text answers, and why it refuses.
 use Rattle.vx_dtype.specs.Types.{Bytes}
-use Rattle.vx_wire_text.specs.Nodes.{Node, Spells}
+use Rattle.vx_wire_text.specs.Wires.{Wire, Spells}
 use Rattle.vx_wire_text.specs.Openings.{IsTooDeep, IsTooMany}
 use Rattle.vx_wire_text.specs.declared.errors.WireError.{WireError}
 use Rattle.vx_wire_text.specs.declared.errors.WireError.TheVariants as errors
 
 -- the bytes spell the tree, and meet neither limit
-pub record IsRead (bytes : Bytes) (tree : Node) : Type 0 where
+pub record IsRead (bytes : Bytes) (tree : Wire) : Type 0 where
   pub spelled : Spells bytes tree
   pub not_deep : ¬ (IsTooDeep bytes)
   pub not_many : ¬ (IsTooMany bytes)
 
 -- the bytes spell no tree, and meet neither limit
 pub record IsBadWire (bytes : Bytes) : Type 0 where
-  pub no_tree : (tree : Node) → ¬ (Spells bytes tree)
+  pub no_tree : (tree : Wire) → ¬ (Spells bytes tree)
   pub not_deep : ¬ (IsTooDeep bytes)
   pub not_many : ¬ (IsTooMany bytes)
 

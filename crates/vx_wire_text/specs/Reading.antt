@@ -1,8 +1,9 @@
+-- For the checker: no public clause cites this.
 -- Reading from left to right: fields, heads, and the places between nodes.
 use Rattle.std.specs.Prelude.{ℕ, zero, suc, ◌+◌, ◌*◌, ◌-◌, List, [], ◌∷◌, length, take, drop, Option, Some, None, nat_lt, ◌==◌, if◌then◌else◌}
 use Rattle.std.specs.Str.{is_utf8}
 use Rattle.vx_dtype.specs.Types.{Bytes}
-use Rattle.vx_wire_text.specs.Nodes.{Node, node, Nodes, no_nodes, first, number_of, Head}
+use Rattle.vx_wire_text.specs.Wires.{Wire, node, Wires, no_wires, first, number_of, Head}
 use Rattle.vx_wire_text.specs.Openings.{Open}
 
 -- the step after a field that was read, none where there was none
@@ -46,22 +47,22 @@ head_at bytes = do
   children ← number_at metadata.1
   Some (record { id = id.0; metadata = metadata.0; children = children.0 }, children.1)
 
--- the row with a node at its end
-abbrev pub appended : Nodes → Node → Nodes
-appended no_nodes n = first n no_nodes
+-- the list with a node at its end
+abbrev pub appended : Wires → Wire → Wires
+appended no_wires n = first n no_wires
 appended (first m ns) n = first m (appended ns n)
 
 -- what a node that has become whole leaves: nodes that are still open, or the whole tree
 pub data Closed : Type 0 where
   still_open : List Open → Closed
-  all_whole : Node → Closed
+  all_whole : Wire → Closed
 
 -- an open node with so many whole children is still open, or is whole itself
-abbrev pub settled : Head → Nodes → List Open → Closed → Closed
+abbrev pub settled : Head → Wires → List Open → Closed → Closed
 settled h whole outer closed_outer = if nat_lt (number_of whole) h.children then still_open (record { head = h; whole = whole } ∷ outer) else closed_outer
 
 -- the innermost open node gets a whole child, and becomes one in turn where that was the last
-unfoldable pub closed : List Open → Node → Closed
+unfoldable pub closed : List Open → Wire → Closed
 closed [] n = all_whole n
 closed (inner ∷ outer) n =
     let whole = appended inner.whole n in
@@ -70,7 +71,7 @@ closed (inner ∷ outer) n =
 -- a place in the bytes: before a node, with the nodes that are open and the bytes to come; behind the whole tree; or where no head can be read
 pub data Place : Type 0 where
   before : List Open → Bytes → Place
-  behind : Node → Bytes → Place
+  behind : Wire → Bytes → Place
   nowhere : Place
 
 abbrev pub place_of : Closed → Bytes → Place
@@ -79,7 +80,7 @@ place_of (all_whole tree) rest = behind tree rest
 
 -- what a head that was read begins: a node that is open, or one that is whole at once
 abbrev pub begins : List Open → Head → Closed
-begins nodes h = if h.children == 0 then closed nodes (node h.id h.metadata no_nodes) else still_open (record { head = h; whole = no_nodes } ∷ nodes)
+begins nodes h = if h.children == 0 then closed nodes (node h.id h.metadata no_wires) else still_open (record { head = h; whole = no_wires } ∷ nodes)
 
 abbrev pub place_after : List Open → Option (Head × Bytes) → Place
 place_after nodes None = nowhere

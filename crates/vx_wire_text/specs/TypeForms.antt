@@ -1,29 +1,9 @@
 -- The wire form of types.
-use Rattle.std.specs.Prelude.{ℕ, ◌+◌, ◌<◌, ◌≤◌, ◌^◌, [], ◌∷◌, ◌++◌}
+use Rattle.std.specs.Prelude.{ℕ, ◌+◌, ◌≤◌, [], ◌∷◌, ◌++◌}
 use Rattle.vx_dtype.specs.Types.{Bytes, Ty, bool_ty, int_ty, text_ty, list_ty, struct_ty, Fields, no_fields, field}
-use Rattle.vx_dtype.specs.declared.PType.{PType}
-use Rattle.vx_dtype.specs.declared.PType.TheVariants.{U8, U16, U32, U64, I8, I16, I32, I64}
-use Rattle.vx_dtype.specs.declared.Nullability.{Nullability}
-use Rattle.vx_dtype.specs.declared.Nullability.TheVariants.{NonNullable, Nullable}
-use Rattle.vx_dtype.specs.TypeRules.{depth_of, most_deep}
+use Rattle.vx_dtype.specs.TypeRules.{depth_of, most_deep, null_number, ptype_number}
 use Rattle.vx_wire_text.specs.Numbers.{number_bytes, piece_bytes}
-use Rattle.vx_wire_text.specs.Fields.{IsText}
-
--- the byte of a nullability
-abbrev pub nullability_byte : Nullability → ℕ
-nullability_byte NonNullable = 0
-nullability_byte Nullable = 1
-
--- the byte of an integer type
-abbrev pub width_byte : PType → ℕ
-width_byte U8 = 0
-width_byte U16 = 1
-width_byte U32 = 2
-width_byte U64 = 3
-width_byte I8 = 4
-width_byte I16 = 5
-width_byte I32 = 6
-width_byte I64 = 7
+use Rattle.vx_wire_text.specs.Fields.{IsNumber, IsText}
 
 -- how many fields there are
 abbrev pub fields_number : Fields → ℕ
@@ -31,13 +11,13 @@ fields_number no_fields = 0
 fields_number (field f t fs) = 1 + fields_number fs
 
 abbrev mutual
-  -- the bytes of a type: its tag, its nullability, and what its kind has
+  -- the bytes of a type: its tag, the number of its nullability, and what its kind has
   pub type_bytes : Ty → Bytes
-  type_bytes (bool_ty n) = 0 ∷ nullability_byte n ∷ []
-  type_bytes (int_ty p n) = 1 ∷ nullability_byte n ∷ width_byte p ∷ []
-  type_bytes (text_ty n) = 2 ∷ nullability_byte n ∷ []
-  type_bytes (list_ty e n) = 3 ∷ nullability_byte n ∷ type_bytes e
-  type_bytes (struct_ty fs n) = 4 ∷ nullability_byte n ∷ (number_bytes (fields_number fs) ++ fields_bytes fs)
+  type_bytes (bool_ty n) = 0 ∷ null_number n ∷ []
+  type_bytes (int_ty p n) = 1 ∷ null_number n ∷ ptype_number p ∷ []
+  type_bytes (text_ty n) = 2 ∷ null_number n ∷ []
+  type_bytes (list_ty e n) = 3 ∷ null_number n ∷ type_bytes e
+  type_bytes (struct_ty fs n) = 4 ∷ null_number n ∷ (number_bytes (fields_number fs) ++ fields_bytes fs)
 
   -- each field's name and type
   pub fields_bytes : Fields → Bytes
@@ -51,7 +31,7 @@ abbrev mutual
   NamesAre Given (int_ty p n) = Unit {0}
   NamesAre Given (text_ty n) = Unit {0}
   NamesAre Given (list_ty e n) = NamesAre Given e
-  NamesAre Given (struct_ty fs n) = (fields_number fs < 2 ^ 32) × FieldNamesAre Given fs
+  NamesAre Given (struct_ty fs n) = IsNumber (fields_number fs) × FieldNamesAre Given fs
 
   pub FieldNamesAre : (Bytes → Type 0) → Fields → Type 0
   FieldNamesAre Given no_fields = Unit {0}

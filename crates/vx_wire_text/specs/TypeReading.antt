@@ -1,34 +1,15 @@
+-- For the checker: no public clause cites this.
 -- Reading types from left to right.
 use Rattle.std.specs.Prelude.{ℕ, zero, suc, [], ◌∷◌, Option, Some, None}
 use Rattle.vx_dtype.specs.Types.{Bytes, Ty, bool_ty, int_ty, text_ty, list_ty, struct_ty, Fields, no_fields, field}
-use Rattle.vx_dtype.specs.declared.PType.{PType}
-use Rattle.vx_dtype.specs.declared.PType.TheVariants.{U8, U16, U32, U64, I8, I16, I32, I64}
+use Rattle.vx_dtype.specs.TypeRules.{null_numbered, ptype_numbered}
 use Rattle.vx_dtype.specs.declared.Nullability.{Nullability}
-use Rattle.vx_dtype.specs.declared.Nullability.TheVariants.{NonNullable, Nullable}
 use Rattle.vx_wire_text.specs.Reading.{◌>>=◌, number_at, text_at}
-
--- the nullability of a byte
-abbrev pub nullability_at : ℕ → Option Nullability
-nullability_at zero = Some NonNullable
-nullability_at (suc zero) = Some Nullable
-nullability_at (suc (suc n)) = None
-
--- the integer type of a byte
-abbrev pub width_at : ℕ → Option PType
-width_at zero = Some U8
-width_at (suc zero) = Some U16
-width_at (suc (suc zero)) = Some U32
-width_at (suc (suc (suc zero))) = Some U64
-width_at (suc (suc (suc (suc zero)))) = Some I8
-width_at (suc (suc (suc (suc (suc zero))))) = Some I16
-width_at (suc (suc (suc (suc (suc (suc zero)))))) = Some I32
-width_at (suc (suc (suc (suc (suc (suc (suc zero))))))) = Some I64
-width_at (suc (suc (suc (suc (suc (suc (suc (suc n)))))))) = None
 
 -- one type per kind, where types that are a level less deep are read by a given function
 abbrev pub int_at : Nullability → Bytes → Option (Ty × Bytes)
 int_at n [] = None
-int_at n (w ∷ rest) = width_at w >>= λ p. Some (int_ty p n, rest)
+int_at n (w ∷ rest) = ptype_numbered w >>= λ p. Some (int_ty p n, rest)
 
 abbrev pub list_with : (Bytes → Option (Ty × Bytes)) → Nullability → Bytes → Option (Ty × Bytes)
 list_with read n bytes = read bytes >>= λ e. Some (list_ty e.0 n, e.1)
@@ -60,7 +41,7 @@ kind_with read (suc (suc (suc (suc (suc tag))))) n bytes = None
 abbrev pub tagged_with : (Bytes → Option (Ty × Bytes)) → Bytes → Option (Ty × Bytes)
 tagged_with read [] = None
 tagged_with read (tag ∷ []) = None
-tagged_with read (tag ∷ null ∷ rest) = nullability_at null >>= λ n. kind_with read tag n rest
+tagged_with read (tag ∷ null ∷ rest) = null_numbered null >>= λ n. kind_with read tag n rest
 
 -- a type at the front that is no deeper than so much, and the bytes after it
 unfoldable pub type_at : ℕ → Bytes → Option (Ty × Bytes)

@@ -1,12 +1,14 @@
 -- The wire form of values, each of a type that is known.
-use Rattle.std.specs.Prelude.{◌≡◌, ℕ, zero, suc, ◌+◌, ◌-◌, ◌/◌, ◌%◌, ◌<◌, ◌^◌, ℤ, pos, negsuc, Bool, true, false, [], ◌∷◌, ◌++◌}
+use Rattle.std.specs.Prelude.{◌≡◌, ℕ, zero, suc, ◌+◌, ◌-◌, ◌/◌, ◌%◌, ◌^◌, ℤ, pos, negsuc, Bool, true, false, List, [], ◌∷◌, ◌++◌, map, Option}
 use Rattle.vx_dtype.specs.Types.{Bytes, Ty, int_ty, list_ty, struct_ty, Fields, no_fields, field}
 use Rattle.vx_dtype.specs.Values.{Raw, raw_null, raw_bool, raw_int, raw_text, raw_list, raw_struct, Raws, no_raws, raw}
 use Rattle.vx_dtype.specs.Fits.{fits}
+use Rattle.vx_dtype.specs.RawViews.{raw_view, raws_of}
+use Rattle.vx_dtype.specs.declared.values.ScalarValue.{ScalarValue}
 use Rattle.vx_dtype.specs.declared.PType.{PType}
 use Rattle.vx_dtype.specs.declared.PType.TheVariants.{U8, U16, U32, U64, I8, I16, I32, I64}
 use Rattle.vx_wire_text.specs.Numbers.{number_bytes, piece_bytes}
-use Rattle.vx_wire_text.specs.Fields.{IsText}
+use Rattle.vx_wire_text.specs.Fields.{IsNumber, IsText, IsFieldAt}
 
 -- the byte of a truth value
 abbrev pub truth_byte : Bool → ℕ
@@ -38,7 +40,7 @@ twos_complement width (negsuc n) = 256 ^ width - (n + 1)
 unfoldable pub integer_bytes : PType → ℤ → Bytes
 integer_bytes p i = little_endian (width_of p) (twos_complement (width_of p) i)
 
--- how many raw values stand in a row
+-- how many raw values stand in a list
 abbrev pub raws_number : Raws → ℕ
 raws_number no_raws = 0
 raws_number (raw x xs) = 1 + raws_number xs
@@ -74,14 +76,26 @@ abbrev mutual
   TextsAre Given (raw_bool b) = Unit {0}
   TextsAre Given (raw_int i) = Unit {0}
   TextsAre Given (raw_text s) = Given s
-  TextsAre Given (raw_list xs) = (raws_number xs < 2 ^ 32) × AllTextsAre Given xs
+  TextsAre Given (raw_list xs) = IsNumber (raws_number xs) × AllTextsAre Given xs
   TextsAre Given (raw_struct xs) = AllTextsAre Given xs
 
   pub AllTextsAre : (Bytes → Type 0) → Raws → Type 0
   AllTextsAre Given no_raws = Unit {0}
   AllTextsAre Given (raw x xs) = TextsAre Given x × AllTextsAre Given xs
 
+-- the bytes of the elements of a list: how many, and each
+abbrev pub list_bytes : Ty → Raws → Bytes
+list_bytes t xs = number_bytes (raws_number xs) ++ elements_bytes t xs
+
+-- the raw values that values of the code stand for, in order
+abbrev pub raws_view : List ScalarValue → Raws
+raws_view xs = raws_of (map raw_view xs)
+
 -- a raw value that has a spelling at a type: one of the type, whose texts and numbers of elements have spellings
 pub record IsValue (t : Ty) (x : Raw) : Type 0 where
   pub fit : fits x t ≡ true
   pub texts : TextsAre IsText x
+
+-- the answer is the value of the type whose spelling stands at the place, with the place after it, or none where no spelling stands there
+abbrev pub IsValueAt : Ty → Bytes → ℕ → Option (Raw × ℕ) → Type 0
+IsValueAt t bytes at found = IsFieldAt (value_bytes t) (IsValue t) bytes at found

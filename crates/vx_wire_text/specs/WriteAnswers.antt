@@ -1,12 +1,12 @@
 -- Why a tree isn't written.
-use Rattle.vx_wire_text.specs.Nodes.{Node, IsShort}
+use Rattle.vx_wire_text.specs.Wires.{Wire, HasShortParts}
 use Rattle.vx_wire_text.specs.declared.errors.WireError.{WireError}
 use Rattle.vx_wire_text.specs.declared.errors.WireError.TheVariants as errors
 
 -- some id, metadata or list of children is too long; want of memory has no cause in the tree, and the others never come
-abbrev pub IsUnwritten : Node → WireError → Type 0
+abbrev pub IsUnwritten : Wire → WireError → Type 0
 IsUnwritten tree errors.NoMemory = Unit {0}
-IsUnwritten tree errors.TooLong = ¬ (IsShort tree)
+IsUnwritten tree errors.TooLong = ¬ (HasShortParts tree)
 IsUnwritten tree errors.BadWire = ⊥
 IsUnwritten tree errors.TooDeep = ⊥
 IsUnwritten tree errors.TooManyNodes = ⊥

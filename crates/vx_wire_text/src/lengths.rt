@@ -2,7 +2,7 @@
 ghost use Rattle.std.specs.Prelude.{◌≡◌, ◌<◌, ◌^◌, true, Decides, map};
 ghost use Rattle.vx_dtype.specs.TypeViews.{type_view};
 ghost use Rattle.vx_dtype.specs.RawViews.{raw_view, raws_of};
-ghost use Rattle.vx_wire_text.specs.Fields.{IsShort, IsText};
+ghost use Rattle.vx_wire_text.specs.Fields.{IsNumber, IsShort, IsText};
 ghost use Rattle.vx_wire_text.specs.TypeForms.{fields_number, NamesAre, FieldNamesAre, HasNames, HaveNames};
 ghost use Rattle.vx_wire_text.specs.ValueForms.{raws_number, TextsAre, AllTextsAre};
 
@@ -27,8 +27,8 @@ pub fn has_short_names(dtype: &DType) -> bool
 /// Whether the number of the fields, each of their names, and each name in their types is below 2^32.
 #[cycle(has_short_names)]
 fn has_short_fields(fields: &StructFields) -> bool
-    ensures decides { Decides result ((fields_number fields.now < 2 ^ 32) × FieldNamesAre IsShort fields.now) }
-    ensures names { result ≡ true → (fields_number fields.now < 2 ^ 32) × HaveNames fields.now }
+    ensures decides { Decides result (IsNumber (fields_number fields.now) × FieldNamesAre IsShort fields.now) }
+    ensures names { result ≡ true → IsNumber (fields_number fields.now) × HaveNames fields.now }
 {
     if fields.nfields() >= LONG {
         return false;
@@ -79,7 +79,7 @@ fn is_short(text: &str) -> bool
 /// Whether there are fewer than 2^32 values.
 #[tactic(auto, using(crate::proofs::LengthLemmas::raws_number_map))]
 fn are_few(values: &[ScalarValue]) -> bool
-    ensures { Decides result (raws_number (raws_of (map raw_view values.now)) < 2 ^ 32) }
+    ensures { Decides result (IsNumber (raws_number (raws_of (map raw_view values.now)))) }
 {
     values.len() < LONG
 }

@@ -25,7 +25,4 @@ pub use type_writing::write_type;
 pub use types::read_type;
 pub use value_writing::write_value;
 pub use values::read_value;
-pub use writing::{write_number, write_text, write_tree};
-
-#[cfg(test)]
-mod tests;
+pub use writing::{LONG, write_number, write_text, write_tree};

@@ -2,7 +2,7 @@
 ghost use Rattle.std.specs.Prelude.{◌≡◌, [], IfOk, IfErr, IfSome, option_map};
 ghost use Rattle.vx_wire_text.specs.ReadAnswers.{IsRead, IsRefused};
 ghost use Rattle.vx_wire_text.specs.Reading.{head_at, closed, begins};
-ghost use Rattle.vx_wire_text.specs.NodeViews.{tree_view};
+ghost use Rattle.vx_wire_text.specs.WireViews.{tree_view};
 ghost use Rattle.vx_wire_text.specs.OpenViews.{head_view, stack_of, closed_view};
 
 use crate::errors::WireError;
@@ -53,11 +53,11 @@ fn head_front(alloc: Global, bytes: &[u8]) -> Mem<Option<(OpenNode, &[u8])>>
 
 /// Gives a whole node to the innermost open one, and so on outwards where that makes a node whole. Answers the whole tree
 /// where no node is open then.
-fn close(open: &mut Vec<OpenNode>, node: WireTree) -> Mem<Option<WireTree>>
-    ensures { IfOk result (λ tree. closed_view tree open.new.items ≡ closed (stack_of open.old.items) (tree_view node)) }
+fn close(nodes: &mut Vec<OpenNode>, node: WireTree) -> Mem<Option<WireTree>>
+    ensures { IfOk result (λ tree. closed_view tree nodes.new.items ≡ closed (stack_of nodes.old.items) (tree_view node)) }
 {
     let mut node = node;
-    while let Some(inner) = open.pop() {
+    while let Some(inner) = nodes.pop() {
         let OpenNode {
             id,
             metadata,
@@ -66,7 +66,7 @@ fn close(open: &mut Vec<OpenNode>, node: WireTree) -> Mem<Option<WireTree>>
         } = inner;
         whole.push(node)?;
         if whole.len() < children {
-            open.push(OpenNode {
+            nodes.push(OpenNode {
                 id,
                 metadata,
                 children,
@@ -84,12 +84,12 @@ fn close(open: &mut Vec<OpenNode>, node: WireTree) -> Mem<Option<WireTree>>
 }
 
 /// Begins a node whose head was read: it is open, or whole at once. Answers the whole tree where no node is open then.
-fn begin(open: &mut Vec<OpenNode>, node: OpenNode) -> Mem<Option<WireTree>>
+fn begin(nodes: &mut Vec<OpenNode>, node: OpenNode) -> Mem<Option<WireTree>>
     requires { node.whole.items ≡ [] }
-    ensures { IfOk result (λ tree. closed_view tree open.new.items ≡ begins (stack_of open.old.items) (head_view node)) }
+    ensures { IfOk result (λ tree. closed_view tree nodes.new.items ≡ begins (stack_of nodes.old.items) (head_view node)) }
 {
     if node.children > 0 {
-        open.push(node)?;
+        nodes.push(node)?;
         return Ok(None);
     }
     let OpenNode {
@@ -99,7 +99,7 @@ fn begin(open: &mut Vec<OpenNode>, node: OpenNode) -> Mem<Option<WireTree>>
         whole,
     } = node;
     close(
-        open,
+        nodes,
         WireTree {
             id,
             metadata,
@@ -117,17 +117,17 @@ pub fn read_tree(alloc: Global, bytes: &[u8]) -> Result<WireTree, WireError>
     ensures read { IfOk result (λ tree. IsRead bytes.now (tree_view tree)) }
     ensures refused { IfErr result (IsRefused bytes.now) }
 {
-    let mut open: Vec<OpenNode> = Vec::new(alloc);
+    let mut nodes: Vec<OpenNode> = Vec::new(alloc);
     let mut rest = bytes;
     for begun in 0..MOST_NODES {
-        if open.len() == MOST_OPEN {
+        if nodes.len() == MOST_OPEN {
             return Err(WireError::TooDeep);
         }
         let Some((node, after)) = head_front(alloc, rest)? else {
             return Err(WireError::BadWire);
         };
         rest = after;
-        if let Some(tree) = begin(&mut open, node)? {
+        if let Some(tree) = begin(&mut nodes, node)? {
             if rest.is_empty() {
                 return Ok(tree);
             }

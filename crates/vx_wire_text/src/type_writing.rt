@@ -1,38 +1,12 @@
 // Writing types in the wire form.
-ghost use Rattle.std.specs.Prelude.{◌≡◌, ◌<◌, ◌^◌, ◌++◌, OnOk, OnErr};
+ghost use Rattle.std.specs.Prelude.{◌≡◌, ◌++◌, OnOk, OnErr};
 ghost use Rattle.vx_dtype.specs.TypeViews.{type_view};
 ghost use Rattle.vx_wire_text.specs.Numbers.{number_bytes};
-ghost use Rattle.vx_wire_text.specs.Fields.{Extends};
-ghost use Rattle.vx_wire_text.specs.TypeForms.{nullability_byte, width_byte, fields_number, type_bytes, fields_bytes, HasNames, HaveNames, IsType};
+ghost use Rattle.vx_wire_text.specs.Fields.{Extends, IsNumber};
+ghost use Rattle.vx_wire_text.specs.TypeForms.{fields_number, type_bytes, fields_bytes, HasNames, HaveNames, IsType};
 
 use crate::writing::{write_number, write_piece};
-use vx_dtype::{DType, Mem, NoMemory, Nullability, PType, StructFields};
-
-/// The byte of a nullability.
-fn byte_of(nullability: Nullability) -> u8
-    ensures { result ≡ nullability_byte nullability }
-{
-    match nullability {
-        Nullability::NonNullable => 0,
-        Nullability::Nullable => 1,
-    }
-}
-
-/// The byte of an integer type.
-fn width_byte_of(ptype: PType) -> u8
-    ensures { result ≡ width_byte ptype }
-{
-    match ptype {
-        PType::U8 => 0,
-        PType::U16 => 1,
-        PType::U32 => 2,
-        PType::U64 => 3,
-        PType::I8 => 4,
-        PType::I16 => 5,
-        PType::I32 => 6,
-        PType::I64 => 7,
-    }
-}
+use vx_dtype::{DType, Mem, NoMemory, StructFields};
 
 /// Writes a type at the end, as far as there is memory.
 #[cycle(push_type)]
@@ -42,17 +16,15 @@ fn push_type(out: &mut Vec<u8>, dtype: &DType) -> Mem<()>
     ensures err { OnErr result (Extends out.old.items out.new.items) }
 {
     match dtype {
-        DType::Bool(n) => Ok(out.extend_from_slice(&[0, byte_of(*n)])?),
-        DType::Primitive(p, n) => {
-            Ok(out.extend_from_slice(&[1, byte_of(*n), width_byte_of(*p)])?)
-        }
-        DType::Utf8(n) => Ok(out.extend_from_slice(&[2, byte_of(*n)])?),
+        DType::Bool(n) => Ok(out.extend_from_slice(&[0, n.number()])?),
+        DType::Primitive(p, n) => { Ok(out.extend_from_slice(&[1, n.number(), p.number()])?) }
+        DType::Utf8(n) => Ok(out.extend_from_slice(&[2, n.number()])?),
         DType::List(element, n) => {
-            out.extend_from_slice(&[3, byte_of(*n)])?;
+            out.extend_from_slice(&[3, n.number()])?;
             push_type(out, element.dtype())
         }
         DType::Struct(fields, n) => {
-            out.extend_from_slice(&[4, byte_of(*n)])?;
+            out.extend_from_slice(&[4, n.number()])?;
             push_fields(out, fields)
         }
     }
@@ -61,7 +33,7 @@ fn push_type(out: &mut Vec<u8>, dtype: &DType) -> Mem<()>
 /// Writes the number of the fields and the fields at the end, as far as there is memory.
 #[cycle(push_type)]
 fn push_fields(out: &mut Vec<u8>, fields: &StructFields) -> Mem<()>
-    requires number { fields_number fields.now < 2 ^ 32 }
+    requires number { IsNumber (fields_number fields.now) }
     requires names { HaveNames fields.now }
     ensures ok { OnOk result (out.new.items ≡ out.old.items ++ (number_bytes (fields_number fields.now) ++ fields_bytes fields.now)) }
     ensures err { OnErr result (Extends out.old.items out.new.items) }
@@ -89,7 +61,7 @@ pub fn write_type(out: &mut Vec<u8>, dtype: &DType) -> Mem<()>
     let before = out.len();
     match push_type(out, dtype) {
         Ok(()) => Ok(()),
-        Err(_) => {
+        Err(NoMemory) => {
             out.truncate(before);
             Err(NoMemory)
         }

@@ -4,44 +4,15 @@ ghost use Rattle.vx_dtype.specs.TypeViews.{type_view};
 ghost use Rattle.vx_dtype.specs.Zipped.{zipped};
 ghost use Rattle.vx_wire_text.specs.Fields.{IsFieldAt};
 ghost use Rattle.vx_wire_text.specs.TypeForms.{type_bytes, IsType};
-ghost use Rattle.vx_wire_text.specs.TypeReading.{nullability_at, width_at, int_at, all_fields_with, tagged_with, type_at};
+ghost use Rattle.vx_wire_text.specs.TypeReading.{int_at, all_fields_with, tagged_with, type_at};
 
 use crate::fields::{number_front, text_front};
 use crate::places::bytes_from;
 use std::alloc::Global;
 use std::rc::Rc;
-use vx_dtype::{DType, ElementType, FieldName, FieldNames, Mem, Nullability, PType, StructFields};
-
-/// How deep a type in the wire form may be.
-const MOST_DEEP: u32 = 64;
-
-/// The nullability that a byte stands for.
-fn nullability_of(byte: u8) -> Option<Nullability>
-    ensures { result ≡ nullability_at byte }
-{
-    match byte {
-        0 => Some(Nullability::NonNullable),
-        1 => Some(Nullability::Nullable),
-        _ => None,
-    }
-}
-
-/// The integer type that a byte stands for.
-fn width_of(byte: u8) -> Option<PType>
-    ensures { result ≡ width_at byte }
-{
-    match byte {
-        0 => Some(PType::U8),
-        1 => Some(PType::U16),
-        2 => Some(PType::U32),
-        3 => Some(PType::U64),
-        4 => Some(PType::I8),
-        5 => Some(PType::I16),
-        6 => Some(PType::I32),
-        7 => Some(PType::I64),
-        _ => None,
-    }
-}
+use vx_dtype::{
+    DType, ElementType, FieldName, FieldNames, MOST_DEEP, Mem, Nullability, PType, StructFields,
+};
 
 /// The integer type whose byte is at the front, and the bytes after it.
 fn int_front(nullability: Nullability, bytes: &[u8]) -> Option<(DType, &[u8])>
@@ -50,7 +21,7 @@ fn int_front(nullability: Nullability, bytes: &[u8]) -> Option<(DType, &[u8])>
     match bytes {
         [] => None,
         [width, rest @ ..] => {
-            let width = width_of(*width)?;
+            let width = PType::from_number(*width)?;
             Some((DType::Primitive(width, nullability), rest))
         }
     }
@@ -58,7 +29,7 @@ fn int_front(nullability: Nullability, bytes: &[u8]) -> Option<(DType, &[u8])>
 
 /// The type at the front that is no deeper than so much, and the bytes after it.
 #[cycle(type_front)]
-fn type_front(alloc: Global, deep: u32, bytes: &[u8]) -> Mem<Option<(DType, &[u8])>>
+fn type_front(alloc: Global, deep: usize, bytes: &[u8]) -> Mem<Option<(DType, &[u8])>>
     ensures { IfOk result (λ found. option_map (λ x. (type_view x.0, x.1.now)) found ≡ type_at deep bytes.now) }
 {
     if deep == 0 {
@@ -69,13 +40,13 @@ fn type_front(alloc: Global, deep: u32, bytes: &[u8]) -> Mem<Option<(DType, &[u8
 
 /// The same, where the parts of the type are no deeper than so much.
 #[cycle(type_front)]
-fn tagged_front(alloc: Global, deep: u32, bytes: &[u8]) -> Mem<Option<(DType, &[u8])>>
+fn tagged_front(alloc: Global, deep: usize, bytes: &[u8]) -> Mem<Option<(DType, &[u8])>>
     ensures { IfOk result (λ found. option_map (λ x. (type_view x.0, x.1.now)) found ≡ tagged_with (type_at deep) bytes.now) }
 {
     let [tag, null, rest @ ..] = bytes else {
         return Ok(None);
     };
-    let Some(nullability) = nullability_of(*null) else {
+    let Some(nullability) = Nullability::from_number(*null) else {
         return Ok(None);
     };
     match *tag {
@@ -101,7 +72,7 @@ fn tagged_front(alloc: Global, deep: u32, bytes: &[u8]) -> Mem<Option<(DType, &[
 
 /// The fields at the front, each of a type that is no deeper than so much, and the bytes after them.
 #[cycle(type_front)]
-fn fields_front(alloc: Global, deep: u32, bytes: &[u8]) -> Mem<Option<(StructFields, &[u8])>>
+fn fields_front(alloc: Global, deep: usize, bytes: &[u8]) -> Mem<Option<(StructFields, &[u8])>>
     ensures { IfOk result (λ found. option_map (λ x. (x.0, x.1.now)) found ≡ all_fields_with (type_at deep) bytes.now) }
 {
     let Some((number, rest)) = number_front(bytes) else {

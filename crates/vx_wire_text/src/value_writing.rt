@@ -3,9 +3,8 @@ ghost use Rattle.std.specs.Prelude.{◌≡◌, ◌<◌, ◌^◌, ◌++◌, true,
 ghost use Rattle.vx_dtype.specs.Fits.{in_range, fits, all_fit, fields_fit};
 ghost use Rattle.vx_dtype.specs.TypeViews.{type_view};
 ghost use Rattle.vx_dtype.specs.RawViews.{raw_view, raws_of};
-ghost use Rattle.vx_wire_text.specs.Numbers.{number_bytes};
-ghost use Rattle.vx_wire_text.specs.Fields.{Extends, IsShort};
-ghost use Rattle.vx_wire_text.specs.ValueForms.{truth_byte, width_of, little_endian, twos_complement, integer_bytes, raws_number, value_bytes, elements_bytes, members_bytes, TextsAre, AllTextsAre, IsValue};
+ghost use Rattle.vx_wire_text.specs.Fields.{Extends, IsNumber, IsShort};
+ghost use Rattle.vx_wire_text.specs.ValueForms.{truth_byte, width_of, little_endian, twos_complement, integer_bytes, raws_number, value_bytes, list_bytes, members_bytes, TextsAre, AllTextsAre, IsValue};
 
 use crate::integers::{modulus_of, width_of};
 use crate::writing::{write_number, write_text};
@@ -95,10 +94,10 @@ fn push_value(out: &mut Vec<u8>, dtype: &DType, value: &ScalarValue) -> Mem<()>
 /// Writes the number of the elements and the elements of a list at the end, as far as there is memory.
 #[cycle(push_value)]
 fn push_elements(out: &mut Vec<u8>, dtype: &DType, elements: &[ScalarValue]) -> Mem<()>
-    requires number { raws_number (raws_of (map raw_view elements.now)) < 2 ^ 32 }
+    requires number { IsNumber (raws_number (raws_of (map raw_view elements.now))) }
     requires fit { all_fit (raws_of (map raw_view elements.now)) (type_view dtype.now) ≡ true }
     requires texts { AllTextsAre IsShort (raws_of (map raw_view elements.now)) }
-    ensures ok { OnOk result (out.new.items ≡ out.old.items ++ (number_bytes (raws_number (raws_of (map raw_view elements.now))) ++ elements_bytes (type_view dtype.now) (raws_of (map raw_view elements.now)))) }
+    ensures ok { OnOk result (out.new.items ≡ out.old.items ++ list_bytes (type_view dtype.now) (raws_of (map raw_view elements.now))) }
     ensures err { OnErr result (Extends out.old.items out.new.items) }
 {
     write_number(out, elements.len() as u32)?;
@@ -135,7 +134,7 @@ pub fn write_value(out: &mut Vec<u8>, dtype: &DType, value: &ScalarValue) -> Mem
     let before = out.len();
     match push_value(out, dtype, value) {
         Ok(()) => Ok(()),
-        Err(_) => {
+        Err(NoMemory) => {
             out.truncate(before);
             Err(NoMemory)
         }

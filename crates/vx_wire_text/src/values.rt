@@ -2,8 +2,7 @@
 ghost use Rattle.std.specs.Prelude.{◌≡◌, ◌<◌, ◌≤◌, ◌^◌, length, map, IfOk, IfSome, option_map};
 ghost use Rattle.vx_dtype.specs.TypeViews.{type_view};
 ghost use Rattle.vx_dtype.specs.RawViews.{raw_view, raws_of};
-ghost use Rattle.vx_wire_text.specs.Fields.{IsFieldAt};
-ghost use Rattle.vx_wire_text.specs.ValueForms.{width_of, value_bytes, IsValue};
+ghost use Rattle.vx_wire_text.specs.ValueForms.{width_of, raws_view, IsValueAt};
 ghost use Rattle.vx_wire_text.specs.ValueReading.{little_endian_at, of_twos_complement, integer_at, truth_of, bool_value_at, int_value_at, text_value_at, all_elements_with, kind_at, members_at, value_at};
 
 use crate::fields::{number_front, text_front};
@@ -152,7 +151,7 @@ fn elements_front<'a>(
     dtype: &DType,
     bytes: &'a [u8],
 ) -> Mem<Option<(Vec<ScalarValue>, &'a [u8])>>
-    ensures { IfOk result (λ found. option_map (λ x. (raws_of (map raw_view x.0.items), x.1.now)) found ≡ all_elements_with (value_at (type_view dtype.now)) bytes.now) }
+    ensures { IfOk result (λ found. option_map (λ x. (raws_view x.0.items, x.1.now)) found ≡ all_elements_with (value_at (type_view dtype.now)) bytes.now) }
 {
     let Some((number, rest)) = number_front(bytes) else {
         return Ok(None);
@@ -176,7 +175,7 @@ fn members_front<'a>(
     fields: &StructFields,
     bytes: &'a [u8],
 ) -> Mem<Option<(Vec<ScalarValue>, &'a [u8])>>
-    ensures { IfOk result (λ found. option_map (λ x. (raws_of (map raw_view x.0.items), x.1.now)) found ≡ members_at fields.now bytes.now) }
+    ensures { IfOk result (λ found. option_map (λ x. (raws_view x.0.items, x.1.now)) found ≡ members_at fields.now bytes.now) }
 {
     let mut rest = bytes;
     let mut values: Vec<ScalarValue> = Vec::new(alloc);
@@ -202,7 +201,7 @@ pub fn read_value(
     dtype: &DType,
 ) -> Mem<Option<(ScalarValue, usize)>>
     requires { at ≤ length bytes.now }
-    ensures { IfOk result (λ found. IsFieldAt (value_bytes (type_view dtype.now)) (IsValue (type_view dtype.now)) bytes.now at (option_map (λ x. (raw_view x.0, x.1)) found)) }
+    ensures { IfOk result (λ found. IsValueAt (type_view dtype.now) bytes.now at (option_map (λ x. (raw_view x.0, x.1)) found)) }
 {
     let Some((value, rest)) = value_front(alloc, dtype, bytes_from(bytes, at))? else {
         return Ok(None);

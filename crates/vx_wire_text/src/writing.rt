@@ -2,8 +2,9 @@
 ghost use Rattle.std.specs.Prelude.{◌≡◌, ◌<◌, ◌^◌, ◌++◌, List, length, vec_len, IfOk, IfErr, OnOk, OnErr};
 ghost use Rattle.vx_dtype.specs.Types.{Bytes};
 ghost use Rattle.vx_wire_text.specs.Numbers.{number_bytes, piece_bytes};
-ghost use Rattle.vx_wire_text.specs.Nodes.{node_bytes, head_bytes, head_of_tree, IsHead, IsSpellable, Spells};
-ghost use Rattle.vx_wire_text.specs.NodeViews.{tree_view};
+ghost use Rattle.vx_wire_text.specs.Fields.{IsShort};
+ghost use Rattle.vx_wire_text.specs.Wires.{wire_bytes, head_bytes, head_of_tree, IsHead, IsSpellable, Spells};
+ghost use Rattle.vx_wire_text.specs.WireViews.{tree_view};
 ghost use Rattle.vx_wire_text.specs.WriteAnswers.{IsUnwritten};
 
 use crate::errors::WireError;
@@ -11,11 +12,11 @@ use crate::trees::WireTree;
 use std::alloc::{AllocError, Global};
 use vx_dtype::{Mem, NoMemory, Text};
 
-/// From this length on nothing has a spelling.
-pub(crate) const LONG: usize = 1 << 32;
+/// From this length on nothing has a spelling, since numbers have 32 bits at most.
+pub const LONG: usize = 1 << 32;
 
 /// Writes a number at the end, as far as there is memory.
-fn push_number(out: &mut Vec<u8>, n: u32) -> Result<(), AllocError>
+fn push_number(out: &mut Vec<u8>, n: u32) -> Mem<()>
     ensures ok { OnOk result (out.new.items ≡ out.old.items ++ number_bytes n) }
     ensures err { OnErr result ((more : Bytes) × (out.new.items ≡ out.old.items ++ more)) }
 {
@@ -36,7 +37,7 @@ pub fn write_number(out: &mut Vec<u8>, n: u32) -> Mem<()>
     let before = out.len();
     match push_number(out, n) {
         Ok(()) => Ok(()),
-        Err(_) => {
+        Err(NoMemory) => {
             out.truncate(before);
             Err(NoMemory)
         }
@@ -45,7 +46,7 @@ pub fn write_number(out: &mut Vec<u8>, n: u32) -> Mem<()>
 
 /// Writes bytes at the end, and their number before them. An `Err` leaves `out` as it was.
 pub(crate) fn write_piece(out: &mut Vec<u8>, bytes: &[u8]) -> Mem<()>
-    requires { length bytes.now < 2 ^ 32 }
+    requires { IsShort bytes.now }
     ensures ok { OnOk result (out.new.items ≡ out.old.items ++ piece_bytes bytes.now) }
     ensures err { OnErr result (out.new.items ≡ out.old.items) }
 {
@@ -53,7 +54,7 @@ pub(crate) fn write_piece(out: &mut Vec<u8>, bytes: &[u8]) -> Mem<()>
     write_number(out, bytes.len() as u32)?;
     match out.extend_from_slice(bytes) {
         Ok(()) => Ok(()),
-        Err(_) => {
+        Err(AllocError) => {
             out.truncate(before);
             Err(NoMemory)
         }
@@ -62,7 +63,7 @@ pub(crate) fn write_piece(out: &mut Vec<u8>, bytes: &[u8]) -> Mem<()>
 
 /// Writes the spelling of a text at the end: how many bytes it has, and these. An `Err` leaves `out` as it was.
 pub fn write_text(out: &mut Vec<u8>, text: &Text) -> Mem<()>
-    requires { length text.now < 2 ^ 32 }
+    requires { IsShort text.now }
     ensures ok { OnOk result (out.new.items ≡ out.old.items ++ piece_bytes text.now) }
     ensures err { OnErr result (out.new.items ≡ out.old.items) }
 {
@@ -71,7 +72,7 @@ pub fn write_text(out: &mut Vec<u8>, text: &Text) -> Mem<()>
 
 /// Writes a node at the end.
 fn push_node(out: &mut Vec<u8>, tree: &WireTree) -> Result<(), WireError>
-    ensures ok { OnOk result (IsSpellable (tree_view tree.now) × (out.new.items ≡ out.old.items ++ node_bytes (tree_view tree.now))) }
+    ensures ok { OnOk result (IsSpellable (tree_view tree.now) × (out.new.items ≡ out.old.items ++ wire_bytes (tree_view tree.now))) }
     ensures err { IfErr result (IsUnwritten (tree_view tree.now)) }
 {
     push_head(out, tree)?;

@@ -1,5 +1,5 @@
 use Rattle.vx_wire.specs.Registries.{registered}
-use Rattle.vx_wire_text.specs.NodeViews.{tree_view}
+use Rattle.vx_wire_text.specs.WireViews.{tree_view}
 use Rattle.vx_scan.proofs.AskedLemmas.{unbuilt}
 use Rattle.vx_scan.proofs.plans.built.Goals as goal
 

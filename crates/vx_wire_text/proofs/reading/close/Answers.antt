@@ -1,7 +1,7 @@
 use Rattle.std.proofs.Common.{refl, ap, ◌∙◌, sym, arith}
 use Rattle.std.proofs.lemmas.List.{nil_from_length}
 use Rattle.vx_wire_text.specs.Reading.{closed, still_open}
-use Rattle.vx_wire_text.specs.NodeViews.{tree_view}
+use Rattle.vx_wire_text.specs.WireViews.{tree_view}
 use Rattle.vx_wire_text.specs.OpenViews.{stack_of}
 use Rattle.vx_wire_text.proofs.TreeLemmas.{tree_view-roll}
 use Rattle.vx_wire_text.proofs.StackLemmas.{close-open, close-whole, close-none}
@@ -20,4 +20,4 @@ loop-inner-preserved c =
     ∙ close-whole c.pop.new.self.items c.in-Some.inner c.loop-inner.node c.push.new.self.items _ c.in_ok-push.ensures.items (omega arith) before
 
 pub returns : goal.returns
-returns c = close-none c.loop-inner.open.items c.loop-inner.node _ (nil_from_length c.loop-inner.open.items (omega (arith, c.in_default.ensures.cases))) c.loop-inner.invariant
+returns c = close-none c.loop-inner.nodes.items c.loop-inner.node _ (nil_from_length c.loop-inner.nodes.items (omega (arith, c.in_default.ensures.cases))) c.loop-inner.invariant

@@ -1,12 +1,12 @@
 use Rattle.std.proofs.Common.{◌≡◌}
 use Rattle.vx_wire_text.specs.Reading.{closed}
-use Rattle.vx_wire_text.specs.NodeViews.{tree_view}
+use Rattle.vx_wire_text.specs.WireViews.{tree_view}
 use Rattle.vx_wire_text.specs.OpenViews.{stack_of}
 use Rattle.vx_wire_text.proofs.reading.close.Given as goal
 
 -- closing what is left closes all
 abbrev pub invariant-loop-inner : goal.invariant-loop-inner
-invariant-loop-inner l = closed (stack_of l.open.items) (tree_view l.node) ≡ closed (stack_of l.fn.open.items) (tree_view l.fn.node)
+invariant-loop-inner l = closed (stack_of l.nodes.items) (tree_view l.node) ≡ closed (stack_of l.fn.nodes.items) (tree_view l.fn.node)
 
 abbrev pub decreases-loop-inner : goal.decreases-loop-inner
-decreases-loop-inner l = l.open.len
+decreases-loop-inner l = l.nodes.len

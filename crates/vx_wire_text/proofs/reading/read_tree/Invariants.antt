@@ -3,4 +3,4 @@ use Rattle.vx_wire_text.proofs.ReadLemmas.{Reached}
 use Rattle.vx_wire_text.proofs.reading.read_tree.Given as goal
 
 abbrev pub invariant-loop-begun : goal.invariant-loop-begun
-invariant-loop-begun l = Reached l.bytes l.begun (stack_of l.open.items) l.rest
+invariant-loop-begun l = Reached l.bytes l.begun (stack_of l.nodes.items) l.rest

@@ -2,8 +2,8 @@ use Rattle.std.proofs.Common.{◌≡◌, ◌++◌, length, ap, ◌∙◌, subst,
 use Rattle.std.specs.Str.{IsUtf8}
 use Rattle.std.proofs.lemmas.Str.{is_utf8-from_IsUtf8}
 use Rattle.vx_wire_text.specs.Numbers.{piece_bytes, number_bytes}
-use Rattle.vx_wire_text.specs.Nodes.{number_of}
-use Rattle.vx_wire_text.specs.NodeViews.{trees_view}
+use Rattle.vx_wire_text.specs.Wires.{number_of}
+use Rattle.vx_wire_text.specs.WireViews.{trees_view}
 use Rattle.vx_wire_text.specs.declared.trees.WireTree.TheViews.{out-WireTree}
 use Rattle.vx_wire_text.proofs.TreeLemmas.{tree_view-out}
 use Rattle.vx_wire_text.proofs.StackLemmas.{number_of-trees_view}
