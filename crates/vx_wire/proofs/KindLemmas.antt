@@ -1,14 +1,14 @@
 -- The places of the kinds tell them apart.
-use Rattle.std.proofs.Common.{◌≡◌, ℕ, ◌<◌, ◌≤◌, ◌+◌, Bool, true, false, cond, Option, ◌||◌, List, ◌∷◌, length, get_or, drop, Some, refl, sym, ap, ◌∙◌}
-use Rattle.std.proofs.lemmas.Option.{same_Some, none-some}
+use Rattle.std.proofs.Common.{◌≡◌, ℕ, ◌<◌, ◌≤◌, ◌+◌, Bool, true, false, cond, Option, ◌||◌, List, [], ◌∷◌, length, get_or, drop, Some, refl, sym, ap, ◌∙◌}
+use Rattle.std.proofs.lemmas.Option.{same_Some}
 use Rattle.std.proofs.lemmas.List.{drop_all, drop_more}
 use Rattle.std.proofs.lemmas.Slice.Eq.{bytes_eq-Decides}
-use Rattle.std.specs.Prelude.{codes}
 use Rattle.std.specs.Str.{bytes_eq}
+use Rattle.std.specs.List.{find}
 use Rattle.vx_dtype.specs.Types.{Bytes}
 use Rattle.vx_expr.specs.Trees.{Tree, root, literal, get_item, binary, not_of, is_null_of, like, between, cast, list_contains, pack, merge, select, dynamic}
 use Rattle.vx_expr.specs.Children.{id_of}
-use Rattle.vx_wire.specs.Encodings.{encoding_id, encoding_of, kind_named, same_kind}
+use Rattle.vx_wire.specs.Encodings.{all_kinds, encoding_id, encoding_of, kind_named, same_kind}
 use Rattle.vx_wire.specs.Registries.{held_after}
 use Rattle.vx_wire.specs.declared.encodings.ExprEncoding.{ExprEncoding}
 use Rattle.vx_wire.specs.declared.encodings.ExprEncoding.TheVariants as kinds
@@ -46,29 +46,18 @@ encoding_id-encoding_of (pack names es n) = refl
 encoding_id-encoding_of root = refl
 encoding_id-encoding_of (select s e) = refl
 
--- a test of one name, and the names after it
-chosen : (b : Bool) (k e : ExprEncoding) (id name : Bytes) (others : Option ExprEncoding) → (b ≡ true → id ≡ name) → encoding_id k ≡ name → (others ≡ Some e → id ≡ encoding_id e) → cond b (Some k) others ≡ Some e → id ≡ encoding_id e
-chosen true k e id name others so is rest h = so refl ∙ sym is ∙ ap encoding_id (same_Some k e h)
-chosen false k e id name others so is rest h = rest h
+first_passes : (test : ExprEncoding → Bool) (k e : ExprEncoding) (others : Option ExprEncoding) (b : Bool) → test k ≡ b → (others ≡ Some e → test e ≡ true) → cond b (Some k) others ≡ Some e → test e ≡ true
+first_passes test k e others true is rest h = ap test (sym (same_Some k e h)) ∙ is
+first_passes test k e others false is rest h = rest h
+
+-- what is found passes the test
+found_passes : (test : ExprEncoding → Bool) (ks : List ExprEncoding) (e : ExprEncoding) → find test ks ≡ Some e → test e ≡ true
+found_passes test [] e h = absurd cc
+found_passes test (k ∷ ks) e h = first_passes test k e (find test ks) (test k) refl (found_passes test ks e) h
 
 pub named_is : (id : Bytes) (e : ExprEncoding) → kind_named id ≡ Some e → id ≡ encoding_id e
 unfolding kind_named
-named_is id e =
-    chosen (bytes_eq id (codes "between")) kinds.Between e id (codes "between") _ ((bytes_eq-Decides id (codes "between")).0) refl (
-    chosen (bytes_eq id (codes "binary")) kinds.Binary e id (codes "binary") _ ((bytes_eq-Decides id (codes "binary")).0) refl (
-    chosen (bytes_eq id (codes "cast")) kinds.Cast e id (codes "cast") _ ((bytes_eq-Decides id (codes "cast")).0) refl (
-    chosen (bytes_eq id (codes "dynamic")) kinds.Dynamic e id (codes "dynamic") _ ((bytes_eq-Decides id (codes "dynamic")).0) refl (
-    chosen (bytes_eq id (codes "get_item")) kinds.GetItem e id (codes "get_item") _ ((bytes_eq-Decides id (codes "get_item")).0) refl (
-    chosen (bytes_eq id (codes "is_null")) kinds.IsNull e id (codes "is_null") _ ((bytes_eq-Decides id (codes "is_null")).0) refl (
-    chosen (bytes_eq id (codes "like")) kinds.Like e id (codes "like") _ ((bytes_eq-Decides id (codes "like")).0) refl (
-    chosen (bytes_eq id (codes "list_contains")) kinds.ListContains e id (codes "list_contains") _ ((bytes_eq-Decides id (codes "list_contains")).0) refl (
-    chosen (bytes_eq id (codes "literal")) kinds.Literal e id (codes "literal") _ ((bytes_eq-Decides id (codes "literal")).0) refl (
-    chosen (bytes_eq id (codes "merge")) kinds.Merge e id (codes "merge") _ ((bytes_eq-Decides id (codes "merge")).0) refl (
-    chosen (bytes_eq id (codes "not")) kinds.Not e id (codes "not") _ ((bytes_eq-Decides id (codes "not")).0) refl (
-    chosen (bytes_eq id (codes "pack")) kinds.Pack e id (codes "pack") _ ((bytes_eq-Decides id (codes "pack")).0) refl (
-    chosen (bytes_eq id (codes "root")) kinds.Root e id (codes "root") _ ((bytes_eq-Decides id (codes "root")).0) refl (
-    chosen (bytes_eq id (codes "select")) kinds.Select e id (codes "select") _ ((bytes_eq-Decides id (codes "select")).0) refl (
-    λ h. absurd (none-some e h)))))))))))))))
+named_is id e h = (bytes_eq-Decides id (encoding_id e)).0 (found_passes (λ k. bytes_eq id (encoding_id k)) all_kinds e h)
 
 drop_step : (es : List ExprEncoding) (i : ℕ) (x : ExprEncoding) → i < length es → x ≡ get_or es i x → drop i es ≡ x ∷ drop (i + 1) es
 drop_step es i x lt is = drop_more es i x lt ∙ ap (λ y. y ∷ drop (i + 1) es) (sym is)

@@ -6,3 +6,4 @@ pub mod WireLemmas
 pub mod EverywhereLemmas
 pub mod SerialLemmas
 pub mod LawLemmas
+pub mod NumberLemmas

@@ -36,7 +36,7 @@ pub record IsBuilt (holds : ExprEncoding → Bool) (wire : Wire) (e : Tree) : Ty
   pub forms : Everywhere HasForm e
   pub held : Everywhere (λ n. holds (encoding_of n) ≡ true) e
 
--- each of the wire nodes in a row builds an expression
+-- each wire node of a list builds an expression
 abbrev pub AreBuilt : (ExprEncoding → Bool) → Wires → Type 0
 AreBuilt holds no_wires = Unit {0}
 AreBuilt holds (first n ns) = ((e : Tree) × IsBuilt holds n e) × AreBuilt holds ns

@@ -1,5 +1,6 @@
 -- The kinds of expressions in the wire form, and their names.
-use Rattle.std.specs.Prelude.{ℕ, ◌==◌, Bool, true, false, Option, Some, None, codes, if◌then◌else◌}
+use Rattle.std.specs.Prelude.{ℕ, ◌==◌, Bool, true, false, List, [], ◌∷◌, Option, codes}
+use Rattle.std.specs.List.{find}
 use Rattle.std.specs.Str.{bytes_eq}
 use Rattle.vx_dtype.specs.Types.{Bytes}
 use Rattle.vx_expr.specs.Trees.{Tree, root, literal, get_item, binary, not_of, is_null_of, like, between, cast, list_contains, pack, merge, select, dynamic}
@@ -40,24 +41,28 @@ encoding_id kinds.Pack = codes "pack"
 encoding_id kinds.Root = codes "root"
 encoding_id kinds.Select = codes "select"
 
+-- all kinds, in the order of their names
+abbrev pub all_kinds : List ExprEncoding
+all_kinds =
+    kinds.Between
+    ∷ kinds.Binary
+    ∷ kinds.Cast
+    ∷ kinds.Dynamic
+    ∷ kinds.GetItem
+    ∷ kinds.IsNull
+    ∷ kinds.Like
+    ∷ kinds.ListContains
+    ∷ kinds.Literal
+    ∷ kinds.Merge
+    ∷ kinds.Not
+    ∷ kinds.Pack
+    ∷ kinds.Root
+    ∷ kinds.Select
+    ∷ []
+
 -- the kind of a name, where there is one
 unfoldable pub kind_named : Bytes → Option ExprEncoding
-kind_named id =
-    if bytes_eq id (codes "between") then Some kinds.Between else (
-    if bytes_eq id (codes "binary") then Some kinds.Binary else (
-    if bytes_eq id (codes "cast") then Some kinds.Cast else (
-    if bytes_eq id (codes "dynamic") then Some kinds.Dynamic else (
-    if bytes_eq id (codes "get_item") then Some kinds.GetItem else (
-    if bytes_eq id (codes "is_null") then Some kinds.IsNull else (
-    if bytes_eq id (codes "like") then Some kinds.Like else (
-    if bytes_eq id (codes "list_contains") then Some kinds.ListContains else (
-    if bytes_eq id (codes "literal") then Some kinds.Literal else (
-    if bytes_eq id (codes "merge") then Some kinds.Merge else (
-    if bytes_eq id (codes "not") then Some kinds.Not else (
-    if bytes_eq id (codes "pack") then Some kinds.Pack else (
-    if bytes_eq id (codes "root") then Some kinds.Root else (
-    if bytes_eq id (codes "select") then Some kinds.Select else (
-    None))))))))))))))
+kind_named id = find (λ e. bytes_eq id (encoding_id e)) all_kinds
 
 -- the place of a kind in the order of the names
 abbrev pub kind_place : ExprEncoding → ℕ

@@ -1,14 +1,16 @@
 -- The wire form of expressions: the tree of an expression, and what holds at each of its nodes.
+use Rattle.vx_dtype.specs.Types.{Bytes}
 use Rattle.vx_expr.specs.Children.{id_of}
-use Rattle.vx_expr.specs.Trees.{Tree, root, literal, get_item, binary, not_of, is_null_of, like, between, cast, list_contains, pack, merge, select, dynamic, Trees, no_trees, tree}
-use Rattle.vx_wire_text.specs.Wires.{Wire, node, Wires, no_wires, first}
+use Rattle.vx_expr.specs.Trees.{Tree, root, literal, get_item, binary, not_of, is_null_of, like, between, cast, list_contains, pack, merge, select}
+use Rattle.vx_expr.specs.Trees.{dynamic, Trees, no_trees, tree}
+use Rattle.vx_wire_text.specs.Wires.{Wire, node, Wires, no_wires, first, wire_bytes}
 use Rattle.vx_wire.specs.Metadata.{metadata_bytes}
 
 -- the wire node of an expression's node, with these children
 abbrev pub node_with : Tree → Wires → Wire
 node_with e children = node (id_of e) (metadata_bytes e) children
 
--- one wire node, two, and three in a row
+-- lists of one wire node, of two, and of three
 abbrev pub only : Wire → Wires
 only a = first a no_wires
 
@@ -36,10 +38,14 @@ abbrev mutual
   wire_of (select s e) = node_with (select s e) (only (wire_of e))
   wire_of (dynamic e op k t default) = node_with (dynamic e op k t default) (only (wire_of e))
 
-  -- the wire trees of expressions in a row
+  -- the wire trees of a list of expressions
   pub wires_of : Trees → Wires
   wires_of no_trees = no_wires
   wires_of (tree e es) = first (wire_of e) (wires_of es)
+
+-- the bytes that spell an expression
+abbrev pub wire_text : Tree → Bytes
+wire_text e = wire_bytes (wire_of e)
 
 abbrev mutual
   -- something holds at each node of an expression
@@ -59,7 +65,7 @@ abbrev mutual
   Everywhere P (select s e) = P (select s e) × Everywhere P e
   Everywhere P (dynamic e op k t default) = P (dynamic e op k t default) × Everywhere P e
 
-  -- something holds at each node of expressions in a row
+  -- something holds at each node of a list of expressions
   pub EverywhereIn : (Tree → Type 0) → Trees → Type 0
   EverywhereIn P no_trees = Unit {0}
   EverywhereIn P (tree e es) = Everywhere P e × EverywhereIn P es

@@ -1,15 +1,16 @@
 -- The metadata of nodes in the wire form: the bytes of each kind, and how many children it takes.
-use Rattle.std.specs.Prelude.{◌≡◌, ℕ, ◌<◌, ◌≤◌, ◌^◌, ◌==◌, nat_le, Bool, true, false, List, [], ◌∷◌, ◌++◌, length}
+use Rattle.std.specs.Prelude.{◌≡◌, ℕ, ◌≤◌, ◌==◌, nat_le, Bool, true, false, List, [], ◌∷◌, ◌++◌, length}
 use Rattle.std.specs.List.{AllByRecursion}
 use Rattle.vx_dtype.specs.Types.{Bytes}
 use Rattle.vx_dtype.specs.TypeRules.{depth_of, most_deep, null_number}
 use Rattle.vx_dtype.specs.declared.StrictComparison.{StrictComparison}
 use Rattle.vx_dtype.specs.declared.StrictComparison.TheVariants.{Strict, NonStrict}
-use Rattle.vx_expr.specs.Trees.{Tree, root, literal, get_item, binary, not_of, is_null_of, like, between, cast, list_contains, pack, merge, select, dynamic, children_of}
+use Rattle.vx_expr.specs.Trees.{Tree, root, literal, get_item, binary, not_of, is_null_of, like, between, cast, list_contains, pack, merge, select}
+use Rattle.vx_expr.specs.Trees.{dynamic, children_of}
 use Rattle.vx_expr.specs.Operators.{operator_number}
 use Rattle.vx_expr.specs.Selections.{is_included, listed_names}
 use Rattle.vx_wire_text.specs.Numbers.{number_bytes, piece_bytes}
-use Rattle.vx_wire_text.specs.Fields.{IsShort, IsText}
+use Rattle.vx_wire_text.specs.Fields.{IsNumber, IsShort, IsText}
 use Rattle.vx_wire_text.specs.TypeForms.{type_bytes, NamesAre, IsType}
 use Rattle.vx_wire_text.specs.ValueForms.{truth_byte, value_bytes, TextsAre, IsValue}
 
@@ -49,9 +50,13 @@ metadata_bytes (pack names es n) = null_number n ∷ names_bytes names
 metadata_bytes (merge es n) = null_number n ∷ []
 metadata_bytes (dynamic e op k t default) = []
 
--- names that have a spelling in a row
+-- names that have a spelling as a list
 abbrev pub AreNames : List Bytes → Type 0
-AreNames names = (length names < 2 ^ 32) × AllByRecursion IsText names
+AreNames names = IsNumber (length names) × AllByRecursion IsText names
+
+-- names whose number and whose lengths have spellings
+abbrev pub AreShort : List Bytes → Type 0
+AreShort names = IsNumber (length names) × AllByRecursion IsShort names
 
 -- whether the metadata of a node has a spelling; that of a dynamic comparison has none
 abbrev pub HasMetadata : Tree → Type 0
@@ -92,13 +97,13 @@ IsSerializable (cast e t) = depth_of t ≤ most_deep
 IsSerializable (dynamic e op k t default) = ⊥
 IsSerializable _ = Unit {0}
 
--- a node whose metadata has no text and no list of 2 ^ 32 or more
+-- a node whose metadata has no text and no list that is too long for a spelling
 abbrev pub HasShortMetadata : Tree → Type 0
 HasShortMetadata (literal s) = NamesAre IsShort s.ty × TextsAre IsShort s.value
 HasShortMetadata (get_item f e) = IsShort f
 HasShortMetadata (cast e t) = NamesAre IsShort t
-HasShortMetadata (select s e) = (length (listed_names s) < 2 ^ 32) × AllByRecursion IsShort (listed_names s)
-HasShortMetadata (pack names es n) = (length names < 2 ^ 32) × AllByRecursion IsShort names
+HasShortMetadata (select s e) = AreShort (listed_names s)
+HasShortMetadata (pack names es n) = AreShort names
 HasShortMetadata (dynamic e op k t default) = NamesAre IsShort t
 HasShortMetadata _ = Unit {0}
 

@@ -13,12 +13,12 @@ pub record IsWritten (e : Tree) : Type 0 where
 
 -- why something isn't written: it isn't short; want of memory has no cause in it, and the others never come
 abbrev pub IsUnwrittenLong : Type 0 → WireError → Type 0
-IsUnwrittenLong IsShort errors.NoMemory = Unit {0}
-IsUnwrittenLong IsShort errors.TooLong = ¬ IsShort
-IsUnwrittenLong IsShort errors.BadWire = ⊥
-IsUnwrittenLong IsShort errors.TooDeep = ⊥
-IsUnwrittenLong IsShort errors.TooManyNodes = ⊥
-IsUnwrittenLong IsShort errors.NotSerializable = ⊥
+IsUnwrittenLong Short errors.NoMemory = Unit {0}
+IsUnwrittenLong Short errors.TooLong = ¬ Short
+IsUnwrittenLong Short errors.BadWire = ⊥
+IsUnwrittenLong Short errors.TooDeep = ⊥
+IsUnwrittenLong Short errors.TooManyNodes = ⊥
+IsUnwrittenLong Short errors.NotSerializable = ⊥
 
 -- why an expression isn't written: a node of a kind that isn't, or a type that is too deep; else a text or a list that is too long
 abbrev pub IsUnserialized : Tree → WireError → Type 0

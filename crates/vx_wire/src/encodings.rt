@@ -25,6 +25,24 @@ pub enum ExprEncoding {
     Select,
 }
 
+/// All kinds, in the order of their names.
+const KINDS: [ExprEncoding; 14] = [
+    ExprEncoding::Between,
+    ExprEncoding::Binary,
+    ExprEncoding::Cast,
+    ExprEncoding::Dynamic,
+    ExprEncoding::GetItem,
+    ExprEncoding::IsNull,
+    ExprEncoding::Like,
+    ExprEncoding::ListContains,
+    ExprEncoding::Literal,
+    ExprEncoding::Merge,
+    ExprEncoding::Not,
+    ExprEncoding::Pack,
+    ExprEncoding::Root,
+    ExprEncoding::Select,
+];
+
 /// The name that the Rust crate gives to an encoding that is shared.
 pub type ExprEncodingRef = ExprEncoding;
 
@@ -110,47 +128,5 @@ pub fn encoding(expr: &ExprRef) -> ExprEncoding
 pub(crate) fn kind_of_name(id: &str) -> Option<ExprEncoding>
     ensures { result ≡ kind_named id.now }
 {
-    if id == "between" {
-        return Some(ExprEncoding::Between);
-    }
-    if id == "binary" {
-        return Some(ExprEncoding::Binary);
-    }
-    if id == "cast" {
-        return Some(ExprEncoding::Cast);
-    }
-    if id == "dynamic" {
-        return Some(ExprEncoding::Dynamic);
-    }
-    if id == "get_item" {
-        return Some(ExprEncoding::GetItem);
-    }
-    if id == "is_null" {
-        return Some(ExprEncoding::IsNull);
-    }
-    if id == "like" {
-        return Some(ExprEncoding::Like);
-    }
-    if id == "list_contains" {
-        return Some(ExprEncoding::ListContains);
-    }
-    if id == "literal" {
-        return Some(ExprEncoding::Literal);
-    }
-    if id == "merge" {
-        return Some(ExprEncoding::Merge);
-    }
-    if id == "not" {
-        return Some(ExprEncoding::Not);
-    }
-    if id == "pack" {
-        return Some(ExprEncoding::Pack);
-    }
-    if id == "root" {
-        return Some(ExprEncoding::Root);
-    }
-    if id == "select" {
-        return Some(ExprEncoding::Select);
-    }
-    None
+    KINDS.iter().copied().find(|kind| id == kind.id())
 }

@@ -1,6 +1,5 @@
 // One expression of each kind, built of its metadata and its children.
-ghost use Rattle.std.specs.Prelude.{◌≡◌, length, IfOk, IfErr};
-ghost use Rattle.vx_expr.specs.Children.{one_of, two_of, three_of};
+ghost use Rattle.std.specs.Prelude.{length, IfOk, IfErr};
 ghost use Rattle.vx_wire.specs.Building.{IsBuiltOf, IsUnbuiltOf};
 ghost use Rattle.vx_wire.specs.declared.encodings.ExprEncoding.TheVariants.{Between, Binary, Cast, GetItem, IsNull, Like, ListContains, Literal, Merge, Not, Pack, Root, Select};
 
@@ -12,35 +11,10 @@ use crate::metadata::{
 };
 use std::alloc::Global;
 use vx_expr::{
-    BetweenExpr, BinaryExpr, CastExpr, ExprRef, GetItemExpr, IsNullExpr, LikeExpr,
-    ListContainsExpr, LiteralExpr, MergeExpr, NotExpr, PackExpr, RootExpr, SelectExpr,
+    BetweenExpr, BinaryExpr, CastExpr, ExprError, ExprRef, GetItemExpr, IsNullExpr, LikeExpr,
+    ListContainsExpr, LiteralExpr, MergeExpr, NotExpr, PackExpr, RootExpr, SelectExpr, one_child,
+    three_children, two_children,
 };
-
-/// The only child, where there is one.
-fn one_child(mut row: Vec<ExprRef>) -> Option<ExprRef>
-    ensures { result ≡ one_of row.items }
-{
-    let first = row.pop()?;
-    if row.is_empty() { Some(first) } else { None }
-}
-
-/// The two children in order, where there are two.
-fn two_children(mut children: Vec<ExprRef>) -> Option<(ExprRef, ExprRef)>
-    ensures { result ≡ two_of children.items }
-{
-    let second = children.pop()?;
-    let first = one_child(children)?;
-    Some((first, second))
-}
-
-/// The three children in order, where there are three.
-fn three_children(mut children: Vec<ExprRef>) -> Option<(ExprRef, ExprRef, ExprRef)>
-    ensures { result ≡ three_of children.items }
-{
-    let third = children.pop()?;
-    let (first, second) = two_children(children)?;
-    Some((first, second, third))
-}
 
 impl ExprEncoding {
     /// The expression of this kind with this metadata and these children, whatever the registries hold.
@@ -256,11 +230,14 @@ fn build_pack(alloc: Global, metadata: &[u8], children: Vec<ExprRef>) -> Result<
     }
     match PackExpr::try_new_expr(alloc, names, children, nullability) {
         Ok(made) => Ok(made),
-        Err(_) => Err(BuildError::NoMemory),
+        Err(ExprError::NoMemory) => Err(BuildError::NoMemory),
+        Err(ExprError::WrongLength | ExprError::WrongChildren | ExprError::UnknownField) => {
+            unreachable!()
+        }
     }
 }
 
-/// The row: no metadata, and no child.
+/// The row itself: no metadata, and no child.
 fn build_root(alloc: Global, metadata: &[u8], children: Vec<ExprRef>) -> Result<ExprRef, BuildError>
     ensures built { IfOk result (λ e. IsBuiltOf Root metadata.now children.items e) }
     ensures refused { IfErr result (λ why. IsUnbuiltOf Root metadata.now (length children.items) why) }

@@ -3,12 +3,12 @@ ghost use Rattle.std.specs.Prelude.{◌≡◌, ◌≢◌, Bool, Some};
 ghost use Rattle.vx_dtype.specs.Types.{Bytes};
 ghost use Rattle.vx_expr.specs.Trees.{Tree};
 ghost use Rattle.vx_expr.specs.Children.{id_of};
-ghost use Rattle.vx_wire_text.specs.Wires.{Wire, wire_bytes, HasShortParts};
+ghost use Rattle.vx_wire_text.specs.Wires.{Wire, HasShortParts};
 ghost use Rattle.vx_wire_text.specs.Openings.{IsTooDeep, IsTooMany};
 ghost use Rattle.vx_wire_text.specs.ReadAnswers.{IsRead};
 ghost use Rattle.vx_wire.specs.Building.{IsBuilt, IsUnbuilt};
 ghost use Rattle.vx_wire.specs.Encodings.{encoding_id, encoding_of, kind_named, is_default_kind};
-ghost use Rattle.vx_wire.specs.Forms.{wire_of, Everywhere};
+ghost use Rattle.vx_wire.specs.Forms.{wire_of, wire_text, Everywhere};
 ghost use Rattle.vx_wire.specs.Metadata.{HasForm};
 ghost use Rattle.vx_wire.specs.declared.encodings.ExprEncoding.{ExprEncoding};
 ghost use Rattle.vx_wire.specs.declared.errors.BuildError.{BuildError};
@@ -32,12 +32,12 @@ pub fn one_expression()
 
 /// A wire tree that builds an expression has no refusal but want of memory.
 pub fn built_is_not_refused()
-    ensures { (holds : ExprEncoding → Bool) (wire : Wire) (e : Tree) (why : BuildError) → IsBuilt holds wire e → why ≢ NoMemory → ¬ (IsUnbuilt holds wire why) }
+    ensures { (holds : ExprEncoding → Bool) (w : Wire) (e : Tree) (why : BuildError) → IsBuilt holds w e → why ≢ NoMemory → ¬ (IsUnbuilt holds w why) }
 {}
 
 /// Where each node of an expression has a form, and `write_tree` writes its wire tree, the bytes are read as that tree if they meet
 /// no limit, and the default registry builds the expression of it again.
 pub fn written_is_read_and_built_again()
-    ensures read { (e : Tree) → HasShortParts (wire_of e) → ¬ (IsTooDeep (wire_bytes (wire_of e))) → ¬ (IsTooMany (wire_bytes (wire_of e))) → IsRead (wire_bytes (wire_of e)) (wire_of e) }
+    ensures read { (e : Tree) → HasShortParts (wire_of e) → ¬ (IsTooDeep (wire_text e)) → ¬ (IsTooMany (wire_text e)) → IsRead (wire_text e) (wire_of e) }
     ensures built { (e : Tree) → Everywhere HasForm e → IsBuilt is_default_kind (wire_of e) e }
 {}

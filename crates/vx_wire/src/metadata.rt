@@ -5,6 +5,7 @@ ghost use Rattle.vx_wire_text.specs.Fields.{IsText};
 ghost use Rattle.vx_wire_text.specs.Numbers.{piece_bytes};
 ghost use Rattle.vx_wire_text.specs.TypeForms.{type_bytes, IsType};
 ghost use Rattle.vx_dtype.specs.TypeRules.{null_number};
+ghost use Rattle.vx_expr.specs.Operators.{operator_number};
 ghost use Rattle.vx_wire_text.specs.ValueForms.{truth_byte};
 ghost use Rattle.vx_wire.specs.Metadata.{strictness_byte, choice_byte, names_bytes, AreNames};
 ghost use Rattle.vx_wire.specs.ReadBack.{IsReadBack, IsAny, operator_bytes, bounds_bytes, truths_bytes, null_bytes, packing_bytes, IsPacking, selection_bytes, IsSelection, literal_bytes, IsLiteral};
@@ -12,7 +13,7 @@ ghost use Rattle.vx_wire.specs.ReadBack.{IsReadBack, IsAny, operator_bytes, boun
 use std::alloc::Global;
 use vx_dtype::{
     BetweenOptions, DType, FieldName, FieldNames, Mem, NoMemory, Nullability, Scalar, ScalarValue,
-    StrictComparison,
+    StrictComparison, WrongValue,
 };
 use vx_expr::{FieldSelection, Operator};
 use vx_wire_text::{read_number, read_text, read_type, read_value};
@@ -40,14 +41,11 @@ fn strictness_of(byte: u8) -> Option<StrictComparison>
 }
 
 /// The nullability of a byte.
+#[tactic(auto, using(crate::proofs::NumberLemmas::null_read))]
 fn nullability_of(byte: u8) -> Option<Nullability>
     ensures { IsReadBack null_number IsAny byte result }
 {
-    match byte {
-        0 => Some(Nullability::NonNullable),
-        1 => Some(Nullability::Nullable),
-        _ => None,
-    }
+    Nullability::from_number(byte)
 }
 
 /// Whether a choice lists what it takes, by its byte.
@@ -61,6 +59,14 @@ fn choice_of(byte: u8) -> Option<bool>
     }
 }
 
+/// The operator of a byte.
+#[tactic(auto, using(crate::proofs::NumberLemmas::operator_read))]
+fn operator_of(byte: u8) -> Option<Operator>
+    ensures { IsReadBack operator_number IsAny byte result }
+{
+    Operator::from_number(byte)
+}
+
 /// The operator of a binary expression.
 pub(crate) fn operator_in(metadata: &[u8]) -> Option<Operator>
     ensures { IsReadBack operator_bytes IsAny metadata.now result }
@@ -68,19 +74,7 @@ pub(crate) fn operator_in(metadata: &[u8]) -> Option<Operator>
     let [byte] = metadata else {
         return None;
     };
-    match *byte {
-        0 => Some(Operator::Eq),
-        1 => Some(Operator::NotEq),
-        2 => Some(Operator::Gt),
-        3 => Some(Operator::Gte),
-        4 => Some(Operator::Lt),
-        5 => Some(Operator::Lte),
-        6 => Some(Operator::And),
-        7 => Some(Operator::Or),
-        8 => Some(Operator::Add),
-        9 => Some(Operator::Sub),
-        _ => None,
-    }
+    operator_of(*byte)
 }
 
 /// The bounds of a range.
@@ -219,6 +213,6 @@ pub(crate) fn literal_in(alloc: Global, metadata: &[u8]) -> Mem<Option<Scalar>>
     }
     match Scalar::try_new(dtype, value) {
         Ok(scalar) => Ok(Some(scalar)),
-        Err(_) => Ok(None),
+        Err(WrongValue) => unreachable!(),
     }
 }

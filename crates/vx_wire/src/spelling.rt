@@ -1,29 +1,24 @@
 // The metadata of each kind, written.
 ghost use Rattle.std.specs.Prelude.{◌≡◌, ◌<◌, ◌≤◌, ◌^◌, ◌++◌, ◌∷◌, length, IfOk, IfErr, OnOk, OnErr};
-ghost use Rattle.std.specs.List.{AllByRecursion};
 ghost use Rattle.vx_dtype.specs.TypeViews.{type_view};
 ghost use Rattle.vx_dtype.specs.RawViews.{raw_view};
 ghost use Rattle.vx_dtype.specs.TypeRules.{depth_of, most_deep, null_number};
 ghost use Rattle.vx_expr.specs.Trees.{children_of};
-ghost use Rattle.vx_expr.specs.Operators.{operator_number};
 ghost use Rattle.vx_expr.specs.Selections.{listed_names};
 ghost use Rattle.vx_wire_text.specs.Fields.{IsShort, IsText};
 ghost use Rattle.vx_wire_text.specs.Numbers.{piece_bytes};
 ghost use Rattle.vx_wire_text.specs.TypeForms.{type_bytes, NamesAre, IsType};
 ghost use Rattle.vx_wire_text.specs.ValueForms.{truth_byte, value_bytes, TextsAre, IsValue};
-ghost use Rattle.vx_wire.specs.Metadata.{strictness_byte, choice_byte, texts_bytes, names_bytes, AreNames, metadata_bytes, HasMetadata, takes, IsSerializable, HasShortMetadata, IsNoEmptyMerge};
+ghost use Rattle.vx_wire.specs.Metadata.{strictness_byte, choice_byte, texts_bytes, names_bytes, AreNames, AreShort, metadata_bytes, HasMetadata, takes, IsSerializable, HasShortMetadata, IsNoEmptyMerge};
 ghost use Rattle.vx_wire.specs.ReadBack.{literal_bytes, IsLiteral, packing_bytes, selection_bytes, IsSelection};
 ghost use Rattle.vx_wire.specs.Serializing.{IsWritten, IsUnwrittenLong};
 
 use std::alloc::Global;
 use vx_dtype::{DType, FieldName, FieldNames, Nullability, Scalar, StrictComparison};
-use vx_expr::{Expr, ExprRef, FieldSelection, Operator};
+use vx_expr::{Expr, ExprRef, FieldSelection};
 use vx_wire_text::{
-    WireError, has_short_names, has_short_texts, write_number, write_type, write_value,
+    LONG, WireError, has_short_names, has_short_texts, write_number, write_type, write_value,
 };
-
-/// From this length on nothing has a spelling.
-const LONG: usize = 1 << 32;
 
 /// The byte of a truth value.
 fn truth_byte_of(truth: bool) -> u8
@@ -42,39 +37,11 @@ fn strictness_byte_of(strictness: StrictComparison) -> u8
     }
 }
 
-/// The byte of a nullability.
-fn nullability_byte_of(nullability: Nullability) -> u8
-    ensures { result ≡ null_number nullability }
-{
-    match nullability {
-        Nullability::NonNullable => 0,
-        Nullability::Nullable => 1,
-    }
-}
-
 /// The byte of a choice of fields.
 fn choice_byte_of(included: bool) -> u8
     ensures { result ≡ choice_byte included }
 {
     if included { 0 } else { 1 }
-}
-
-/// The byte of an operator.
-fn operator_byte_of(operator: Operator) -> u8
-    ensures { result ≡ operator_number operator }
-{
-    match operator {
-        Operator::Eq => 0,
-        Operator::NotEq => 1,
-        Operator::Gt => 2,
-        Operator::Gte => 3,
-        Operator::Lt => 4,
-        Operator::Lte => 5,
-        Operator::And => 6,
-        Operator::Or => 7,
-        Operator::Add => 8,
-        Operator::Sub => 9,
-    }
 }
 
 /// Writes a name at the end, as far as there is memory.
@@ -94,7 +61,7 @@ fn push_name(out: &mut Vec<u8>, name: &FieldName) -> Result<(), WireError>
 /// Writes the number of the names and the names at the end, as far as there is memory.
 fn push_names(out: &mut Vec<u8>, names: &FieldNames) -> Result<(), WireError>
     ensures ok { OnOk result (AreNames names.now × (out.new.items ≡ out.old.items ++ names_bytes names.now)) }
-    ensures err { IfErr result (IsUnwrittenLong ((length names.now < 2 ^ 32) × AllByRecursion IsShort names.now)) }
+    ensures err { IfErr result (IsUnwrittenLong (AreShort names.now)) }
 {
     if names.len() >= LONG {
         return Err(WireError::TooLong);
@@ -152,7 +119,7 @@ fn scalar_bytes(alloc: Global, scalar: &Scalar) -> Result<Vec<u8>, WireError>
 /// The bytes of a choice of fields.
 fn choice_bytes(alloc: Global, selection: &FieldSelection) -> Result<Vec<u8>, WireError>
     ensures ok { IfOk result (λ bytes. IsSelection selection.now × (bytes.items ≡ selection_bytes selection.now)) }
-    ensures err { IfErr result (IsUnwrittenLong ((length (listed_names selection.now) < 2 ^ 32) × AllByRecursion IsShort (listed_names selection.now))) }
+    ensures err { IfErr result (IsUnwrittenLong (AreShort (listed_names selection.now))) }
 {
     let mut out = Vec::new(alloc);
     out.push(choice_byte_of(selection.is_include()))?;
@@ -167,10 +134,10 @@ fn named_bytes(
     names: &FieldNames,
 ) -> Result<Vec<u8>, WireError>
     ensures ok { IfOk result (λ bytes. AreNames names.now × (bytes.items ≡ null_number nullability ∷ names_bytes names.now)) }
-    ensures err { IfErr result (IsUnwrittenLong ((length names.now < 2 ^ 32) × AllByRecursion IsShort names.now)) }
+    ensures err { IfErr result (IsUnwrittenLong (AreShort names.now)) }
 {
     let mut out = Vec::new(alloc);
-    out.push(nullability_byte_of(nullability))?;
+    out.push(nullability.number())?;
     push_names(&mut out, names)?;
     Ok(out)
 }
@@ -188,7 +155,7 @@ pub(crate) fn metadata_of(alloc: Global, expr: &ExprRef) -> Result<Vec<u8>, Wire
             let upper = strictness_byte_of(options.upper_strict);
             Ok(vec![in alloc; lower, upper]?)
         }
-        Expr::Binary(node) => Ok(vec![in alloc; operator_byte_of(node.op())]?),
+        Expr::Binary(node) => Ok(vec![in alloc; node.op().number()]?),
         Expr::Cast(node) => dtype_bytes(alloc, node.target()),
         Expr::Dynamic(_) => unreachable!(),
         Expr::GetItem(node) => name_bytes(alloc, node.field()),
@@ -198,7 +165,7 @@ pub(crate) fn metadata_of(alloc: Global, expr: &ExprRef) -> Result<Vec<u8>, Wire
             Ok(vec![in alloc; negated, fold_case]?)
         }
         Expr::Literal(node) => scalar_bytes(alloc, node.value()),
-        Expr::Merge(node) => Ok(vec![in alloc; nullability_byte_of(node.nullability())]?),
+        Expr::Merge(node) => Ok(vec![in alloc; node.nullability().number()]?),
         Expr::Pack(node) => named_bytes(alloc, node.nullability(), node.names()),
         Expr::Select(node) => choice_bytes(alloc, node.selection()),
         Expr::IsNull(_) | Expr::ListContains(_) | Expr::Not(_) | Expr::Root(_) => {
