@@ -1,0 +1,12 @@
+pub mod Rebuilding
+pub mod Replacing
+pub mod Ranges
+pub mod Simplifying
+pub mod Selecting
+pub mod Merging
+pub mod TypedSimplifying
+pub mod Annotating
+pub mod Splitting
+pub mod Catalogs
+pub mod Falsifying
+pub mod PruningTables
