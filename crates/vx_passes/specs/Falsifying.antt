@@ -1,18 +1,17 @@
 -- Falsification: an expression over statistics that is true only where a filter is true at no row, and the statistics that it asks of a catalog, in order.
 -- Asking stops at the first bound that is missing, where the rule needs it.
-use Rattle.std.specs.Prelude.{pos, Bool, true, not, List, [], ◌∷◌, ◌++◌, Option, Some, None, option_map}
+use Rattle.std.specs.Prelude.{pos, true, not, List, [], ◌∷◌, ◌++◌, Option, Some, None, option_map}
 use Rattle.vx_dtype.specs.declared.PType.TheVariants.{U64}
 use Rattle.vx_dtype.specs.declared.Nullability.TheVariants.{NonNullable}
 use Rattle.vx_dtype.specs.declared.CompareOperator.{CompareOperator}
-use Rattle.vx_dtype.specs.declared.BetweenOptions.{BetweenOptions}
 use Rattle.vx_dtype.specs.declared.Stat.{Stat}
 use Rattle.vx_dtype.specs.declared.Stat.TheVariants.{Min, Max, NaNCount, NullCount}
 use Rattle.vx_dtype.specs.Types.{Bytes, Ty, bool_ty, int_ty, list_ty}
-use Rattle.vx_dtype.specs.Values.{Raw, raw_bool, raw_int, raw_list, Raws, no_raws, raw, Typed}
+use Rattle.vx_dtype.specs.Values.{Raw, raw_bool, raw_int, raw_list, Raws, no_raws, raw}
 use Rattle.vx_dtype.specs.Order.{bound_operator}
 use Rattle.vx_expr.specs.declared.Operator.{Operator}
 use Rattle.vx_expr.specs.Operators.{comparison_of, operator_of, inverse_comparison}
-use Rattle.vx_expr.specs.Trees.{Tree, root, literal, get_item, binary, not_of, is_null_of, between, list_contains, dynamic}
+use Rattle.vx_expr.specs.Trees.{Tree, literal, binary, not_of, is_null_of, between, list_contains, dynamic}
 use Rattle.vx_semantics.specs.Paths.{path_of}
 use Rattle.vx_passes.specs.Catalogs.{Catalog}
 

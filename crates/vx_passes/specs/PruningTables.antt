@@ -1,19 +1,16 @@
 -- Pruning expressions over the statistics of a table, the statistics that they need, and the rows over which they are evaluated, one for each block.
-use Rattle.std.specs.Prelude.{ℕ, Bool, true, false, cond, not, ◌&&◌, List, [], ◌∷◌, Option, Some, None, is_some, slice_get}
+use Rattle.std.specs.Prelude.{ℕ, Bool, cond, not, ◌&&◌, List, [], ◌∷◌, Option, Some, None, is_some, slice_get}
 use Rattle.std.specs.List.{filter, list_any}
 use Rattle.vx_dtype.specs.declared.Nullability.TheVariants.{Nullable}
 use Rattle.vx_dtype.specs.declared.PType.TheVariants.{U64}
-use Rattle.vx_dtype.specs.declared.Stat.{Stat}
-use Rattle.vx_dtype.specs.declared.Stat.TheVariants.{Min, Max, NaNCount, NullCount}
 use Rattle.vx_dtype.specs.Types.{Bytes, Ty, int_ty, Fields, no_fields, field}
-use Rattle.vx_dtype.specs.TypeRules.{with_nullability}
 use Rattle.vx_dtype.specs.Equal.{names_eq}
 use Rattle.vx_dtype.specs.Values.{Val, null_val, struct_val, Members, no_members, member, Typed, value_of}
 use Rattle.vx_expr.specs.Trees.{Tree}
 use Rattle.vx_semantics.specs.Tables.{Zones, ZoneStat, same_stat, joined_name}
 use Rattle.vx_semantics.specs.Pruning.{available}
-use Rattle.vx_passes.specs.Catalogs.{Catalog, available_paths, statistics_among}
-use Rattle.vx_passes.specs.Falsifying.{Question, Found, falsified}
+use Rattle.vx_passes.specs.Catalogs.{Catalog, statistics_among}
+use Rattle.vx_passes.specs.Falsifying.{Question, falsified}
 
 -- whether two questions are of one path and kind
 abbrev pub same_question : Question → Question → Bool

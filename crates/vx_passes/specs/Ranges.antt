@@ -5,7 +5,7 @@ use Rattle.std.specs.Option.{option_and_then}
 use Rattle.vx_dtype.specs.declared.StrictComparison.{StrictComparison}
 use Rattle.vx_dtype.specs.declared.StrictComparison.TheVariants.{Strict, NonStrict}
 use Rattle.vx_expr.specs.declared.Operator.{Operator}
-use Rattle.vx_expr.specs.Children.{is_get_item, literal_of, where_so}
+use Rattle.vx_expr.specs.Children.{is_get_item, literal_of}
 use Rattle.vx_expr.specs.Conjuncts.{conjuncts_of}
 use Rattle.vx_expr.specs.Equal.{tree_eq}
 use Rattle.vx_expr.specs.Operators.{swapped}

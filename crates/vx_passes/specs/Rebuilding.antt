@@ -1,5 +1,5 @@
 -- A pass from the leaves up: each node is made anew by a step, after its children.
-use Rattle.std.specs.Prelude.{Result, Ok, Err}
+use Rattle.std.specs.Prelude.{Result, Ok}
 use Rattle.vx_expr.specs.Trees.{Tree, root, literal, get_item, binary, not_of, is_null_of, like, between, cast, list_contains, pack, merge, select, dynamic, Trees, no_trees, tree}
 use Rattle.vx_semantics.specs.Typing.{Refusal, and_then}
 

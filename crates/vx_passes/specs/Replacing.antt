@@ -1,5 +1,5 @@
 -- Replacing expressions in an expression, from the leaves up.
-use Rattle.std.specs.Prelude.{cond, List, [], ◌∷◌, map}
+use Rattle.std.specs.Prelude.{cond, map}
 use Rattle.vx_dtype.specs.declared.Nullability.TheVariants.{NonNullable}
 use Rattle.vx_dtype.specs.Types.{Bytes, Fields}
 use Rattle.vx_dtype.specs.TypeRules.{field_names}

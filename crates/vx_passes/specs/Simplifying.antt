@@ -1,8 +1,8 @@
 -- Simplifying: a field taken straight from a pack is the pack's value of that name; then ranges are found in the whole.
-use Rattle.std.specs.Prelude.{List, [], ◌∷◌, Option, Some, None, cond, Result, Ok, Err}
+use Rattle.std.specs.Prelude.{List, ◌∷◌, Option, Some, None, cond, Result, Ok, Err}
 use Rattle.std.specs.Str.{bytes_eq}
 use Rattle.vx_dtype.specs.Types.{Bytes}
-use Rattle.vx_expr.specs.Trees.{Tree, get_item, pack, Trees, no_trees, tree}
+use Rattle.vx_expr.specs.Trees.{Tree, get_item, pack, Trees, tree}
 use Rattle.vx_semantics.specs.Typing.{Refusal, unknown_field, and_then}
 use Rattle.vx_passes.specs.Rebuilding.{rebuilt}
 use Rattle.vx_passes.specs.Ranges.{ranged}

@@ -1,5 +1,5 @@
 -- Partition: an expression as parts, one for each annotation, and a root that puts together what the parts give.
-use Rattle.std.specs.Prelude.{ℕ, suc, Bool, cond, List, [], ◌∷◌, ◌++◌, length, map, codes, decimal, Option, Some, None, Result, Ok, Err}
+use Rattle.std.specs.Prelude.{ℕ, suc, Bool, cond, List, [], ◌∷◌, ◌++◌, length, map, codes, decimal, Result, Ok}
 use Rattle.vx_dtype.specs.declared.Nullability.TheVariants.{NonNullable}
 use Rattle.vx_dtype.specs.Types.{Bytes, Ty, struct_ty}
 use Rattle.vx_dtype.specs.Zipped.{zipped}

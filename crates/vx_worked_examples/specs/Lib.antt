@@ -1,3 +1,4 @@
 pub mod Samples
 pub mod Catalog
 pub mod Kinds
+pub mod PassSamples

@@ -7,14 +7,15 @@ ghost use Rattle.vx_dtype.specs.declared.Nullability.TheVariants.{NonNullable};
 ghost use Rattle.vx_dtype.specs.Types.{int_ty, struct_ty};
 ghost use Rattle.vx_expr.specs.declared.Operator.TheVariants.{Eq, Gt, Lt, Or};
 ghost use Rattle.vx_expr.specs.Trees.{root, get_item, binary, literal, merge, pack, no_trees, tree};
-ghost use Rattle.vx_semantics.specs.Samples.{col, only, pack_one, pack_two, boolean};
+ghost use Rattle.vx_worked_examples.specs.Samples.{col, only, pack_one, pack_two, boolean};
 ghost use Rattle.vx_passes.specs.Annotating.{annotated, column_annotation};
 ghost use Rattle.std.specs.Str.{bytes_eq};
-ghost use Rattle.vx_worked_passes.specs.PassSamples.{n, item, both, column_compared, three_columns, column_parts, part};
+ghost use Rattle.vx_worked_examples.specs.PassSamples.{n, item, annotated_by, both, column_compared, three_columns, column_parts, part};
 
 /// A field of a column is one part of it.
 pub fn parts_of_one_column()
-    ensures { column_parts three_columns (item "y" (col "a")) ≡ Ok (record { root_expression = part "a" "a_0"; parts = (codes "a", pack_one "a_0" (item "y" (col "a"))) ∷ [] }) }
+    ensures { column_parts three_columns (item "y" (col "a"))
+        ≡ Ok (record { root_expression = part "a" "a_0"; parts = (codes "a", pack_one "a_0" (item "y" (col "a"))) ∷ [] }) }
 {}
 
 /// A merge of a column and a pack is put together by the root from two parts.
@@ -73,15 +74,17 @@ pub fn parts_of_a_scan()
 
 /// What is annotated: a column its name, and each node above it what its children have.
 pub fn annotations_go_up()
-    ensures access { annotated bytes_eq (column_annotation three_columns) (col "b") ≡ record { expression = col "b"; annotations = codes "b" ∷ [] } ∷ [] }
+    ensures access { annotated bytes_eq (column_annotation three_columns) (col "b")
+        ≡ annotated_by (col "b") (codes "b" ∷ []) ∷ [] }
     ensures field { annotated bytes_eq (column_annotation three_columns) (item "y" (col "a"))
-        ≡ record { expression = col "a"; annotations = codes "a" ∷ [] } ∷ record { expression = item "y" (col "a"); annotations = codes "a" ∷ [] } ∷ [] }
-    ensures constant { annotated bytes_eq (column_annotation three_columns) (boolean true) ≡ record { expression = boolean true; annotations = [] } ∷ [] }
+        ≡ annotated_by (col "a") (codes "a" ∷ []) ∷ annotated_by (item "y" (col "a")) (codes "a" ∷ []) ∷ [] }
+    ensures constant { annotated bytes_eq (column_annotation three_columns) (boolean true)
+        ≡ annotated_by (boolean true) ([]) ∷ [] }
     ensures shared { annotated bytes_eq (column_annotation three_columns) (both (col "b") (col "b"))
-        ≡ record { expression = col "b"; annotations = codes "b" ∷ [] } ∷ record { expression = both (col "b") (col "b"); annotations = codes "b" ∷ [] } ∷ [] }
+        ≡ annotated_by (col "b") (codes "b" ∷ []) ∷ annotated_by (both (col "b") (col "b")) (codes "b" ∷ []) ∷ [] }
     ensures below_a_skip { annotated bytes_eq (column_annotation three_columns) (both (item "x" root) (binary root Eq root))
-        ≡ record { expression = item "x" root; annotations = codes "x" ∷ [] }
-        ∷ record { expression = root; annotations = codes "a" ∷ codes "b" ∷ codes "c" ∷ [] }
-        ∷ record { expression = binary root Eq root; annotations = codes "a" ∷ codes "b" ∷ codes "c" ∷ [] }
-        ∷ record { expression = both (item "x" root) (binary root Eq root); annotations = codes "x" ∷ codes "a" ∷ codes "b" ∷ codes "c" ∷ [] } ∷ [] }
+        ≡ annotated_by (item "x" root) (codes "x" ∷ [])
+        ∷ annotated_by (root) (codes "a" ∷ codes "b" ∷ codes "c" ∷ [])
+        ∷ annotated_by (binary root Eq root) (codes "a" ∷ codes "b" ∷ codes "c" ∷ [])
+        ∷ annotated_by (both (item "x" root) (binary root Eq root)) (codes "x" ∷ codes "a" ∷ codes "b" ∷ codes "c" ∷ []) ∷ [] }
 {}
