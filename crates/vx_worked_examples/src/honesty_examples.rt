@@ -41,16 +41,33 @@ pub fn counts_nulls_at_least()
 
 /// Block by block, as far as there are values and blocks.
 pub fn judges_each_block()
-    ensures honest { honest_values Min (codes "x" ∷ []) (bounds I32 (pos 5 ∷ pos 6 ∷ [])) (rows_of_numbers I32 "x" (pos 5 ∷ []) ∷ rows_of_numbers I32 "x" (pos 6 ∷ []) ∷ []) ≡ true }
-    ensures second { honest_values Min (codes "x" ∷ []) (bounds I32 (pos 5 ∷ pos 7 ∷ [])) (rows_of_numbers I32 "x" (pos 5 ∷ []) ∷ rows_of_numbers I32 "x" (pos 6 ∷ []) ∷ []) ≡ false }
-    ensures first { honest_values Min (codes "x" ∷ []) (bounds I32 (pos 6 ∷ pos 6 ∷ [])) (rows_of_numbers I32 "x" (pos 5 ∷ []) ∷ rows_of_numbers I32 "x" (pos 6 ∷ []) ∷ []) ≡ false }
+    ensures honest { honest_values Min (codes "x" ∷ []) (bounds I32 (pos 5 ∷ pos 6 ∷ []))
+        (rows_of_numbers I32 "x" (pos 5 ∷ []) ∷ rows_of_numbers I32 "x" (pos 6 ∷ []) ∷ [])
+        ≡ true }
+    ensures second { honest_values Min (codes "x" ∷ []) (bounds I32 (pos 5 ∷ pos 7 ∷ []))
+        (rows_of_numbers I32 "x" (pos 5 ∷ []) ∷ rows_of_numbers I32 "x" (pos 6 ∷ []) ∷ [])
+        ≡ false }
+    ensures first { honest_values Min (codes "x" ∷ []) (bounds I32 (pos 6 ∷ pos 6 ∷ []))
+        (rows_of_numbers I32 "x" (pos 5 ∷ []) ∷ rows_of_numbers I32 "x" (pos 6 ∷ []) ∷ [])
+        ≡ false }
     ensures fewer_values { honest_values Min (codes "x" ∷ []) [] (rows_of_numbers I32 "x" (pos 5 ∷ []) ∷ []) ≡ true }
     ensures more_values { honest_values Min (codes "x" ∷ []) (bounds I32 (pos 5 ∷ [])) [] ≡ true }
 {}
 
 /// The statistics of a table are honest where each of them is.
 pub fn judges_each_statistic()
-    ensures honest { IsHonest (zones_of (number_table I32 "x" ((pos 5 ∷ pos 9 ∷ []) ∷ [])) (statistic ("x" ∷ []) Min (bounds I32 (pos 5 ∷ [])) ∷ statistic ("x" ∷ []) Max (bounds I32 (pos 9 ∷ [])) ∷ [])) (number_table I32 "x" ((pos 5 ∷ pos 9 ∷ []) ∷ [])) }
-    ensures first { ¬ (IsHonest (zones_of (number_table I32 "x" ((pos 5 ∷ pos 9 ∷ []) ∷ [])) (statistic ("x" ∷ []) Min (bounds I32 (pos 6 ∷ [])) ∷ statistic ("x" ∷ []) Max (bounds I32 (pos 9 ∷ [])) ∷ [])) (number_table I32 "x" ((pos 5 ∷ pos 9 ∷ []) ∷ []))) }
-    ensures second { ¬ (IsHonest (zones_of (number_table I32 "x" ((pos 5 ∷ pos 9 ∷ []) ∷ [])) (statistic ("x" ∷ []) Min (bounds I32 (pos 5 ∷ [])) ∷ statistic ("x" ∷ []) Max (bounds I32 (pos 8 ∷ [])) ∷ [])) (number_table I32 "x" ((pos 5 ∷ pos 9 ∷ []) ∷ []))) }
+    ensures honest { IsHonest
+        (zones_of (number_table I32 "x" ((pos 5 ∷ pos 9 ∷ []) ∷ []))
+        (statistic ("x" ∷ []) Min (bounds I32 (pos 5 ∷ [])) ∷ statistic ("x" ∷ []) Max (bounds I32 (pos 9 ∷ [])) ∷ []))
+        (number_table I32 "x" ((pos 5 ∷ pos 9 ∷ []) ∷ [])) }
+    ensures first { ¬
+        (IsHonest
+        (zones_of (number_table I32 "x" ((pos 5 ∷ pos 9 ∷ []) ∷ []))
+        (statistic ("x" ∷ []) Min (bounds I32 (pos 6 ∷ [])) ∷ statistic ("x" ∷ []) Max (bounds I32 (pos 9 ∷ [])) ∷ []))
+        (number_table I32 "x" ((pos 5 ∷ pos 9 ∷ []) ∷ []))) }
+    ensures second { ¬
+        (IsHonest
+        (zones_of (number_table I32 "x" ((pos 5 ∷ pos 9 ∷ []) ∷ []))
+        (statistic ("x" ∷ []) Min (bounds I32 (pos 5 ∷ [])) ∷ statistic ("x" ∷ []) Max (bounds I32 (pos 8 ∷ [])) ∷ []))
+        (number_table I32 "x" ((pos 5 ∷ pos 9 ∷ []) ∷ []))) }
 {}

@@ -9,94 +9,102 @@ ghost use Rattle.vx_dtype.specs.declared.StrictComparison.TheVariants.{Strict};
 ghost use Rattle.vx_dtype.specs.declared.CompareOperator.TheVariants.{Gt as Above};
 ghost use Rattle.vx_expr.specs.declared.Operator.TheVariants.{Eq, NotEq, Gt, Gte, Lt, Lte, And, Or, Add};
 ghost use Rattle.vx_expr.specs.declared.FieldSelection.TheVariants.{Include, Exclude};
-ghost use Rattle.vx_expr.specs.Trees.{root, not_of, is_null_of, like, cast, list_contains, select, get_item, between, pack, merge, dynamic, tree, no_trees};
+ghost use Rattle.vx_expr.specs.Trees.{root, not_of, is_null_of, like, cast, list_contains, select, get_item, between, pack, merge, dynamic, tree};
+ghost use Rattle.vx_expr.specs.Trees.{no_trees};
 ghost use Rattle.vx_semantics.specs.Typing.{typed_of, type_mismatch, unknown_field, nullable_select, duplicate_field, not_struct};
 ghost use Rattle.vx_semantics.specs.LooseTyping.{loosely_typed};
-ghost use Rattle.vx_worked_examples.specs.Samples.{col, number, quoted, null_of, ◌⟨◌⟩◌, only, pack_two, five_columns, number_list, struct_p_q, mixed, operators, ends};
+ghost use Rattle.vx_worked_examples.specs.Samples.{col, number, quoted, null_of, ◌⟨◌⟩◌, only, pack_two, five_columns, number_list, struct_p_q, mixed};
+ghost use Rattle.vx_worked_examples.specs.Samples.{operators, ends};
 
 /// A constant has its own type.
 pub fn types_a_constant()
-    ensures { loosely_typed (five_columns) (number I32 (pos 10)) ≡ Ok (int_ty I32 NonNullable) }
+    ensures { loosely_typed five_columns (number I32 (pos 10)) ≡ Ok (int_ty I32 NonNullable) }
 {}
 
 /// The null of a type has it.
 pub fn types_a_null()
-    ensures { loosely_typed (five_columns) (null_of (bool_ty Nullable)) ≡ Ok (bool_ty Nullable) }
+    ensures { loosely_typed five_columns (null_of (bool_ty Nullable)) ≡ Ok (bool_ty Nullable) }
 {}
 
 /// `and` of two booleans.
 pub fn types_and()
-    ensures { loosely_typed (five_columns) (col "bool1" ⟨ And ⟩ col "bool2") ≡ Ok (bool_ty NonNullable) }
+    ensures { loosely_typed five_columns (col "bool1" ⟨ And ⟩ col "bool2") ≡ Ok (bool_ty NonNullable) }
 {}
 
 /// `or` of two booleans.
 pub fn types_or()
-    ensures { loosely_typed (five_columns) (col "bool1" ⟨ Or ⟩ col "bool2") ≡ Ok (bool_ty NonNullable) }
+    ensures { loosely_typed five_columns (col "bool1" ⟨ Or ⟩ col "bool2") ≡ Ok (bool_ty NonNullable) }
 {}
 
 /// A negation.
 pub fn types_a_negation()
-    ensures { loosely_typed (five_columns) (not_of (col "bool1")) ≡ Ok (bool_ty NonNullable) }
+    ensures { loosely_typed five_columns (not_of (col "bool1")) ≡ Ok (bool_ty NonNullable) }
 {}
 
 /// A cast looks at its target alone.
 pub fn types_a_cast()
-    ensures { loosely_typed (five_columns) (cast root (bool_ty NonNullable)) ≡ Ok (bool_ty NonNullable) }
+    ensures { loosely_typed five_columns (cast root (bool_ty NonNullable)) ≡ Ok (bool_ty NonNullable) }
 {}
 
 /// A null test looks at nothing.
 pub fn types_a_null_test()
-    ensures { loosely_typed (five_columns) (is_null_of root) ≡ Ok (bool_ty NonNullable) }
+    ensures { loosely_typed five_columns (is_null_of root) ≡ Ok (bool_ty NonNullable) }
 {}
 
 /// A comparison of nullable columns is nullable: equality.
 pub fn types_equality()
-    ensures { loosely_typed (five_columns) (col "col1" ⟨ Eq ⟩ col "col2") ≡ Ok (bool_ty Nullable) }
+    ensures { loosely_typed five_columns (col "col1" ⟨ Eq ⟩ col "col2") ≡ Ok (bool_ty Nullable) }
 {}
 
 /// A comparison of nullable columns is nullable: inequality.
 pub fn types_inequality()
-    ensures { loosely_typed (five_columns) (col "col1" ⟨ NotEq ⟩ col "col2") ≡ Ok (bool_ty Nullable) }
+    ensures { loosely_typed five_columns (col "col1" ⟨ NotEq ⟩ col "col2") ≡ Ok (bool_ty Nullable) }
 {}
 
 /// A comparison of nullable columns is nullable: greater.
 pub fn types_greater()
-    ensures { loosely_typed (five_columns) (col "col1" ⟨ Gt ⟩ col "col2") ≡ Ok (bool_ty Nullable) }
+    ensures { loosely_typed five_columns (col "col1" ⟨ Gt ⟩ col "col2") ≡ Ok (bool_ty Nullable) }
 {}
 
 /// A comparison of nullable columns is nullable: greater or equal.
 pub fn types_greater_or_equal()
-    ensures { loosely_typed (five_columns) (col "col1" ⟨ Gte ⟩ col "col2") ≡ Ok (bool_ty Nullable) }
+    ensures { loosely_typed five_columns (col "col1" ⟨ Gte ⟩ col "col2") ≡ Ok (bool_ty Nullable) }
 {}
 
 /// A comparison of nullable columns is nullable: less.
 pub fn types_less()
-    ensures { loosely_typed (five_columns) (col "col1" ⟨ Lt ⟩ col "col2") ≡ Ok (bool_ty Nullable) }
+    ensures { loosely_typed five_columns (col "col1" ⟨ Lt ⟩ col "col2") ≡ Ok (bool_ty Nullable) }
 {}
 
 /// A comparison of nullable columns is nullable: less or equal.
 pub fn types_less_or_equal()
-    ensures { loosely_typed (five_columns) (col "col1" ⟨ Lte ⟩ col "col2") ≡ Ok (bool_ty Nullable) }
+    ensures { loosely_typed five_columns (col "col1" ⟨ Lte ⟩ col "col2") ≡ Ok (bool_ty Nullable) }
 {}
 
 /// `or` of two comparisons.
 pub fn types_or_of_comparisons()
-    ensures { loosely_typed (five_columns) ((col "col1" ⟨ Lt ⟩ col "col2") ⟨ Or ⟩ (col "col1" ⟨ NotEq ⟩ col "col2")) ≡ Ok (bool_ty Nullable) }
+    ensures { loosely_typed five_columns ((col "col1" ⟨ Lt ⟩ col "col2") ⟨ Or ⟩ (col "col1" ⟨ NotEq ⟩ col "col2")) ≡ Ok (bool_ty Nullable) }
 {}
 
 /// An included field.
 pub fn types_an_included_field()
-    ensures { loosely_typed (five_columns) (select (Include (codes "a" ∷ [])) root) ≡ Ok (struct_ty (only "a" (int_ty I32 NonNullable)) NonNullable) }
+    ensures { loosely_typed five_columns (select (Include (codes "a" ∷ [])) root) ≡ Ok (struct_ty (only "a" (int_ty I32 NonNullable)) NonNullable) }
 {}
 
 /// All fields but four.
 pub fn types_all_but_four()
-    ensures { loosely_typed (five_columns) (select (Exclude (codes "col1" ∷ codes "col2" ∷ codes "bool1" ∷ codes "bool2" ∷ [])) root) ≡ Ok (struct_ty (only "a" (int_ty I32 NonNullable)) NonNullable) }
+    ensures { loosely_typed five_columns (select (Exclude (codes "col1" ∷ codes "col2" ∷ codes "bool1" ∷ codes "bool2" ∷ [])) root)
+        ≡ Ok (struct_ty (only "a" (int_ty I32 NonNullable)) NonNullable) }
 {}
 
 /// All fields but two.
 pub fn types_all_but_two()
-    ensures { loosely_typed (five_columns) (select (Exclude (codes "col1" ∷ codes "col2" ∷ [])) root) ≡ Ok (struct_ty (field (codes "a") (int_ty I32 NonNullable) (field (codes "bool1") (bool_ty NonNullable) (only "bool2" (bool_ty NonNullable)))) NonNullable) }
+    ensures { loosely_typed five_columns (select (Exclude (codes "col1" ∷ codes "col2" ∷ [])) root)
+        ≡ Ok
+        (struct_ty
+        (field (codes "a") (int_ty I32 NonNullable)
+        (field (codes "bool1") (bool_ty NonNullable) (only "bool2" (bool_ty NonNullable))))
+        NonNullable) }
 {}
 
 /// LIKE of two texts.
@@ -106,51 +114,61 @@ pub fn types_like()
 
 /// Membership in a nullable list.
 pub fn types_membership()
-    ensures { loosely_typed (struct_ty (only "array" (list_ty (int_ty I32 NonNullable) Nullable)) NonNullable) (list_contains (col "array") (number I32 (pos 2))) ≡ Ok (bool_ty Nullable) }
+    ensures { loosely_typed (struct_ty (only "array" (list_ty (int_ty I32 NonNullable) Nullable)) NonNullable)
+        (list_contains (col "array") (number I32 (pos 2)))
+        ≡ Ok (bool_ty Nullable) }
 {}
 
 /// Comparisons ask equal types by the strict rules alone.
 pub fn types_a_comparison_of_two_kinds_loosely()
-    ensures strictly { typed_of (five_columns) (col "a" ⟨ Eq ⟩ col "bool1") ≡ Err type_mismatch }
-    ensures loosely { loosely_typed (five_columns) (col "a" ⟨ Eq ⟩ col "bool1") ≡ Ok (bool_ty NonNullable) }
+    ensures strictly { typed_of five_columns (col "a" ⟨ Eq ⟩ col "bool1") ≡ Err type_mismatch }
+    ensures loosely { loosely_typed five_columns (col "a" ⟨ Eq ⟩ col "bool1") ≡ Ok (bool_ty NonNullable) }
 {}
 
 /// A missing excluded name is refused by the strict rules alone.
 pub fn passes_over_a_missing_excluded_name_loosely()
-    ensures strictly { typed_of (five_columns) (select (Exclude (codes "zz" ∷ codes "a" ∷ codes "col1" ∷ codes "col2" ∷ codes "bool1" ∷ [])) root) ≡ Err unknown_field }
-    ensures loosely { loosely_typed (five_columns) (select (Exclude (codes "zz" ∷ codes "a" ∷ codes "col1" ∷ codes "col2" ∷ codes "bool1" ∷ [])) root) ≡ Ok (struct_ty (only "bool2" (bool_ty NonNullable)) NonNullable) }
+    ensures strictly { typed_of five_columns
+        (select (Exclude (codes "zz" ∷ codes "a" ∷ codes "col1" ∷ codes "col2" ∷ codes "bool1" ∷ [])) root)
+        ≡ Err unknown_field }
+    ensures loosely { loosely_typed five_columns
+        (select (Exclude (codes "zz" ∷ codes "a" ∷ codes "col1" ∷ codes "col2" ∷ codes "bool1" ∷ [])) root)
+        ≡ Ok (struct_ty (only "bool2" (bool_ty NonNullable)) NonNullable) }
 {}
 
 /// A select of a nullable struct is nullable by the looser rules, and has no strict type.
 pub fn types_a_nullable_select_loosely()
     ensures strictly { typed_of (struct_ty (only "a" (int_ty I32 NonNullable)) Nullable) (select (Include (codes "a" ∷ [])) root) ≡ Err nullable_select }
-    ensures loosely { loosely_typed (struct_ty (only "a" (int_ty I32 NonNullable)) Nullable) (select (Include (codes "a" ∷ [])) root) ≡ Ok (struct_ty (only "a" (int_ty I32 NonNullable)) Nullable) }
+    ensures loosely { loosely_typed (struct_ty (only "a" (int_ty I32 NonNullable)) Nullable) (select (Include (codes "a" ∷ [])) root)
+        ≡ Ok (struct_ty (only "a" (int_ty I32 NonNullable)) Nullable) }
 {}
 
 /// A name twice in a pack is refused by the strict rules alone; of two fields of one name the first is taken.
 pub fn takes_the_first_of_two_fields_loosely()
-    ensures strictly { typed_of (five_columns) (get_item (codes "n") (pack_two "n" (number I32 (pos 1)) "n" (number U8 (pos 2)))) ≡ Err duplicate_field }
-    ensures loosely { loosely_typed (five_columns) (get_item (codes "n") (pack_two "n" (number I32 (pos 1)) "n" (number U8 (pos 2)))) ≡ Ok (int_ty I32 NonNullable) }
+    ensures strictly { typed_of five_columns (get_item (codes "n") (pack_two "n" (number I32 (pos 1)) "n" (number U8 (pos 2)))) ≡ Err duplicate_field }
+    ensures loosely { loosely_typed five_columns (get_item (codes "n") (pack_two "n" (number I32 (pos 1)) "n" (number U8 (pos 2))))
+        ≡ Ok (int_ty I32 NonNullable) }
 {}
 
 /// A sum of two integer types has no type by either rules.
 pub fn types_no_sum_of_two_integer_types()
-    ensures strictly { typed_of (five_columns) (col "a" ⟨ Add ⟩ col "col1") ≡ Err type_mismatch }
-    ensures loosely { loosely_typed (five_columns) (col "a" ⟨ Add ⟩ col "col1") ≡ Err type_mismatch }
+    ensures strictly { typed_of five_columns (col "a" ⟨ Add ⟩ col "col1") ≡ Err type_mismatch }
+    ensures loosely { loosely_typed five_columns (col "a" ⟨ Add ⟩ col "col1") ≡ Err type_mismatch }
 {}
 
 /// A sum of nullable numbers is nullable.
 pub fn types_a_sum()
-    ensures strictly { typed_of (five_columns) (col "col1" ⟨ Add ⟩ col "col2") ≡ Ok (int_ty U16 Nullable) }
-    ensures loosely { loosely_typed (five_columns) (col "col1" ⟨ Add ⟩ col "col2") ≡ Ok (int_ty U16 Nullable) }
+    ensures strictly { typed_of five_columns (col "col1" ⟨ Add ⟩ col "col2") ≡ Ok (int_ty U16 Nullable) }
+    ensures loosely { loosely_typed five_columns (col "col1" ⟨ Add ⟩ col "col2") ≡ Ok (int_ty U16 Nullable) }
 {}
 
 /// The row and constants have their types, whatever stands in them twice or doesn't fit.
 pub fn types_rows_and_constants_loosely()
-    ensures row { loosely_typed (struct_ty (field (codes "a") (int_ty I32 NonNullable) (only "a" (bool_ty NonNullable))) NonNullable) root ≡ Ok (struct_ty (field (codes "a") (int_ty I32 NonNullable) (only "a" (bool_ty NonNullable))) NonNullable) }
+    ensures row { loosely_typed (struct_ty (field (codes "a") (int_ty I32 NonNullable) (only "a" (bool_ty NonNullable))) NonNullable) root
+        ≡ Ok (struct_ty (field (codes "a") (int_ty I32 NonNullable) (only "a" (bool_ty NonNullable))) NonNullable) }
     ensures constant { loosely_typed mixed (number U8 (pos 256)) ≡ Ok (int_ty U8 NonNullable) }
     ensures null_test { loosely_typed mixed (is_null_of (col "z")) ≡ Ok (bool_ty NonNullable) }
-    ensures null_test_of_a_nullable_row { loosely_typed (struct_ty (only "a" (bool_ty NonNullable)) Nullable) (is_null_of root) ≡ Ok (bool_ty NonNullable) }
+    ensures null_test_of_a_nullable_row { loosely_typed (struct_ty (only "a" (bool_ty NonNullable)) Nullable) (is_null_of root)
+        ≡ Ok (bool_ty NonNullable) }
     ensures casting { loosely_typed mixed (cast (col "z") (int_ty I32 Nullable)) ≡ Ok (int_ty I32 Nullable) }
 {}
 
@@ -165,14 +183,22 @@ pub fn types_fields_and_negations_loosely()
 
 /// Each operator: sums and differences alone ask equal integer types.
 pub fn types_operators_loosely()
-    ensures numbers { map (λ op. loosely_typed mixed (col "a" ⟨ op ⟩ col "a")) operators ≡ replicate 8 (Ok (bool_ty NonNullable)) ++ replicate 2 (Ok (int_ty I32 NonNullable)) }
-    ensures nullable_right { map (λ op. loosely_typed mixed (col "a" ⟨ op ⟩ col "b")) operators ≡ replicate 8 (Ok (bool_ty Nullable)) ++ replicate 2 (Ok (int_ty I32 Nullable)) }
-    ensures nullable_left { map (λ op. loosely_typed mixed (col "b" ⟨ op ⟩ col "a")) operators ≡ replicate 8 (Ok (bool_ty Nullable)) ++ replicate 2 (Ok (int_ty I32 Nullable)) }
-    ensures boolean_and_number { map (λ op. loosely_typed mixed (col "f" ⟨ op ⟩ col "b")) operators ≡ replicate 8 (Ok (bool_ty Nullable)) ++ replicate 2 (Err type_mismatch) }
-    ensures number_and_boolean { map (λ op. loosely_typed mixed (col "b" ⟨ op ⟩ col "f")) operators ≡ replicate 8 (Ok (bool_ty Nullable)) ++ replicate 2 (Err type_mismatch) }
-    ensures two_widths { map (λ op. loosely_typed mixed (col "a" ⟨ op ⟩ number I64 (pos 1))) operators ≡ replicate 8 (Ok (bool_ty NonNullable)) ++ replicate 2 (Err type_mismatch) }
-    ensures texts { map (λ op. loosely_typed mixed (col "t" ⟨ op ⟩ col "u")) operators ≡ replicate 8 (Ok (bool_ty Nullable)) ++ replicate 2 (Err type_mismatch) }
-    ensures lists { map (λ op. loosely_typed mixed (col "l" ⟨ op ⟩ col "l")) operators ≡ replicate 8 (Ok (bool_ty Nullable)) ++ replicate 2 (Err type_mismatch) }
+    ensures numbers { map (λ op. loosely_typed mixed (col "a" ⟨ op ⟩ col "a")) operators
+        ≡ replicate 8 (Ok (bool_ty NonNullable)) ++ replicate 2 (Ok (int_ty I32 NonNullable)) }
+    ensures nullable_right { map (λ op. loosely_typed mixed (col "a" ⟨ op ⟩ col "b")) operators
+        ≡ replicate 8 (Ok (bool_ty Nullable)) ++ replicate 2 (Ok (int_ty I32 Nullable)) }
+    ensures nullable_left { map (λ op. loosely_typed mixed (col "b" ⟨ op ⟩ col "a")) operators
+        ≡ replicate 8 (Ok (bool_ty Nullable)) ++ replicate 2 (Ok (int_ty I32 Nullable)) }
+    ensures boolean_and_number { map (λ op. loosely_typed mixed (col "f" ⟨ op ⟩ col "b")) operators
+        ≡ replicate 8 (Ok (bool_ty Nullable)) ++ replicate 2 (Err type_mismatch) }
+    ensures number_and_boolean { map (λ op. loosely_typed mixed (col "b" ⟨ op ⟩ col "f")) operators
+        ≡ replicate 8 (Ok (bool_ty Nullable)) ++ replicate 2 (Err type_mismatch) }
+    ensures two_widths { map (λ op. loosely_typed mixed (col "a" ⟨ op ⟩ number I64 (pos 1))) operators
+        ≡ replicate 8 (Ok (bool_ty NonNullable)) ++ replicate 2 (Err type_mismatch) }
+    ensures texts { map (λ op. loosely_typed mixed (col "t" ⟨ op ⟩ col "u")) operators
+        ≡ replicate 8 (Ok (bool_ty Nullable)) ++ replicate 2 (Err type_mismatch) }
+    ensures lists { map (λ op. loosely_typed mixed (col "l" ⟨ op ⟩ col "l")) operators
+        ≡ replicate 8 (Ok (bool_ty Nullable)) ++ replicate 2 (Err type_mismatch) }
 {}
 
 /// LIKE and membership ask nothing of their operands' types, and are nullable where one is.
@@ -211,7 +237,8 @@ pub fn types_slots_loosely()
 
 /// A pack has as many names as values, which may stand twice.
 pub fn types_packs_loosely()
-    ensures twice { loosely_typed mixed (pack_two "x" (col "a") "x" (col "g")) ≡ Ok (struct_ty (field (codes "x") (int_ty I32 NonNullable) (only "x" (bool_ty Nullable))) NonNullable) }
+    ensures twice { loosely_typed mixed (pack_two "x" (col "a") "x" (col "g"))
+        ≡ Ok (struct_ty (field (codes "x") (int_ty I32 NonNullable) (only "x" (bool_ty Nullable))) NonNullable) }
     ensures nullable { loosely_typed mixed (pack [] no_trees Nullable) ≡ Ok (struct_ty no_fields Nullable) }
     ensures fewer_names { loosely_typed mixed (pack (codes "x" ∷ []) (tree (col "a") (tree (col "b") no_trees)) NonNullable) ≡ Err type_mismatch }
     ensures more_names { loosely_typed mixed (pack (codes "x" ∷ codes "y" ∷ []) (tree (col "a") no_trees) NonNullable) ≡ Err type_mismatch }
@@ -219,16 +246,25 @@ pub fn types_packs_loosely()
 
 /// A merge is typed as by the strict rules.
 pub fn types_merges_loosely()
-    ensures nullable_last { loosely_typed mixed (merge (tree (col "s") (tree (col "n") no_trees)) NonNullable) ≡ Ok (struct_ty (field (codes "p") (int_ty I32 NonNullable) (field (codes "q") (bool_ty Nullable) (only "r" (int_ty I32 Nullable)))) NonNullable) }
-    ensures nullable_first { loosely_typed mixed (merge (tree (col "n") (tree (col "s") no_trees)) Nullable) ≡ Ok (struct_ty (field (codes "q") (text_ty NonNullable) (field (codes "r") (int_ty I32 Nullable) (only "p" (int_ty I32 NonNullable)))) Nullable) }
+    ensures nullable_last { loosely_typed mixed (merge (tree (col "s") (tree (col "n") no_trees)) NonNullable)
+        ≡ Ok
+        (struct_ty (field (codes "p") (int_ty I32 NonNullable) (field (codes "q") (bool_ty Nullable) (only "r" (int_ty I32 Nullable))))
+        NonNullable) }
+    ensures nullable_first { loosely_typed mixed (merge (tree (col "n") (tree (col "s") no_trees)) Nullable)
+        ≡ Ok
+        (struct_ty
+        (field (codes "q") (text_ty NonNullable) (field (codes "r") (int_ty I32 Nullable) (only "p" (int_ty I32 NonNullable))))
+        Nullable) }
     ensures none { loosely_typed mixed (merge no_trees NonNullable) ≡ Ok (struct_ty no_fields NonNullable) }
     ensures number { loosely_typed mixed (merge (tree (col "s") (tree (col "a") no_trees)) NonNullable) ≡ Err not_struct }
 {}
 
 /// A select asks a struct that has each included name, which may stand twice.
 pub fn types_selects_loosely()
-    ensures in_its_order { loosely_typed mixed (select (Include (codes "q" ∷ codes "p" ∷ [])) (col "s")) ≡ Ok (struct_ty (field (codes "q") (text_ty NonNullable) (only "p" (int_ty I32 NonNullable))) NonNullable) }
-    ensures twice { loosely_typed mixed (select (Include (codes "p" ∷ codes "p" ∷ [])) (col "s")) ≡ Ok (struct_ty (field (codes "p") (int_ty I32 NonNullable) (only "p" (int_ty I32 NonNullable))) NonNullable) }
+    ensures in_its_order { loosely_typed mixed (select (Include (codes "q" ∷ codes "p" ∷ [])) (col "s"))
+        ≡ Ok (struct_ty (field (codes "q") (text_ty NonNullable) (only "p" (int_ty I32 NonNullable))) NonNullable) }
+    ensures twice { loosely_typed mixed (select (Include (codes "p" ∷ codes "p" ∷ [])) (col "s"))
+        ≡ Ok (struct_ty (field (codes "p") (int_ty I32 NonNullable) (only "p" (int_ty I32 NonNullable))) NonNullable) }
     ensures without { loosely_typed mixed (select (Exclude (codes "q" ∷ [])) (col "n")) ≡ Ok (struct_ty (only "r" (int_ty I32 NonNullable)) Nullable) }
     ensures missing { loosely_typed mixed (select (Include (codes "q" ∷ codes "z" ∷ [])) (col "s")) ≡ Err unknown_field }
     ensures number { loosely_typed mixed (select (Include (codes "p" ∷ [])) (col "a")) ≡ Err not_struct }
@@ -254,19 +290,40 @@ pub fn refuses_in_post_order_loosely()
 /// Each kind asks the looser type of what stands in it, also where that has no strict type.
 pub fn types_children_loosely()
     ensures item { loosely_typed mixed (get_item (codes "a") (select (Exclude (codes "z" ∷ [])) root)) ≡ Ok (int_ty I32 NonNullable) }
-    ensures left { map (λ op. loosely_typed mixed ((get_item (codes "a") (select (Exclude (codes "z" ∷ [])) root)) ⟨ op ⟩ col "a")) operators ≡ replicate 8 (Ok (bool_ty NonNullable)) ++ replicate 2 (Ok (int_ty I32 NonNullable)) }
-    ensures right { map (λ op. loosely_typed mixed (col "a" ⟨ op ⟩ (get_item (codes "a") (select (Exclude (codes "z" ∷ [])) root)))) operators ≡ replicate 8 (Ok (bool_ty NonNullable)) ++ replicate 2 (Ok (int_ty I32 NonNullable)) }
-    ensures negation { loosely_typed mixed (not_of ((get_item (codes "a") (select (Exclude (codes "z" ∷ [])) root)) ⟨ Eq ⟩ col "a")) ≡ Ok (bool_ty NonNullable) }
-    ensures text { loosely_typed mixed (like (get_item (codes "a") (select (Exclude (codes "z" ∷ [])) root)) (col "t") false false) ≡ Ok (bool_ty NonNullable) }
-    ensures pattern { loosely_typed mixed (like (col "t") (get_item (codes "a") (select (Exclude (codes "z" ∷ [])) root)) false false) ≡ Ok (bool_ty NonNullable) }
-    ensures range { loosely_typed mixed (between (get_item (codes "a") (select (Exclude (codes "z" ∷ [])) root)) (col "a") (col "a") (ends Strict Strict)) ≡ Ok (bool_ty NonNullable) }
-    ensures lower { loosely_typed mixed (between (col "a") (get_item (codes "a") (select (Exclude (codes "z" ∷ [])) root)) (col "a") (ends Strict Strict)) ≡ Ok (bool_ty NonNullable) }
-    ensures upper { loosely_typed mixed (between (col "a") (col "a") (get_item (codes "a") (select (Exclude (codes "z" ∷ [])) root)) (ends Strict Strict)) ≡ Ok (bool_ty NonNullable) }
-    ensures list { loosely_typed mixed (list_contains (get_item (codes "a") (select (Exclude (codes "z" ∷ [])) root)) (col "a")) ≡ Ok (bool_ty NonNullable) }
-    ensures value { loosely_typed mixed (list_contains (col "a") (get_item (codes "a") (select (Exclude (codes "z" ∷ [])) root))) ≡ Ok (bool_ty NonNullable) }
-    ensures packed { loosely_typed mixed (pack_two "p" (col "a") "q" (get_item (codes "a") (select (Exclude (codes "z" ∷ [])) root))) ≡ Ok (struct_ty (field (codes "p") (int_ty I32 NonNullable) (only "q" (int_ty I32 NonNullable))) NonNullable) }
-    ensures packed_first { loosely_typed mixed (pack_two "p" (get_item (codes "a") (select (Exclude (codes "z" ∷ [])) root)) "q" (col "a")) ≡ Ok (struct_ty (field (codes "p") (int_ty I32 NonNullable) (only "q" (int_ty I32 NonNullable))) NonNullable) }
-    ensures merged { loosely_typed mixed (merge (tree (col "s") (tree (select (Exclude (codes "z" ∷ [])) (col "s")) no_trees)) NonNullable) ≡ Ok struct_p_q }
-    ensures selected { loosely_typed mixed (select (Include (codes "a" ∷ [])) (select (Exclude (codes "z" ∷ [])) root)) ≡ Ok (struct_ty (only "a" (int_ty I32 NonNullable)) NonNullable) }
-    ensures slot { loosely_typed mixed (dynamic (get_item (codes "a") (select (Exclude (codes "z" ∷ [])) root)) Above 0 (int_ty I32 NonNullable) true) ≡ Ok (bool_ty NonNullable) }
+    ensures left { map (λ op. loosely_typed mixed ((get_item (codes "a") (select (Exclude (codes "z" ∷ [])) root)) ⟨ op ⟩ col "a"))
+        operators
+        ≡ replicate 8 (Ok (bool_ty NonNullable)) ++ replicate 2 (Ok (int_ty I32 NonNullable)) }
+    ensures right { map (λ op. loosely_typed mixed (col "a" ⟨ op ⟩ (get_item (codes "a") (select (Exclude (codes "z" ∷ [])) root))))
+        operators
+        ≡ replicate 8 (Ok (bool_ty NonNullable)) ++ replicate 2 (Ok (int_ty I32 NonNullable)) }
+    ensures negation { loosely_typed mixed (not_of ((get_item (codes "a") (select (Exclude (codes "z" ∷ [])) root)) ⟨ Eq ⟩ col "a"))
+        ≡ Ok (bool_ty NonNullable) }
+    ensures text { loosely_typed mixed (like (get_item (codes "a") (select (Exclude (codes "z" ∷ [])) root)) (col "t") false false)
+        ≡ Ok (bool_ty NonNullable) }
+    ensures pattern { loosely_typed mixed (like (col "t") (get_item (codes "a") (select (Exclude (codes "z" ∷ [])) root)) false false)
+        ≡ Ok (bool_ty NonNullable) }
+    ensures range { loosely_typed mixed
+        (between (get_item (codes "a") (select (Exclude (codes "z" ∷ [])) root)) (col "a") (col "a") (ends Strict Strict))
+        ≡ Ok (bool_ty NonNullable) }
+    ensures lower { loosely_typed mixed
+        (between (col "a") (get_item (codes "a") (select (Exclude (codes "z" ∷ [])) root)) (col "a") (ends Strict Strict))
+        ≡ Ok (bool_ty NonNullable) }
+    ensures upper { loosely_typed mixed
+        (between (col "a") (col "a") (get_item (codes "a") (select (Exclude (codes "z" ∷ [])) root)) (ends Strict Strict))
+        ≡ Ok (bool_ty NonNullable) }
+    ensures list { loosely_typed mixed (list_contains (get_item (codes "a") (select (Exclude (codes "z" ∷ [])) root)) (col "a"))
+        ≡ Ok (bool_ty NonNullable) }
+    ensures value { loosely_typed mixed (list_contains (col "a") (get_item (codes "a") (select (Exclude (codes "z" ∷ [])) root)))
+        ≡ Ok (bool_ty NonNullable) }
+    ensures packed { loosely_typed mixed (pack_two "p" (col "a") "q" (get_item (codes "a") (select (Exclude (codes "z" ∷ [])) root)))
+        ≡ Ok (struct_ty (field (codes "p") (int_ty I32 NonNullable) (only "q" (int_ty I32 NonNullable))) NonNullable) }
+    ensures packed_first { loosely_typed mixed (pack_two "p" (get_item (codes "a") (select (Exclude (codes "z" ∷ [])) root)) "q" (col "a"))
+        ≡ Ok (struct_ty (field (codes "p") (int_ty I32 NonNullable) (only "q" (int_ty I32 NonNullable))) NonNullable) }
+    ensures merged { loosely_typed mixed (merge (tree (col "s") (tree (select (Exclude (codes "z" ∷ [])) (col "s")) no_trees)) NonNullable)
+        ≡ Ok struct_p_q }
+    ensures selected { loosely_typed mixed (select (Include (codes "a" ∷ [])) (select (Exclude (codes "z" ∷ [])) root))
+        ≡ Ok (struct_ty (only "a" (int_ty I32 NonNullable)) NonNullable) }
+    ensures slot { loosely_typed mixed
+        (dynamic (get_item (codes "a") (select (Exclude (codes "z" ∷ [])) root)) Above 0 (int_ty I32 NonNullable) true)
+        ≡ Ok (bool_ty NonNullable) }
 {}

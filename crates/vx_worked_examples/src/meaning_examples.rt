@@ -16,12 +16,15 @@ ghost use Rattle.vx_semantics.specs.Meaning.{mean, merged_value};
 ghost use Rattle.vx_semantics.specs.Breaks.{break_of, by_sum, by_cast, cause_where};
 ghost use Rattle.vx_semantics.specs.Tables.{row_type};
 ghost use Rattle.vx_semantics.specs.Scans.{phase_breaks};
-ghost use Rattle.vx_worked_examples.specs.Samples.{col, number, quoted, null_of, ◌⟨◌⟩◌, alone, only, pack_one, pack_two, slot_of, comparisons, with_slot, number_list, two_small, ends, mean_of, break_in};
+ghost use Rattle.vx_worked_examples.specs.Samples.{col, number, quoted, null_of, ◌⟨◌⟩◌, alone, only, pack_one, pack_two, slot_of, comparisons, with_slot};
+ghost use Rattle.vx_worked_examples.specs.Samples.{number_list, two_small, ends, mean_of, break_in};
 
 /// A select keeps the included fields, or all but the excluded ones.
 pub fn selects_fields()
-    ensures included { mean_of (select (Include (codes "b" ∷ [])) (pack_two "a" (number I32 (pos 1)) "b" (number I32 (pos 2)))) ≡ alone "b" (int_val I32 (pos 2)) }
-    ensures excluded { mean_of (select (Exclude (codes "b" ∷ [])) (pack_two "a" (number I32 (pos 1)) "b" (number I32 (pos 2)))) ≡ alone "a" (int_val I32 (pos 1)) }
+    ensures included { mean_of (select (Include (codes "b" ∷ [])) (pack_two "a" (number I32 (pos 1)) "b" (number I32 (pos 2))))
+        ≡ alone "b" (int_val I32 (pos 2)) }
+    ensures excluded { mean_of (select (Exclude (codes "b" ∷ [])) (pack_two "a" (number I32 (pos 1)) "b" (number I32 (pos 2))))
+        ≡ alone "a" (int_val I32 (pos 1)) }
 {}
 
 /// LIKE is inverted where it is negated, and passes over the case of letters where it folds them; null beside null, a fault for a number.
@@ -40,19 +43,45 @@ pub fn matches_in_expressions()
 
 /// A comparison with a slot by each operator, below the slot's value, at it and above it; without a value each answers its default.
 pub fn compares_with_a_slot_by_each_operator()
-    ensures below { map (λ op. mean (struct_ty no_fields NonNullable) (slot_of I32 (pos 9) ∷ []) (alone "x" (int_val I32 (pos 7))) (with_slot op true)) comparisons ≡ bool_val false ∷ bool_val true ∷ bool_val false ∷ bool_val false ∷ bool_val true ∷ bool_val true ∷ [] }
-    ensures at { map (λ op. mean (struct_ty no_fields NonNullable) (slot_of I32 (pos 9) ∷ []) (alone "x" (int_val I32 (pos 9))) (with_slot op true)) comparisons ≡ bool_val true ∷ bool_val false ∷ bool_val false ∷ bool_val true ∷ bool_val false ∷ bool_val true ∷ [] }
-    ensures above { map (λ op. mean (struct_ty no_fields NonNullable) (slot_of I32 (pos 9) ∷ []) (alone "x" (int_val I32 (pos 11))) (with_slot op true)) comparisons ≡ bool_val false ∷ bool_val true ∷ bool_val true ∷ bool_val true ∷ bool_val false ∷ bool_val false ∷ [] }
-    ensures default_true { map (λ op. mean (struct_ty no_fields NonNullable) [] (alone "x" (int_val I32 (pos 7))) (with_slot op true)) comparisons ≡ replicate 6 (bool_val true) }
-    ensures default_false { map (λ op. mean (struct_ty no_fields NonNullable) [] (alone "x" (int_val I32 (pos 7))) (with_slot op false)) comparisons ≡ replicate 6 (bool_val false) }
-    ensures default_beside_null { map (λ op. mean (struct_ty no_fields NonNullable) [] (alone "x" null_val) (with_slot op false)) comparisons ≡ replicate 6 (bool_val false) }
-    ensures fault_before_default { map (λ op. mean (struct_ty no_fields NonNullable) [] (alone "x" fault) (with_slot op false)) comparisons ≡ replicate 6 fault }
+    ensures below { map
+        (λ op. mean (struct_ty no_fields NonNullable) (slot_of I32 (pos 9) ∷ []) (alone "x" (int_val I32 (pos 7))) (with_slot op true))
+        comparisons
+        ≡ bool_val false ∷ bool_val true ∷ bool_val false ∷ bool_val false ∷ bool_val true ∷ bool_val true ∷ [] }
+    ensures at { map
+        (λ op. mean (struct_ty no_fields NonNullable) (slot_of I32 (pos 9) ∷ []) (alone "x" (int_val I32 (pos 9))) (with_slot op true))
+        comparisons
+        ≡ bool_val true ∷ bool_val false ∷ bool_val false ∷ bool_val true ∷ bool_val false ∷ bool_val true ∷ [] }
+    ensures above { map
+        (λ op. mean (struct_ty no_fields NonNullable) (slot_of I32 (pos 9) ∷ []) (alone "x" (int_val I32 (pos 11))) (with_slot op true))
+        comparisons
+        ≡ bool_val false ∷ bool_val true ∷ bool_val true ∷ bool_val true ∷ bool_val false ∷ bool_val false ∷ [] }
+    ensures default_true { map (λ op. mean (struct_ty no_fields NonNullable) [] (alone "x" (int_val I32 (pos 7))) (with_slot op true))
+        comparisons
+        ≡ replicate 6 (bool_val true) }
+    ensures default_false { map (λ op. mean (struct_ty no_fields NonNullable) [] (alone "x" (int_val I32 (pos 7))) (with_slot op false))
+        comparisons
+        ≡ replicate 6 (bool_val false) }
+    ensures default_beside_null { map (λ op. mean (struct_ty no_fields NonNullable) [] (alone "x" null_val) (with_slot op false))
+        comparisons
+        ≡ replicate 6 (bool_val false) }
+    ensures fault_before_default { map (λ op. mean (struct_ty no_fields NonNullable) [] (alone "x" fault) (with_slot op false)) comparisons
+        ≡ replicate 6 fault }
 {}
 
 /// Of three structs the last that has a field gives it, also where the one between has none.
 pub fn merges_three_structs()
-    ensures value { mean_of (merge (tree (pack_one "a" (number I32 (pos 1))) (tree (pack_one "b" (number I32 (pos 2))) (tree (pack_one "a" (number I8 (pos 3))) no_trees))) NonNullable) ≡ struct_val (member (codes "a") (int_val I8 (pos 3)) (member (codes "b") (int_val I32 (pos 2)) no_members)) }
-    ensures its_type { typed_of (struct_ty no_fields NonNullable) (merge (tree (pack_one "a" (number I32 (pos 1))) (tree (pack_one "b" (number I32 (pos 2))) (tree (pack_one "a" (number I8 (pos 3))) no_trees))) NonNullable) ≡ Ok (struct_ty (field (codes "a") (int_ty I8 NonNullable) (only "b" (int_ty I32 NonNullable))) NonNullable) }
+    ensures value { mean_of
+        (merge
+        (tree (pack_one "a" (number I32 (pos 1)))
+        (tree (pack_one "b" (number I32 (pos 2))) (tree (pack_one "a" (number I8 (pos 3))) no_trees)))
+        NonNullable)
+        ≡ struct_val (member (codes "a") (int_val I8 (pos 3)) (member (codes "b") (int_val I32 (pos 2)) no_members)) }
+    ensures its_type { typed_of (struct_ty no_fields NonNullable)
+        (merge
+        (tree (pack_one "a" (number I32 (pos 1)))
+        (tree (pack_one "b" (number I32 (pos 2))) (tree (pack_one "a" (number I8 (pos 3))) no_trees)))
+        NonNullable)
+        ≡ Ok (struct_ty (field (codes "a") (int_ty I8 NonNullable) (only "b" (int_ty I32 NonNullable))) NonNullable) }
 {}
 
 /// A field that no struct of a merge has is a fault.
@@ -79,21 +108,40 @@ pub fn means_ranges()
 
 /// Null beside a value is null: of a slot, and in a list.
 pub fn means_null_beside_a_value()
-    ensures slot { map (λ op. mean (struct_ty no_fields NonNullable) (slot_of I32 (pos 9) ∷ []) (alone "x" null_val) (with_slot op true)) comparisons ≡ replicate 6 null_val }
-    ensures null_in_a_slot { map (λ op. mean (struct_ty no_fields NonNullable) (Some (record { ty = int_ty I32 Nullable; value = raw_null }) ∷ []) (alone "x" (int_val I32 (pos 7))) (with_slot op true)) comparisons ≡ replicate 6 null_val }
+    ensures slot { map (λ op. mean (struct_ty no_fields NonNullable) (slot_of I32 (pos 9) ∷ []) (alone "x" null_val) (with_slot op true))
+        comparisons
+        ≡ replicate 6 null_val }
+    ensures null_in_a_slot { map
+        (λ op. mean (struct_ty no_fields NonNullable) (Some (record { ty = int_ty I32 Nullable; value = raw_null }) ∷ [])
+        (alone "x" (int_val I32 (pos 7))) (with_slot op true))
+        comparisons
+        ≡ replicate 6 null_val }
     ensures null_list { mean_of (list_contains (null_of (list_ty (int_ty I32 NonNullable) Nullable)) (number I32 (pos 1))) ≡ null_val }
     ensures null_member { mean_of (list_contains (number_list I32 (pos 1 ∷ [])) (null_of (int_ty I32 Nullable))) ≡ null_val }
 {}
 
 /// Casts and slots leave the table's type to what stands in them: a merge in them has the row's names.
 pub fn means_merges_of_the_row_in_casts_and_slots()
-    ensures casting { mean (row_type two_small.columns) [] (struct_val (member (codes "x") (int_val I8 (pos 127)) (member (codes "y") (int_val I8 (pos 5)) no_members))) (cast (get_item (codes "y") (merge (tree root no_trees) NonNullable)) (int_ty I64 NonNullable)) ≡ int_val I64 (pos 5) }
-    ensures slot { mean (row_type two_small.columns) [] (struct_val (member (codes "x") (int_val I8 (pos 127)) (member (codes "y") (int_val I8 (pos 5)) no_members))) (dynamic (get_item (codes "y") (merge (tree root no_trees) NonNullable)) Above 0 (int_ty I8 NonNullable) true) ≡ bool_val true }
-    ensures sound_cast { break_of (row_type two_small.columns) [] (struct_val (member (codes "x") (int_val I8 (pos 127)) (member (codes "y") (int_val I8 (pos 5)) no_members))) (cast (get_item (codes "y") (merge (tree root no_trees) NonNullable)) (int_ty I64 NonNullable)) ≡ None }
-    ensures unsound_cast { break_of (row_type two_small.columns) [] (struct_val (member (codes "x") (int_val I8 (pos 127)) (member (codes "y") (int_val I8 (pos 5)) no_members))) (cast (get_item (codes "y") (merge (tree root no_trees) NonNullable)) (bool_ty NonNullable)) ≡ Some by_cast }
+    ensures casting { mean (row_type two_small.columns) []
+        (struct_val (member (codes "x") (int_val I8 (pos 127)) (member (codes "y") (int_val I8 (pos 5)) no_members)))
+        (cast (get_item (codes "y") (merge (tree root no_trees) NonNullable)) (int_ty I64 NonNullable))
+        ≡ int_val I64 (pos 5) }
+    ensures slot { mean (row_type two_small.columns) []
+        (struct_val (member (codes "x") (int_val I8 (pos 127)) (member (codes "y") (int_val I8 (pos 5)) no_members)))
+        (dynamic (get_item (codes "y") (merge (tree root no_trees) NonNullable)) Above 0 (int_ty I8 NonNullable) true)
+        ≡ bool_val true }
+    ensures sound_cast { break_of (row_type two_small.columns) []
+        (struct_val (member (codes "x") (int_val I8 (pos 127)) (member (codes "y") (int_val I8 (pos 5)) no_members)))
+        (cast (get_item (codes "y") (merge (tree root no_trees) NonNullable)) (int_ty I64 NonNullable))
+        ≡ None }
+    ensures unsound_cast { break_of (row_type two_small.columns) []
+        (struct_val (member (codes "x") (int_val I8 (pos 127)) (member (codes "y") (int_val I8 (pos 5)) no_members)))
+        (cast (get_item (codes "y") (merge (tree root no_trees) NonNullable)) (bool_ty NonNullable))
+        ≡ Some by_cast }
 {}
 
-/// A difference that has a value doesn't break. An operand that holds a fault and is none doesn't keep a node from breaking, nor is such a value one that broke.
+/// A difference that has a value doesn't break.
+/// An operand that holds a fault and is none doesn't keep a node from breaking, nor is such a value one that broke.
 pub fn breaks_by_faults_alone()
     ensures sound_difference { break_in (number I8 (pos 5) ⟨ Sub ⟩ number I8 (pos 1)) ≡ None }
     ensures left_of_a_sum { break_in ((pack_one "a" (number I8 (pos 127) ⟨ Add ⟩ number I8 (pos 1))) ⟨ Add ⟩ number I8 (pos 1)) ≡ Some by_sum }
@@ -106,8 +154,23 @@ pub fn breaks_by_faults_alone()
 
 /// A phase breaks where a node breaks at one of its rows, by a sum or by a cast.
 pub fn breaks_phases_by_either_cause()
-    ensures sum { phase_breaks (row_type two_small.columns) [] (record { expression = col "x" ⟨ Add ⟩ col "y"; rows = (struct_val (member (codes "x") (int_val I8 (pos 127)) (member (codes "y") (int_val I8 (pos 5)) no_members))) ∷ [] }) ≡ true }
-    ensures casting { phase_breaks (row_type two_small.columns) [] (record { expression = cast (col "x") (bool_ty NonNullable); rows = (struct_val (member (codes "x") (int_val I8 (pos 127)) (member (codes "y") (int_val I8 (pos 5)) no_members))) ∷ [] }) ≡ true }
-    ensures sound { phase_breaks (row_type two_small.columns) [] (record { expression = col "x" ⟨ Sub ⟩ col "y"; rows = (struct_val (member (codes "x") (int_val I8 (pos 127)) (member (codes "y") (int_val I8 (pos 5)) no_members))) ∷ [] }) ≡ false }
+    ensures sum { phase_breaks (row_type two_small.columns) []
+        (record {
+          expression = col "x" ⟨ Add ⟩ col "y";
+          rows = (struct_val (member (codes "x") (int_val I8 (pos 127)) (member (codes "y") (int_val I8 (pos 5)) no_members))) ∷ [];
+        })
+        ≡ true }
+    ensures casting { phase_breaks (row_type two_small.columns) []
+        (record {
+          expression = cast (col "x") (bool_ty NonNullable);
+          rows = (struct_val (member (codes "x") (int_val I8 (pos 127)) (member (codes "y") (int_val I8 (pos 5)) no_members))) ∷ [];
+        })
+        ≡ true }
+    ensures sound { phase_breaks (row_type two_small.columns) []
+        (record {
+          expression = col "x" ⟨ Sub ⟩ col "y";
+          rows = (struct_val (member (codes "x") (int_val I8 (pos 127)) (member (codes "y") (int_val I8 (pos 5)) no_members))) ∷ [];
+        })
+        ≡ false }
     ensures no_row { phase_breaks (row_type two_small.columns) [] (record { expression = col "x" ⟨ Add ⟩ col "y"; rows = [] }) ≡ false }
 {}

@@ -23,16 +23,21 @@ ghost use Rattle.vx_expr.specs.declared.FieldSelection.TheVariants.{Include};
 ghost use Rattle.vx_semantics.specs.Meaning.{binary3, mean};
 ghost use Rattle.vx_semantics.specs.Breaks.{by_sum, by_cast};
 ghost use Rattle.vx_semantics.specs.Typing.{selected_fields};
-ghost use Rattle.vx_worked_examples.specs.Samples.{col, number, ◌⟨◌⟩◌, alone, pack_two, slot_of, operators, values_of_truth, only, kinds_of_types, ends, mean_of, break_in};
+ghost use Rattle.vx_worked_examples.specs.Samples.{col, number, ◌⟨◌⟩◌, alone, pack_two, slot_of, operators, values_of_truth, only, kinds_of_types, ends};
+ghost use Rattle.vx_worked_examples.specs.Samples.{mean_of, break_in};
 
 /// `and` at true, false, null and a fault, on both sides: false wins over null, a fault over all.
 pub fn tabulates_and()
-    ensures { map (λ l. map (and3 l) values_of_truth) values_of_truth ≡ ((bool_val true ∷ bool_val false ∷ null_val ∷ fault ∷ []) ∷ (bool_val false ∷ bool_val false ∷ bool_val false ∷ fault ∷ []) ∷ (null_val ∷ bool_val false ∷ null_val ∷ fault ∷ []) ∷ (fault ∷ fault ∷ fault ∷ fault ∷ []) ∷ []) }
+    ensures { map (λ l. map (and3 l) values_of_truth) values_of_truth
+        ≡ ((bool_val true ∷ bool_val false ∷ null_val ∷ fault ∷ []) ∷ (bool_val false ∷ bool_val false ∷ bool_val false ∷ fault ∷ [])
+        ∷ (null_val ∷ bool_val false ∷ null_val ∷ fault ∷ []) ∷ (fault ∷ fault ∷ fault ∷ fault ∷ []) ∷ []) }
 {}
 
 /// `or` likewise: true wins over null, a fault over all.
 pub fn tabulates_or()
-    ensures { map (λ l. map (or3 l) values_of_truth) values_of_truth ≡ ((bool_val true ∷ bool_val true ∷ bool_val true ∷ fault ∷ []) ∷ (bool_val true ∷ bool_val false ∷ null_val ∷ fault ∷ []) ∷ (bool_val true ∷ null_val ∷ null_val ∷ fault ∷ []) ∷ (fault ∷ fault ∷ fault ∷ fault ∷ []) ∷ []) }
+    ensures { map (λ l. map (or3 l) values_of_truth) values_of_truth
+        ≡ ((bool_val true ∷ bool_val true ∷ bool_val true ∷ fault ∷ []) ∷ (bool_val true ∷ bool_val false ∷ null_val ∷ fault ∷ [])
+        ∷ (bool_val true ∷ null_val ∷ null_val ∷ fault ∷ []) ∷ (fault ∷ fault ∷ fault ∷ fault ∷ []) ∷ []) }
 {}
 
 /// A negation exchanges true and false; null and a fault stay.
@@ -47,8 +52,10 @@ pub fn tabulates_null_test()
 
 /// Every operator with null on one side: null, but for `and` with false and `or` with true.
 pub fn tabulates_operators_at_null()
-    ensures beside_false { map (λ op. binary3 op null_val (bool_val false)) operators ≡ null_val ∷ null_val ∷ null_val ∷ null_val ∷ null_val ∷ null_val ∷ bool_val false ∷ null_val ∷ null_val ∷ null_val ∷ [] }
-    ensures beside_true { map (λ op. binary3 op (bool_val true) null_val) operators ≡ null_val ∷ null_val ∷ null_val ∷ null_val ∷ null_val ∷ null_val ∷ null_val ∷ bool_val true ∷ null_val ∷ null_val ∷ [] }
+    ensures beside_false { map (λ op. binary3 op null_val (bool_val false)) operators
+        ≡ null_val ∷ null_val ∷ null_val ∷ null_val ∷ null_val ∷ null_val ∷ bool_val false ∷ null_val ∷ null_val ∷ null_val ∷ [] }
+    ensures beside_true { map (λ op. binary3 op (bool_val true) null_val) operators
+        ≡ null_val ∷ null_val ∷ null_val ∷ null_val ∷ null_val ∷ null_val ∷ null_val ∷ bool_val true ∷ null_val ∷ null_val ∷ [] }
     ensures both { map (λ op. binary3 op null_val null_val) operators ≡ replicate 10 null_val }
 {}
 
@@ -61,19 +68,29 @@ pub fn tabulates_operators_at_fault()
 
 /// Every operator on two numbers; of numbers `and` and `or` mean faults.
 pub fn tabulates_operators_on_numbers()
-    ensures { map (λ op. binary3 op (int_val I32 (pos 5)) (int_val I32 (negsuc 5))) operators ≡ bool_val false ∷ bool_val true ∷ bool_val true ∷ bool_val true ∷ bool_val false ∷ bool_val false ∷ fault ∷ fault ∷ int_val I32 (negsuc 0) ∷ int_val I32 (pos 11) ∷ [] }
+    ensures { map (λ op. binary3 op (int_val I32 (pos 5)) (int_val I32 (negsuc 5))) operators
+        ≡ bool_val false ∷ bool_val true ∷ bool_val true ∷ bool_val true ∷ bool_val false ∷ bool_val false ∷ fault ∷ fault
+        ∷ int_val I32 (negsuc 0) ∷ int_val I32 (pos 11) ∷ [] }
 {}
 
 /// False is before true.
 pub fn orders_booleans()
-    ensures { map (λ op. binary3 op (bool_val false) (bool_val true)) operators ≡ bool_val false ∷ bool_val true ∷ bool_val false ∷ bool_val false ∷ bool_val true ∷ bool_val true ∷ bool_val false ∷ bool_val true ∷ fault ∷ fault ∷ [] }
+    ensures { map (λ op. binary3 op (bool_val false) (bool_val true)) operators
+        ≡ bool_val false ∷ bool_val true ∷ bool_val false ∷ bool_val false ∷ bool_val true ∷ bool_val true ∷ bool_val false ∷ bool_val true
+        ∷ fault ∷ fault ∷ [] }
 {}
 
 /// Texts are ordered by their bytes: a prefix first, capitals before small letters.
 pub fn orders_texts()
-    ensures prefix { map (λ op. binary3 op (text_val (codes "ab")) (text_val (codes "abc"))) operators ≡ bool_val false ∷ bool_val true ∷ bool_val false ∷ bool_val false ∷ bool_val true ∷ bool_val true ∷ fault ∷ fault ∷ fault ∷ fault ∷ [] }
-    ensures capitals { map (λ op. binary3 op (text_val (codes "Z")) (text_val (codes "a"))) operators ≡ bool_val false ∷ bool_val true ∷ bool_val false ∷ bool_val false ∷ bool_val true ∷ bool_val true ∷ fault ∷ fault ∷ fault ∷ fault ∷ [] }
-    ensures length { map (λ op. binary3 op (text_val (codes "b")) (text_val (codes "ab"))) operators ≡ bool_val false ∷ bool_val true ∷ bool_val true ∷ bool_val true ∷ bool_val false ∷ bool_val false ∷ fault ∷ fault ∷ fault ∷ fault ∷ [] }
+    ensures prefix { map (λ op. binary3 op (text_val (codes "ab")) (text_val (codes "abc"))) operators
+        ≡ bool_val false ∷ bool_val true ∷ bool_val false ∷ bool_val false ∷ bool_val true ∷ bool_val true ∷ fault ∷ fault ∷ fault ∷ fault
+        ∷ [] }
+    ensures capitals { map (λ op. binary3 op (text_val (codes "Z")) (text_val (codes "a"))) operators
+        ≡ bool_val false ∷ bool_val true ∷ bool_val false ∷ bool_val false ∷ bool_val true ∷ bool_val true ∷ fault ∷ fault ∷ fault ∷ fault
+        ∷ [] }
+    ensures length { map (λ op. binary3 op (text_val (codes "b")) (text_val (codes "ab"))) operators
+        ≡ bool_val false ∷ bool_val true ∷ bool_val true ∷ bool_val true ∷ bool_val false ∷ bool_val false ∷ fault ∷ fault ∷ fault ∷ fault
+        ∷ [] }
 {}
 
 /// One past the greatest number, and one before the least, a sum and a difference are faults; at the ends they are not.
@@ -188,9 +205,15 @@ pub fn casts_nulls_where_nullable()
 
 /// Membership: null for a null list or value; a null or faulty element equals nothing.
 pub fn finds_elements()
-    ensures there { contains3 (list_val (val (int_val I32 (pos 1)) (val null_val (val fault (val (int_val I32 (pos 2)) no_vals))))) (int_val I32 (pos 2)) ≡ bool_val true }
-    ensures missing { contains3 (list_val (val (int_val I32 (pos 1)) (val null_val (val fault (val (int_val I32 (pos 2)) no_vals))))) (int_val I32 (pos 3)) ≡ bool_val false }
-    ensures null_value { contains3 (list_val (val (int_val I32 (pos 1)) (val null_val (val fault (val (int_val I32 (pos 2)) no_vals))))) null_val ≡ null_val }
+    ensures there { contains3 (list_val (val (int_val I32 (pos 1)) (val null_val (val fault (val (int_val I32 (pos 2)) no_vals)))))
+        (int_val I32 (pos 2))
+        ≡ bool_val true }
+    ensures missing { contains3 (list_val (val (int_val I32 (pos 1)) (val null_val (val fault (val (int_val I32 (pos 2)) no_vals)))))
+        (int_val I32 (pos 3))
+        ≡ bool_val false }
+    ensures null_value { contains3 (list_val (val (int_val I32 (pos 1)) (val null_val (val fault (val (int_val I32 (pos 2)) no_vals)))))
+        null_val
+        ≡ null_val }
     ensures null_list { contains3 null_val (int_val I32 (pos 2)) ≡ null_val }
     ensures none { contains3 (list_val no_vals) (int_val I32 (pos 2)) ≡ bool_val false }
     ensures a_fault { contains3 (list_val (val (int_val I32 (pos 1)) (val null_val (val fault (val (int_val I32 (pos 2)) no_vals))))) fault ≡ fault }
@@ -208,25 +231,52 @@ pub fn lies_between()
 
 /// Fields of a struct: a null struct gives null; a fault in a field that nobody takes stays where it is.
 pub fn takes_fields()
-    ensures one { field_of (codes "a") (struct_val (member (codes "a") (int_val I32 (pos 5)) (member (codes "b") fault (member (codes "c") null_val no_members)))) ≡ int_val I32 (pos 5) }
+    ensures one { field_of (codes "a")
+        (struct_val (member (codes "a") (int_val I32 (pos 5)) (member (codes "b") fault (member (codes "c") null_val no_members))))
+        ≡ int_val I32 (pos 5) }
     ensures of_null { field_of (codes "a") null_val ≡ null_val }
     ensures of_fault { field_of (codes "a") fault ≡ fault }
-    ensures missing { field_of (codes "z") (struct_val (member (codes "a") (int_val I32 (pos 5)) (member (codes "b") fault (member (codes "c") null_val no_members)))) ≡ fault }
-    ensures some { selected (codes "c" ∷ codes "a" ∷ []) (struct_val (member (codes "a") (int_val I32 (pos 5)) (member (codes "b") fault (member (codes "c") null_val no_members)))) ≡ struct_val (member (codes "c") null_val (member (codes "a") (int_val I32 (pos 5)) no_members)) }
-    ensures without { deselected (codes "b" ∷ []) (struct_val (member (codes "a") (int_val I32 (pos 5)) (member (codes "b") fault (member (codes "c") null_val no_members)))) ≡ struct_val (member (codes "a") (int_val I32 (pos 5)) (member (codes "c") null_val no_members)) }
+    ensures missing { field_of (codes "z")
+        (struct_val (member (codes "a") (int_val I32 (pos 5)) (member (codes "b") fault (member (codes "c") null_val no_members))))
+        ≡ fault }
+    ensures some { selected (codes "c" ∷ codes "a" ∷ [])
+        (struct_val (member (codes "a") (int_val I32 (pos 5)) (member (codes "b") fault (member (codes "c") null_val no_members))))
+        ≡ struct_val (member (codes "c") null_val (member (codes "a") (int_val I32 (pos 5)) no_members)) }
+    ensures without { deselected (codes "b" ∷ [])
+        (struct_val (member (codes "a") (int_val I32 (pos 5)) (member (codes "b") fault (member (codes "c") null_val no_members))))
+        ≡ struct_val (member (codes "a") (int_val I32 (pos 5)) (member (codes "c") null_val no_members)) }
 {}
 
 /// A merge: names in order of first appearance, the later field in the earlier place.
 pub fn merges_in_place()
-    ensures two { mean_of (merge (tree (pack_two "a" (number I32 (pos 1)) "c" (number I32 (pos 2))) (tree (pack_two "b" (number I32 (pos 3)) "d" (number I32 (pos 4))) no_trees)) NonNullable) ≡ struct_val (member (codes "a") (int_val I32 (pos 1)) (member (codes "c") (int_val I32 (pos 2)) (member (codes "b") (int_val I32 (pos 3)) (member (codes "d") (int_val I32 (pos 4)) no_members)))) }
-    ensures replaced { mean_of (merge (tree (pack_two "a" (number I32 (pos 1)) "b" (number I32 (pos 2))) (tree (pack_two "b" (number I32 (pos 3)) "c" (number I32 (pos 4))) no_trees)) NonNullable) ≡ struct_val (member (codes "a") (int_val I32 (pos 1)) (member (codes "b") (int_val I32 (pos 3)) (member (codes "c") (int_val I32 (pos 4)) no_members))) }
+    ensures two { mean_of
+        (merge
+        (tree (pack_two "a" (number I32 (pos 1)) "c" (number I32 (pos 2)))
+        (tree (pack_two "b" (number I32 (pos 3)) "d" (number I32 (pos 4))) no_trees))
+        NonNullable)
+        ≡ struct_val
+        (member (codes "a") (int_val I32 (pos 1))
+        (member (codes "c") (int_val I32 (pos 2))
+        (member (codes "b") (int_val I32 (pos 3)) (member (codes "d") (int_val I32 (pos 4)) no_members)))) }
+    ensures replaced { mean_of
+        (merge
+        (tree (pack_two "a" (number I32 (pos 1)) "b" (number I32 (pos 2)))
+        (tree (pack_two "b" (number I32 (pos 3)) "c" (number I32 (pos 4))) no_trees))
+        NonNullable)
+        ≡ struct_val
+        (member (codes "a") (int_val I32 (pos 1))
+        (member (codes "b") (int_val I32 (pos 3)) (member (codes "c") (int_val I32 (pos 4)) no_members))) }
     ensures none { mean_of (merge no_trees NonNullable) ≡ struct_val no_members }
 {}
 
 /// A comparison with a slot: with its value, else the default; a fault of the operand counts.
 pub fn compares_with_a_slot()
-    ensures with_value { mean (struct_ty no_fields NonNullable) (None ∷ slot_of I32 (pos 9) ∷ []) (struct_val no_members) (dynamic (number I32 (pos 7)) Above 1 (int_ty I32 NonNullable) true) ≡ bool_val false }
-    ensures without_value { mean (struct_ty no_fields NonNullable) (None ∷ None ∷ []) (struct_val no_members) (dynamic (number I32 (pos 7)) Above 1 (int_ty I32 NonNullable) true) ≡ bool_val true }
+    ensures with_value { mean (struct_ty no_fields NonNullable) (None ∷ slot_of I32 (pos 9) ∷ []) (struct_val no_members)
+        (dynamic (number I32 (pos 7)) Above 1 (int_ty I32 NonNullable) true)
+        ≡ bool_val false }
+    ensures without_value { mean (struct_ty no_fields NonNullable) (None ∷ None ∷ []) (struct_val no_members)
+        (dynamic (number I32 (pos 7)) Above 1 (int_ty I32 NonNullable) true)
+        ≡ bool_val true }
     ensures without_slot { mean_of (dynamic (number I32 (pos 7)) Above 1 (int_ty I32 NonNullable) true) ≡ bool_val true }
     ensures of_fault { mean_of (dynamic (number I8 (pos 127) ⟨ Add ⟩ number I8 (pos 1)) Above 0 (int_ty I8 NonNullable) true) ≡ fault }
 {}
@@ -243,7 +293,8 @@ pub fn breaks_where_the_fault_arises()
 
 /// A pack with fewer names than values, or more, means what both go as far as; a path to nothing means a fault.
 pub fn answers_malformed_trees()
-    ensures fewer_names { mean_of (pack (codes "a" ∷ []) (tree (number I8 (pos 1)) (tree (number I8 (pos 2)) no_trees)) NonNullable) ≡ alone "a" (int_val I8 (pos 1)) }
+    ensures fewer_names { mean_of (pack (codes "a" ∷ []) (tree (number I8 (pos 1)) (tree (number I8 (pos 2)) no_trees)) NonNullable)
+        ≡ alone "a" (int_val I8 (pos 1)) }
     ensures more_names { mean_of (pack (codes "a" ∷ codes "b" ∷ []) (tree (number I8 (pos 1)) no_trees) NonNullable) ≡ alone "a" (int_val I8 (pos 1)) }
     ensures no_field { mean_of (col "zz") ≡ fault }
 {}
@@ -264,8 +315,11 @@ pub fn compares_no_two_kinds()
 
 /// Numbers of two integer types are compared by value; a sum and a difference are of the left one's type.
 pub fn takes_the_type_of_the_left_number()
-    ensures compared { map (λ op. binary3 op (int_val I8 (pos 5)) (int_val I64 (pos 200))) operators ≡ (bool_val false ∷ bool_val true ∷ bool_val false ∷ bool_val false ∷ bool_val true ∷ bool_val true ∷ []) ++ replicate 4 fault }
-    ensures equal { map (λ op. binary3 op (int_val I8 (pos 5)) (int_val I64 (pos 5))) operators ≡ (bool_val true ∷ bool_val false ∷ bool_val false ∷ bool_val true ∷ bool_val false ∷ bool_val true ∷ fault ∷ fault ∷ int_val I8 (pos 10) ∷ int_val I8 (pos 0) ∷ []) }
+    ensures compared { map (λ op. binary3 op (int_val I8 (pos 5)) (int_val I64 (pos 200))) operators
+        ≡ (bool_val false ∷ bool_val true ∷ bool_val false ∷ bool_val false ∷ bool_val true ∷ bool_val true ∷ []) ++ replicate 4 fault }
+    ensures equal { map (λ op. binary3 op (int_val I8 (pos 5)) (int_val I64 (pos 5))) operators
+        ≡ (bool_val true ∷ bool_val false ∷ bool_val false ∷ bool_val true ∷ bool_val false ∷ bool_val true ∷ fault ∷ fault
+        ∷ int_val I8 (pos 10) ∷ int_val I8 (pos 0) ∷ []) }
     ensures sum { add3 (int_val I16 (pos 1000)) (int_val I8 (pos 100)) ≡ int_val I16 (pos 1100) }
     ensures sum_past_the_end { add3 (int_val I8 (pos 100)) (int_val I16 (pos 1000)) ≡ fault }
     ensures difference { sub3 (int_val I16 (pos 1000)) (int_val I8 (pos 100)) ≡ int_val I16 (pos 900) }
@@ -282,7 +336,8 @@ pub fn folds_from_the_first_letter_to_the_last()
 
 /// Casts between two kinds have no value.
 pub fn casts_to_no_other_kind()
-    ensures taken { map (λ t. map (takes_cast t) kinds_of_types) (bool_ty NonNullable ∷ int_ty I32 Nullable ∷ text_ty NonNullable ∷ []) ≡ (true ∷ replicate 8 false) ∷ (false ∷ true ∷ true ∷ replicate 6 false) ∷ (replicate 3 false ++ (true ∷ replicate 5 false)) ∷ [] }
+    ensures taken { map (λ t. map (takes_cast t) kinds_of_types) (bool_ty NonNullable ∷ int_ty I32 Nullable ∷ text_ty NonNullable ∷ [])
+        ≡ (true ∷ replicate 8 false) ∷ (false ∷ true ∷ true ∷ replicate 6 false) ∷ (replicate 3 false ++ (true ∷ replicate 5 false)) ∷ [] }
     ensures of_booleans { map (λ t. cast3 t (bool_val true)) kinds_of_types ≡ bool_val true ∷ replicate 8 fault }
     ensures of_numbers { map (λ t. cast3 t (int_val I8 (pos 5))) kinds_of_types ≡ fault ∷ int_val I32 (pos 5) ∷ int_val I64 (pos 5) ∷ replicate 6 fault }
     ensures of_texts { map (λ t. cast3 t (text_val (codes "a"))) kinds_of_types ≡ replicate 3 fault ++ (text_val (codes "a") ∷ replicate 5 fault) }
@@ -296,7 +351,9 @@ pub fn takes_parts_of_lists_and_structs_alone()
     ensures member_of_a_number { contains3 (int_val I32 (pos 1)) (int_val I32 (pos 1)) ≡ fault }
     ensures member_of_a_fault { contains3 fault (int_val I32 (pos 1)) ≡ fault }
     ensures field_of_a_number { field_of (codes "a") (int_val I32 (pos 1)) ≡ fault }
-    ensures first_of_two_fields { field_of (codes "a") (struct_val (member (codes "a") (int_val I32 (pos 1)) (member (codes "a") (int_val I32 (pos 2)) no_members))) ≡ int_val I32 (pos 1) }
+    ensures first_of_two_fields { field_of (codes "a")
+        (struct_val (member (codes "a") (int_val I32 (pos 1)) (member (codes "a") (int_val I32 (pos 2)) no_members)))
+        ≡ int_val I32 (pos 1) }
     ensures selected_of_null { selected (codes "a" ∷ []) null_val ≡ null_val }
     ensures selected_of_a_fault { selected (codes "a" ∷ []) fault ≡ fault }
     ensures selected_of_a_number { selected (codes "a" ∷ []) (int_val I32 (pos 1)) ≡ fault }
@@ -309,9 +366,11 @@ pub fn takes_parts_of_lists_and_structs_alone()
 /// The fields of a struct type: all, their types in order, and those of some names; where one is missing there are none, but a selection leaves it out.
 pub fn takes_fields_of_struct_types()
     ensures structs { map is_struct_ty kinds_of_types ≡ replicate 6 false ++ replicate 3 true }
-    ensures all { map struct_fields kinds_of_types ≡ replicate 6 None ++ (Some no_fields ∷ Some (only "a" (bool_ty NonNullable)) ∷ Some (only "b" (bool_ty NonNullable)) ∷ []) }
+    ensures all { map struct_fields kinds_of_types
+        ≡ replicate 6 None ++ (Some no_fields ∷ Some (only "a" (bool_ty NonNullable)) ∷ Some (only "b" (bool_ty NonNullable)) ∷ []) }
     ensures types { field_types (field (codes "a") (bool_ty NonNullable) (only "b" (text_ty Nullable))) ≡ bool_ty NonNullable ∷ text_ty Nullable ∷ [] }
-    ensures some { projected (codes "b" ∷ codes "a" ∷ []) (field (codes "a") (bool_ty NonNullable) (only "b" (text_ty Nullable))) ≡ Some (field (codes "b") (text_ty Nullable) (only "a" (bool_ty NonNullable))) }
+    ensures some { projected (codes "b" ∷ codes "a" ∷ []) (field (codes "a") (bool_ty NonNullable) (only "b" (text_ty Nullable)))
+        ≡ Some (field (codes "b") (text_ty Nullable) (only "a" (bool_ty NonNullable))) }
     ensures left_out { selected_fields (Include (codes "z" ∷ codes "a" ∷ [])) (only "a" (bool_ty NonNullable)) ≡ only "a" (bool_ty NonNullable) }
     ensures of_a_missing_first { projected (codes "z" ∷ codes "b" ∷ []) (only "b" (text_ty Nullable)) ≡ None }
     ensures of_a_missing_name { projected (codes "b" ∷ codes "z" ∷ []) (only "b" (text_ty Nullable)) ≡ None }
@@ -328,7 +387,8 @@ pub fn folds_no_wildcards()
 /// A greater element of a list is not the value that is looked for.
 pub fn finds_no_greater_element()
     ensures alone { contains3 (list_val (val (int_val I32 (pos 5)) no_vals)) (int_val I32 (pos 2)) ≡ bool_val false }
-    ensures behind_a_lesser_one { contains3 (list_val (val (int_val I32 (pos 1)) (val (int_val I32 (pos 5)) no_vals))) (int_val I32 (pos 3)) ≡ bool_val false }
+    ensures behind_a_lesser_one { contains3 (list_val (val (int_val I32 (pos 1)) (val (int_val I32 (pos 5)) no_vals))) (int_val I32 (pos 3))
+        ≡ bool_val false }
 {}
 
 /// A range whose upper bound or value is null is null, but for a lower bound that the value lies below.

@@ -10,16 +10,30 @@ ghost use Rattle.vx_dtype.specs.Values.{raw_struct, no_raws};
 ghost use Rattle.vx_dtype.specs.declared.CompareOperator.TheVariants.{Gt as Above};
 ghost use Rattle.vx_expr.specs.declared.Operator.TheVariants.{Eq};
 ghost use Rattle.vx_expr.specs.declared.FieldSelection.TheVariants.{Include, Exclude};
-ghost use Rattle.vx_expr.specs.Trees.{root, literal, get_item, not_of, is_null_of, like, between, cast, list_contains, pack, merge, select, dynamic, tree, no_trees};
+ghost use Rattle.vx_expr.specs.Trees.{root, literal, get_item, not_of, is_null_of, like, between, cast, list_contains, pack, merge, select, dynamic, tree};
+ghost use Rattle.vx_expr.specs.Trees.{no_trees};
 ghost use Rattle.vx_semantics.specs.Typing.{typed_of, given_names, not_struct, nullable_select, unknown_field, duplicate_field, type_mismatch};
 ghost use Rattle.vx_worked_examples.specs.Samples.{col, number, null_of, ◌⟨◌⟩◌, only, pack_two, number_list, struct_p_q, mixed, operators, ends};
 
 /// The row has the scope's type, where no struct in it has a name twice.
 pub fn types_the_row()
     ensures row { typed_of mixed root ≡ Ok mixed }
-    ensures twice { typed_of (struct_ty (field (codes "a") (int_ty I32 NonNullable) (only "a" (bool_ty NonNullable))) NonNullable) root ≡ Err duplicate_field }
-    ensures twice_below { typed_of (struct_ty (only "b" (list_ty (struct_ty (field (codes "a") (int_ty I32 NonNullable) (only "a" (bool_ty NonNullable))) NonNullable) NonNullable)) NonNullable) root ≡ Err duplicate_field }
-    ensures twice_behind { typed_of (struct_ty (field (codes "c") (bool_ty NonNullable) (only "b" (struct_ty (field (codes "a") (int_ty I32 NonNullable) (only "a" (bool_ty NonNullable))) NonNullable))) NonNullable) root ≡ Err duplicate_field }
+    ensures twice { typed_of (struct_ty (field (codes "a") (int_ty I32 NonNullable) (only "a" (bool_ty NonNullable))) NonNullable) root
+        ≡ Err duplicate_field }
+    ensures twice_below { typed_of
+        (struct_ty
+        (only "b"
+        (list_ty (struct_ty (field (codes "a") (int_ty I32 NonNullable) (only "a" (bool_ty NonNullable))) NonNullable) NonNullable))
+        NonNullable)
+        root
+        ≡ Err duplicate_field }
+    ensures twice_behind { typed_of
+        (struct_ty
+        (field (codes "c") (bool_ty NonNullable)
+        (only "b" (struct_ty (field (codes "a") (int_ty I32 NonNullable) (only "a" (bool_ty NonNullable))) NonNullable)))
+        NonNullable)
+        root
+        ≡ Err duplicate_field }
 {}
 
 /// A constant has its type where it is a value of it.
@@ -28,7 +42,13 @@ pub fn types_constants_that_fit()
     ensures null { typed_of mixed (null_of (int_ty I32 Nullable)) ≡ Ok (int_ty I32 Nullable) }
     ensures null_of_none { typed_of mixed (null_of (int_ty I32 NonNullable)) ≡ Err type_mismatch }
     ensures out_of_range { typed_of mixed (number U8 (pos 256)) ≡ Err type_mismatch }
-    ensures twice { typed_of mixed (literal (record { ty = struct_ty (field (codes "a") (int_ty I32 NonNullable) (only "a" (bool_ty NonNullable))) NonNullable; value = raw_struct no_raws })) ≡ Err duplicate_field }
+    ensures twice { typed_of mixed
+        (literal
+        (record {
+          ty = struct_ty (field (codes "a") (int_ty I32 NonNullable) (only "a" (bool_ty NonNullable))) NonNullable;
+          value = raw_struct no_raws;
+        }))
+        ≡ Err duplicate_field }
 {}
 
 /// A field is nullable also where its struct is.
@@ -42,13 +62,23 @@ pub fn types_fields()
 
 /// Each operator on numbers, on booleans, and on what it doesn't take.
 pub fn types_operators()
-    ensures numbers { map (λ op. typed_of mixed (col "a" ⟨ op ⟩ col "a")) operators ≡ replicate 6 (Ok (bool_ty NonNullable)) ++ (Err type_mismatch ∷ Err type_mismatch ∷ Ok (int_ty I32 NonNullable) ∷ Ok (int_ty I32 NonNullable) ∷ []) }
-    ensures nullable_right { map (λ op. typed_of mixed (col "a" ⟨ op ⟩ col "b")) operators ≡ replicate 6 (Ok (bool_ty Nullable)) ++ (Err type_mismatch ∷ Err type_mismatch ∷ Ok (int_ty I32 Nullable) ∷ Ok (int_ty I32 Nullable) ∷ []) }
-    ensures nullable_left { map (λ op. typed_of mixed (col "b" ⟨ op ⟩ col "a")) operators ≡ replicate 6 (Ok (bool_ty Nullable)) ++ (Err type_mismatch ∷ Err type_mismatch ∷ Ok (int_ty I32 Nullable) ∷ Ok (int_ty I32 Nullable) ∷ []) }
-    ensures booleans { map (λ op. typed_of mixed (col "f" ⟨ op ⟩ col "f")) operators ≡ replicate 8 (Ok (bool_ty NonNullable)) ++ (Err type_mismatch ∷ Err type_mismatch ∷ []) }
-    ensures nullable_booleans { map (λ op. typed_of mixed (col "f" ⟨ op ⟩ col "g")) operators ≡ replicate 8 (Ok (bool_ty Nullable)) ++ (Err type_mismatch ∷ Err type_mismatch ∷ []) }
-    ensures nullable_booleans_left { map (λ op. typed_of mixed (col "g" ⟨ op ⟩ col "f")) operators ≡ replicate 8 (Ok (bool_ty Nullable)) ++ (Err type_mismatch ∷ Err type_mismatch ∷ []) }
-    ensures texts { map (λ op. typed_of mixed (col "t" ⟨ op ⟩ col "t")) operators ≡ replicate 6 (Ok (bool_ty NonNullable)) ++ replicate 4 (Err type_mismatch) }
+    ensures numbers { map (λ op. typed_of mixed (col "a" ⟨ op ⟩ col "a")) operators
+        ≡ replicate 6 (Ok (bool_ty NonNullable))
+        ++ (Err type_mismatch ∷ Err type_mismatch ∷ Ok (int_ty I32 NonNullable) ∷ Ok (int_ty I32 NonNullable) ∷ []) }
+    ensures nullable_right { map (λ op. typed_of mixed (col "a" ⟨ op ⟩ col "b")) operators
+        ≡ replicate 6 (Ok (bool_ty Nullable))
+        ++ (Err type_mismatch ∷ Err type_mismatch ∷ Ok (int_ty I32 Nullable) ∷ Ok (int_ty I32 Nullable) ∷ []) }
+    ensures nullable_left { map (λ op. typed_of mixed (col "b" ⟨ op ⟩ col "a")) operators
+        ≡ replicate 6 (Ok (bool_ty Nullable))
+        ++ (Err type_mismatch ∷ Err type_mismatch ∷ Ok (int_ty I32 Nullable) ∷ Ok (int_ty I32 Nullable) ∷ []) }
+    ensures booleans { map (λ op. typed_of mixed (col "f" ⟨ op ⟩ col "f")) operators
+        ≡ replicate 8 (Ok (bool_ty NonNullable)) ++ (Err type_mismatch ∷ Err type_mismatch ∷ []) }
+    ensures nullable_booleans { map (λ op. typed_of mixed (col "f" ⟨ op ⟩ col "g")) operators
+        ≡ replicate 8 (Ok (bool_ty Nullable)) ++ (Err type_mismatch ∷ Err type_mismatch ∷ []) }
+    ensures nullable_booleans_left { map (λ op. typed_of mixed (col "g" ⟨ op ⟩ col "f")) operators
+        ≡ replicate 8 (Ok (bool_ty Nullable)) ++ (Err type_mismatch ∷ Err type_mismatch ∷ []) }
+    ensures texts { map (λ op. typed_of mixed (col "t" ⟨ op ⟩ col "t")) operators
+        ≡ replicate 6 (Ok (bool_ty NonNullable)) ++ replicate 4 (Err type_mismatch) }
     ensures boolean_and_number { map (λ op. typed_of mixed (col "f" ⟨ op ⟩ col "a")) operators ≡ replicate 10 (Err type_mismatch) }
     ensures number_and_boolean { map (λ op. typed_of mixed (col "a" ⟨ op ⟩ col "f")) operators ≡ replicate 10 (Err type_mismatch) }
     ensures two_widths { map (λ op. typed_of mixed (col "a" ⟨ op ⟩ number I64 (pos 1))) operators ≡ replicate 10 (Err type_mismatch) }
@@ -118,12 +148,14 @@ pub fn types_memberships()
     ensures nullable_value { typed_of mixed (list_contains (number_list I32 []) (col "b")) ≡ Ok (bool_ty Nullable) }
     ensures other_value { typed_of mixed (list_contains (col "l") (col "t")) ≡ Err type_mismatch }
     ensures no_list { typed_of mixed (list_contains (col "a") (col "a")) ≡ Err type_mismatch }
-    ensures list_of_lists { typed_of mixed (list_contains (null_of (list_ty (list_ty (int_ty I32 Nullable) Nullable) Nullable)) (col "l")) ≡ Err type_mismatch }
+    ensures list_of_lists { typed_of mixed (list_contains (null_of (list_ty (list_ty (int_ty I32 Nullable) Nullable) Nullable)) (col "l"))
+        ≡ Err type_mismatch }
 {}
 
 /// A pack has as many names as values, each once.
 pub fn types_packs()
-    ensures two { typed_of mixed (pack_two "x" (col "a") "y" (col "g")) ≡ Ok (struct_ty (field (codes "x") (int_ty I32 NonNullable) (only "y" (bool_ty Nullable))) NonNullable) }
+    ensures two { typed_of mixed (pack_two "x" (col "a") "y" (col "g"))
+        ≡ Ok (struct_ty (field (codes "x") (int_ty I32 NonNullable) (only "y" (bool_ty Nullable))) NonNullable) }
     ensures nullable { typed_of mixed (pack [] no_trees Nullable) ≡ Ok (struct_ty no_fields Nullable) }
     ensures twice { typed_of mixed (pack_two "x" (col "a") "x" (col "g")) ≡ Err duplicate_field }
     ensures fewer_names { typed_of mixed (pack (codes "x" ∷ []) (tree (col "a") (tree (col "b") no_trees)) NonNullable) ≡ Err type_mismatch }
@@ -133,8 +165,15 @@ pub fn types_packs()
 
 /// A merge has each name once, at the type of the last struct that has it, nullable also where that struct is.
 pub fn types_merges()
-    ensures nullable_last { typed_of mixed (merge (tree (col "s") (tree (col "n") no_trees)) NonNullable) ≡ Ok (struct_ty (field (codes "p") (int_ty I32 NonNullable) (field (codes "q") (bool_ty Nullable) (only "r" (int_ty I32 Nullable)))) NonNullable) }
-    ensures nullable_first { typed_of mixed (merge (tree (col "n") (tree (col "s") no_trees)) Nullable) ≡ Ok (struct_ty (field (codes "q") (text_ty NonNullable) (field (codes "r") (int_ty I32 Nullable) (only "p" (int_ty I32 NonNullable)))) Nullable) }
+    ensures nullable_last { typed_of mixed (merge (tree (col "s") (tree (col "n") no_trees)) NonNullable)
+        ≡ Ok
+        (struct_ty (field (codes "p") (int_ty I32 NonNullable) (field (codes "q") (bool_ty Nullable) (only "r" (int_ty I32 Nullable))))
+        NonNullable) }
+    ensures nullable_first { typed_of mixed (merge (tree (col "n") (tree (col "s") no_trees)) Nullable)
+        ≡ Ok
+        (struct_ty
+        (field (codes "q") (text_ty NonNullable) (field (codes "r") (int_ty I32 Nullable) (only "p" (int_ty I32 NonNullable))))
+        Nullable) }
     ensures none { typed_of mixed (merge no_trees NonNullable) ≡ Ok (struct_ty no_fields NonNullable) }
     ensures number { typed_of mixed (merge (tree (col "s") (tree (col "a") no_trees)) NonNullable) ≡ Err not_struct }
     ensures names { given_names mixed (merge (tree (col "s") (tree (col "n") no_trees)) NonNullable) ≡ codes "p" ∷ codes "q" ∷ codes "r" ∷ [] }
@@ -143,9 +182,11 @@ pub fn types_merges()
 
 /// A select takes fields of a struct that isn't nullable.
 pub fn types_selects()
-    ensures in_its_order { typed_of mixed (select (Include (codes "q" ∷ codes "p" ∷ [])) (col "s")) ≡ Ok (struct_ty (field (codes "q") (text_ty NonNullable) (only "p" (int_ty I32 NonNullable))) NonNullable) }
+    ensures in_its_order { typed_of mixed (select (Include (codes "q" ∷ codes "p" ∷ [])) (col "s"))
+        ≡ Ok (struct_ty (field (codes "q") (text_ty NonNullable) (only "p" (int_ty I32 NonNullable))) NonNullable) }
     ensures without { typed_of mixed (select (Exclude (codes "p" ∷ [])) (col "s")) ≡ Ok (struct_ty (only "q" (text_ty NonNullable)) NonNullable) }
-    ensures without_twice { typed_of mixed (select (Exclude (codes "p" ∷ codes "p" ∷ [])) (col "s")) ≡ Ok (struct_ty (only "q" (text_ty NonNullable)) NonNullable) }
+    ensures without_twice { typed_of mixed (select (Exclude (codes "p" ∷ codes "p" ∷ [])) (col "s"))
+        ≡ Ok (struct_ty (only "q" (text_ty NonNullable)) NonNullable) }
     ensures missing { typed_of mixed (select (Include (codes "q" ∷ codes "z" ∷ [])) (col "s")) ≡ Err unknown_field }
     ensures missing_twice { typed_of mixed (select (Include (codes "z" ∷ codes "z" ∷ [])) (col "s")) ≡ Err unknown_field }
     ensures twice { typed_of mixed (select (Include (codes "p" ∷ codes "p" ∷ [])) (col "s")) ≡ Err duplicate_field }
@@ -178,5 +219,6 @@ pub fn asks_texts()
 
 /// A field of a merge is nullable where it is itself, though its struct is not.
 pub fn merges_nullable_fields()
-    ensures { typed_of mixed (merge (tree (pack (codes "b" ∷ []) (tree (col "b") no_trees) NonNullable) no_trees) NonNullable) ≡ Ok (struct_ty (only "b" (int_ty I32 Nullable)) NonNullable) }
+    ensures { typed_of mixed (merge (tree (pack (codes "b" ∷ []) (tree (col "b") no_trees) NonNullable) no_trees) NonNullable)
+        ≡ Ok (struct_ty (only "b" (int_ty I32 Nullable)) NonNullable) }
 {}
