@@ -1,5 +1,5 @@
 -- What the tables of the operators say of what operators mean.
-use Rattle.std.specs.Prelude.{◌≡◌, Bool, true, false, List, [], ◌∷◌, Ok, MatchOption}
+use Rattle.std.specs.Prelude.{◌≡◌, Bool, true, false, Some, option_map, Ok, MatchOption}
 use Rattle.vx_dtype.specs.declared.BetweenOptions.{BetweenOptions}
 use Rattle.vx_dtype.specs.Types.{Ty}
 use Rattle.vx_dtype.specs.TypeRules.{same_ptype}
@@ -10,6 +10,7 @@ use Rattle.vx_expr.specs.declared.Operator.{Operator}
 use Rattle.vx_expr.specs.Trees.{Tree, binary, between}
 use Rattle.vx_expr.specs.Operators.{inverse_of, swapped, range_as_binary}
 use Rattle.vx_expr.specs.Conjuncts.{conjuncts_of}
+use Rattle.vx_build.specs.Collectors.{joined_right}
 use Rattle.vx_semantics.specs.Typing.{typed_of}
 use Rattle.vx_semantics.specs.Meaning.{Slots, binary3, mean}
 use Rattle.vx_semantics.specs.Slots.{slots_fit}
@@ -51,16 +52,8 @@ RangeMeansItsComparisons =
     (t : Ty) (slots : Slots) (row : Val) (e lower upper : Tree) (options : BetweenOptions)
     → mean t slots row (between e lower upper options) ≡ mean t slots row (range_as_binary e lower upper options)
 
--- an expression and further ones joined by `and`, nested to the right
-abbrev pub joined : Tree → List Tree → Tree
-joined e [] = e
-joined e (d ∷ ds) = binary e Operator.And (joined d ds)
-
--- the expressions of a list joined by `and`; of an empty list, the given one
-abbrev pub joined_or : Tree → List Tree → Tree
-joined_or e [] = e
-joined_or e (d ∷ ds) = joined d ds
-
--- the conjuncts of an expression joined by `and` mean what it means
+-- the conjuncts of an expression, of which there is one at least, mean joined by `and` what it means
 abbrev pub ConjunctsMeanTheWhole : Type 0
-ConjunctsMeanTheWhole = (t : Ty) (slots : Slots) (row : Val) (e : Tree) → mean t slots row (joined_or e (conjuncts_of e)) ≡ mean t slots row e
+ConjunctsMeanTheWhole =
+    (t : Ty) (slots : Slots) (row : Val) (e : Tree)
+    → option_map (mean t slots row) (joined_right Operator.And (conjuncts_of e)) ≡ Some (mean t slots row e)

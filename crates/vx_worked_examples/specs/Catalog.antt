@@ -73,7 +73,8 @@ brief_columns = field (codes "id") (int_ty U64 NonNullable) (field (codes "name"
 
 -- a row of the answer
 abbrev pub brief_of : ℕ → String → String → Val
-brief_of id name city = struct_val (member (codes "id") (int_val U64 (pos id)) (member (codes "name") (words name) (member (codes "city") (words city) no_members)))
+brief_of id name city =
+    struct_val (member (codes "id") (int_val U64 (pos id)) (member (codes "name") (words name) (member (codes "city") (words city) no_members)))
 
 -- the reads of a block: the filter's three columns, and with the projection's one
 abbrev pub filter_reads : ℕ → List (ℕ × Bytes)

@@ -2,3 +2,4 @@ pub mod Samples
 pub mod Catalog
 pub mod Kinds
 pub mod PassSamples
+pub mod Agreeing

@@ -1,5 +1,5 @@
 -- Words for the worked examples: constants, columns, tables of one column, and the answer of a scan as one record.
-use Rattle.std.specs.Prelude.{ℕ, ℤ, pos, Bool, true, false, List, [], ◌∷◌, map, length, codes, Option, Some, None, Result}
+use Rattle.std.specs.Prelude.{ℕ, zero, suc, ℤ, pos, Bool, true, false, List, [], ◌∷◌, map, length, codes, Option, Some, None, Result}
 use Prim.Native.String.{String}
 use Rattle.vx_dtype.specs.declared.PType.{PType}
 use Rattle.vx_dtype.specs.declared.PType.TheVariants.{U8, U16, U32, U64, I8, I16, I32, I64}
@@ -10,11 +10,12 @@ use Rattle.vx_dtype.specs.declared.CompareOperator.{CompareOperator}
 use Rattle.vx_dtype.specs.declared.StrictComparison.{StrictComparison}
 use Rattle.vx_dtype.specs.declared.BetweenOptions.{BetweenOptions}
 use Rattle.vx_dtype.specs.Types.{Bytes, Ty, bool_ty, int_ty, text_ty, list_ty, struct_ty, Fields, no_fields, field}
+use Rattle.vx_dtype.specs.Values.{Vals, no_vals, val}
 use Rattle.vx_dtype.specs.Values.{raw_null, raw_bool, raw_int, raw_text, raw_list, Raws, no_raws, raw, Val, null_val, bool_val, int_val, fault, struct_val}
 use Rattle.vx_dtype.specs.Values.{no_members, member, Typed}
 use Rattle.vx_dtype.specs.Fits.{fits}
 use Rattle.vx_expr.specs.declared.Operator.{Operator}
-use Rattle.vx_expr.specs.Trees.{Tree, root, literal, get_item, binary, pack, dynamic, no_trees, tree}
+use Rattle.vx_expr.specs.Trees.{Tree, root, literal, get_item, binary, not_of, pack, dynamic, no_trees, tree}
 use Rattle.vx_semantics.specs.Typing.{Refusal, typed_of}
 use Rattle.vx_semantics.specs.Meaning.{Slots, mean}
 use Rattle.vx_semantics.specs.Tables.{Table, ZoneStat, Zones, row_type}
@@ -217,7 +218,8 @@ mixed =
 -- the zones of one block whose numbers lie from five to nine, and the same with one of the two bounds alone
 abbrev pub five_to_nine : Zones
 five_to_nine =
-    zones_of (number_table I32 "x" ((pos 5 ∷ pos 9 ∷ []) ∷ [])) (statistic ("x" ∷ []) Min (bounds I32 (pos 5 ∷ [])) ∷ statistic ("x" ∷ []) Max (bounds I32 (pos 9 ∷ [])) ∷ [])
+    zones_of (number_table I32 "x" ((pos 5 ∷ pos 9 ∷ []) ∷ []))
+    (statistic ("x" ∷ []) Min (bounds I32 (pos 5 ∷ [])) ∷ statistic ("x" ∷ []) Max (bounds I32 (pos 9 ∷ [])) ∷ [])
 
 abbrev pub from_five : Zones
 from_five = zones_of (number_table I32 "x" ((pos 5 ∷ pos 9 ∷ []) ∷ [])) (statistic ("x" ∷ []) Min (bounds I32 (pos 5 ∷ [])) ∷ [])
@@ -284,3 +286,25 @@ one_and_twenty = number_table I32 "x" ((pos 1 ∷ []) ∷ (pos 20 ∷ []) ∷ []
 abbrev pub one_and_twenty_bounds : List ZoneStat
 one_and_twenty_bounds =
     statistic ("x" ∷ []) Min (bounds I32 (pos 1 ∷ pos 20 ∷ [])) ∷ statistic ("x" ∷ []) Max (bounds I32 (pos 1 ∷ pos 20 ∷ [])) ∷ []
+
+-- what an expression without slots means at each row of a type
+abbrev pub values_over : Ty → List Val → Tree → List Val
+values_over t rows e = map (λ row. mean t [] row e) rows
+
+-- an expression negated so many times
+abbrev pub negated : ℕ → Tree → Tree
+negated zero e = e
+negated (suc n) e = not_of (negated n e)
+
+-- numbers as a list value
+abbrev pub numbers_in : List ℤ → Vals
+numbers_in [] = no_vals
+numbers_in (i ∷ is) = val (int_val I32 i) (numbers_in is)
+
+-- a row of two numbers
+abbrev pub row_of_two : String → ℤ → String → ℤ → Val
+row_of_two f i g j = struct_val (member (codes f) (int_val I32 i) (member (codes g) (int_val I32 j) no_members))
+
+-- a struct type of two fields
+abbrev pub two_fields : String → Ty → String → Ty → Ty
+two_fields f t g u = struct_ty (field (codes f) t (only g u)) NonNullable

@@ -2,12 +2,14 @@
 #![tactic(auto)]
 
 pub mod asking_examples;
+pub mod column_examples;
 pub mod falsification_examples;
 pub mod honesty_examples;
 pub mod instance_examples;
 pub mod loose_typing_examples;
 pub mod meaning_examples;
 pub mod partition_examples;
+pub mod premise_examples;
 pub mod pruning_examples;
 pub mod rule_examples;
 pub mod scan_examples;
