@@ -25,13 +25,13 @@ use Rattle.vx_dtype.specs.StructTypes.{is_struct_ty}
 use Rattle.vx_dtype.specs.Zipped.{zipped}
 use Rattle.vx_semantics.specs.Typing.{Refusal, type_mismatch, not_struct, duplicate_field, and_then, unless, item_type, selected_fields, select_type, pack_type, names_in, type_in, merged_type_at, merged_fields_at, merge_type, union_of, equal_plain, compare_type, binary_type, not_type, like_type, between_type, contains_type, cast_type, dynamic_type, typed_of, all_typed, type_or_empty, given_names}
 use Rattle.vx_semantics.specs.Meaning.{Slots, mean, meanings, sources, Source, source_names, merged_value, merged_members, merged, zip_members, select3}
-use Rattle.vx_semantics.specs.Breaks.{by_sum, by_cast, is_fault}
+use Rattle.vx_semantics.specs.Breaks.{by_sum, by_cast, is_fault, breaks}
 use Rattle.vx_semantics.specs.Merging.{merged_names}
 use Rattle.vx_semantics.specs.Asked.{Giver, giver_names, givers, path_or_each, asked, asked_in_pack, asked_of_giver}
 use Rattle.vx_expr.specs.Slots.{slot_held}
 use Rattle.vx_semantics.specs.Paths.{path_value}
 use Rattle.vx_semantics.specs.Slots.{held_fits, slots_fit, all_slots_fit}
-use Rattle.vx_laws.specs.Faults.{breaks, NoBreakNoFault}
+use Rattle.vx_laws.specs.Faults.{NoBreakNoFault}
 use Rattle.vx_laws.proofs.Inverting.{and_then-ok, unless-ok, Ok-same}
 use Rattle.vx_laws.proofs.Fitting.{takes_cast-plain, valued-fits, fits-but_for_faults}
 use Rattle.vx_laws.proofs.Structs.{IsStructOf, struct-value, item_type-ok, select_type-ok, select3-fits, AllSourcesFit, merged-fits, all-own_names, source_names-same, some_gives-same}

@@ -14,7 +14,7 @@ use Rattle.vx_expr.specs.Trees.{Tree, root, get_item}
 use Rattle.vx_semantics.specs.Meaning.{Slots, mean}
 use Rattle.vx_semantics.specs.Asked.{Asking, asks_node, asks_column, each_asked, node_in}
 use Rattle.vx_semantics.specs.Paths.{path_of, path_value}
-use Rattle.vx_laws.specs.Faults.{breaks}
+use Rattle.vx_semantics.specs.Breaks.{breaks}
 use Rattle.vx_laws.specs.Values.{AccessesMeanTheirPath}
 use Rattle.vx_laws.proofs.Structs.{member-fits, no-member-fits, no-field-fits, field_of-fits, IsStructOf, has_field}
 use Rattle.vx_laws.proofs.Preserving.{FitsButFaults}

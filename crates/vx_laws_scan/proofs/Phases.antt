@@ -1,6 +1,6 @@
 -- Where no phase breaks, what the projection means at the matching rows holds no fault.
-use Rattle.std.proofs.Common.{◌≡◌, ℕ, suc, refl, sym, ◌∙◌, Bool, true, false, cond, not, ◌||◌, Option, Some, None, List, [], ◌∷◌, ◌++◌}
-use Rattle.std.specs.Prelude.{map, is_some}
+use Rattle.std.proofs.Common.{◌≡◌, ℕ, suc, refl, sym, ◌∙◌, Bool, true, false, cond, not, ◌||◌, List, [], ◌∷◌, ◌++◌}
+use Rattle.std.specs.Prelude.{map}
 use Rattle.std.specs.List.{list_any, list_all, filter, flat_map}
 use Rattle.std.proofs.lemmas.Bool.{and_parts, and_from, or_parts, or_from}
 use Rattle.vx_dtype.specs.Types.{Ty}
@@ -9,49 +9,25 @@ use Rattle.vx_dtype.specs.Fits.{val_fits, holds_fault}
 use Rattle.vx_dtype.specs.Logic.{is_true_val}
 use Rattle.vx_expr.specs.Trees.{Tree}
 use Rattle.vx_semantics.specs.Meaning.{Slots, mean}
-use Rattle.vx_semantics.specs.Breaks.{Cause, by_sum, by_cast, break_of, is_cause, breaks_by}
-use Rattle.vx_semantics.specs.Asked.{asked_nodes}
+use Rattle.vx_semantics.specs.Asked.{some_asked_breaks}
 use Rattle.vx_semantics.specs.Tables.{Table, row_type, numbered_from}
 use Rattle.vx_semantics.specs.Pruning.{rules_out}
-use Rattle.vx_semantics.specs.Scans.{matching_rows, block_rows, has_rows, Phase, block_phases, phase_breaks_by, phase_breaks}
-use Rattle.vx_laws.specs.Faults.{breaks}
+use Rattle.vx_semantics.specs.Scans.{matching_rows, block_rows, has_rows, Phase, block_phases, phase_breaks}
 use Rattle.vx_laws.proofs.Faultless.{no_break_no_fault}
 use Rattle.vx_laws_scan.specs.Agreeing.{IsTyped, all_rows_fit}
 use Rattle.vx_laws_scan.specs.Quiet.{QuietRowsHoldNoFault}
 
--- a node breaks by one of the two causes
-pub breaks-causes : (t : Ty) (slots : Slots) (row : Val) (e : Tree) → breaks t slots row e ≡ (breaks_by by_sum t slots row e || breaks_by by_cast t slots row e)
-breaks-causes t slots row e = by-cause (break_of t slots row e)
-  where
-    by-cause : (o : Option Cause) → is_some o ≡ (is_cause by_sum o || is_cause by_cast o)
-    by-cause None = refl
-    by-cause (Some by_sum) = refl
-    by-cause (Some by_cast) = refl
-
--- no node breaks where none does by either cause
-none-breaks : (t : Ty) (slots : Slots) (row : Val) (nodes : List Tree) → list_any (breaks_by by_sum t slots row) nodes ≡ false → list_any (breaks_by by_cast t slots row) nodes ≡ false
-    → list_any (breaks t slots row) nodes ≡ false
-none-breaks t slots row [] h k = refl
-none-breaks t slots row (e ∷ nodes) h k =
-    let x = or_parts (breaks_by by_sum t slots row e) (list_any (breaks_by by_sum t slots row) nodes) h in
-    let y = or_parts (breaks_by by_cast t slots row e) (list_any (breaks_by by_cast t slots row) nodes) k in
-    or_from (breaks t slots row e) (list_any (breaks t slots row) nodes) (breaks-causes t slots row e ∙ or_from (breaks_by by_sum t slots row e) (breaks_by by_cast t slots row e) x.0 y.0)
-    (none-breaks t slots row nodes x.1 y.1)
-
 -- what a typed expression means at the rows of a phase that does not break
 phase-faultless : (table : Table) (slots : Slots) (p : Tree) (u : Ty) (rows : List Val) → IsTyped table.columns slots p u → list_all (λ row. val_fits row (row_type table.columns)) rows ≡ true
-    → list_any (λ row. list_any (breaks_by by_sum (row_type table.columns) slots row) (asked_nodes (row_type table.columns) p)) rows ≡ false
-    → list_any (λ row. list_any (breaks_by by_cast (row_type table.columns) slots row) (asked_nodes (row_type table.columns) p)) rows ≡ false
+    → list_any (λ row. some_asked_breaks (row_type table.columns) slots row p) rows ≡ false
     → list_any holds_fault (map (λ row. mean (row_type table.columns) slots row p) rows) ≡ false
-phase-faultless table slots p u [] i f h k = refl
-phase-faultless table slots p u (row ∷ rows) i f h k =
+phase-faultless table slots p u [] i f h = refl
+phase-faultless table slots p u (row ∷ rows) i f h =
     let t = row_type table.columns in
-    let nodes = asked_nodes t p in
     let fit = and_parts (val_fits row t) (list_all (λ r. val_fits r t) rows) f in
-    let x = or_parts (list_any (breaks_by by_sum t slots row) nodes) (list_any (λ r. list_any (breaks_by by_sum t slots r) nodes) rows) h in
-    let y = or_parts (list_any (breaks_by by_cast t slots row) nodes) (list_any (λ r. list_any (breaks_by by_cast t slots r) nodes) rows) k in
+    let x = or_parts (some_asked_breaks t slots row p) (list_any (λ r. some_asked_breaks t slots r p) rows) h in
     or_from (holds_fault (mean t slots row p)) (list_any holds_fault (map (λ r. mean t slots r p) rows))
-    (no_break_no_fault t slots row p u fit.0 i.fitting i.typed (none-breaks t slots row nodes x.0 y.0)) (phase-faultless table slots p u rows i fit.1 x.1 y.1)
+    (no_break_no_fault t slots row p u fit.0 i.fitting i.typed x.0) (phase-faultless table slots p u rows i fit.1 x.1)
 
 -- what holds of all holds of those that a filter keeps
 all-kept : {X : Type 0} (test holds : X → Bool) (xs : List X) → list_all holds xs ≡ true → list_all holds (filter test xs) ≡ true
@@ -99,8 +75,7 @@ block-faultless table slots f p u b i h k =
         let t = row_type table.columns in
         let phase : Phase = record { expression = p; rows = row ∷ rows } in
         let own = or_parts (phase_breaks t slots phase) false j in
-        let causes = or_parts (phase_breaks_by by_sum t slots phase) (phase_breaks_by by_cast t slots phase) own.0 in
-        phase-faultless table slots p u (row ∷ rows) i g causes.0 causes.1
+        phase-faultless table slots p u (row ∷ rows) i g own.0
 
 blocks-faultless : (table : Table) (slots : Slots) (f p : Tree) (u : Ty) (kept : List (ℕ × List Val)) → IsTyped table.columns slots p u
     → list_all (λ (b : ℕ × List Val). list_all (λ row. val_fits row (row_type table.columns)) b.1) kept ≡ true

@@ -1,13 +1,16 @@
 -- What an expression asks by path: the nodes whose values its answer can hang on, and the columns that it touches.
-use Rattle.std.specs.Prelude.{cond, List, [], ◌∷◌, ◌++◌, map, option_map, unwrap_or}
-use Rattle.std.specs.List.{flat_map, filter}
+use Rattle.std.specs.Prelude.{Bool, cond, List, [], ◌∷◌, ◌++◌, map, option_map, unwrap_or}
+use Rattle.std.specs.List.{flat_map, filter, list_any}
 use Rattle.std.specs.Str.{bytes_eq}
 use Rattle.vx_dtype.specs.Types.{Bytes, Ty}
 use Rattle.vx_dtype.specs.TypeRules.{has_name}
+use Rattle.vx_dtype.specs.Values.{Val}
 use Rattle.vx_expr.specs.Trees.{Tree, root, literal, get_item, binary, not_of, is_null_of, like, between, cast, list_contains, pack, merge, select, dynamic}
 use Rattle.vx_expr.specs.Trees.{Trees, no_trees, tree}
 use Rattle.vx_semantics.specs.Merging.{merged_names, last_giver}
 use Rattle.vx_semantics.specs.Typing.{names_in, given_names}
+use Rattle.vx_semantics.specs.Meaning.{Slots}
+use Rattle.vx_semantics.specs.Breaks.{breaks}
 
 -- a node or a column that is asked
 pub data Asking : Type 0 where
@@ -91,3 +94,7 @@ asked_nodes t e = flat_map node_in (asked t e [])
 -- the columns that an expression asks, in the table's order
 abbrev pub asked_columns : Ty → Tree → List Bytes
 asked_columns t e = filter (λ c. has_name c (flat_map column_in (asked t e []))) (names_in t)
+
+-- whether an asked node of an expression breaks at a row
+abbrev pub some_asked_breaks : Ty → Slots → Val → Tree → Bool
+some_asked_breaks t slots row e = list_any (breaks t slots row) (asked_nodes t e)

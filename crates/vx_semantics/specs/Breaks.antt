@@ -1,5 +1,5 @@
 -- Where a node breaks: a sum, a difference or a cast that has no value while none of its operands is a fault.
-use Rattle.std.specs.Prelude.{Bool, true, false, cond, not, ◌&&◌, Option, Some, None}
+use Rattle.std.specs.Prelude.{Bool, true, false, cond, not, ◌&&◌, Option, Some, None, is_some}
 use Rattle.vx_dtype.specs.Types.{Ty}
 use Rattle.vx_dtype.specs.Values.{Val, fault}
 use Rattle.vx_expr.specs.declared.Operator.{Operator}
@@ -28,6 +28,10 @@ break_of t slots row (binary l Operator.Sub r) =
     cause_where (not (is_fault (mean t slots row l)) && not (is_fault (mean t slots row r))) (mean t slots row (binary l Operator.Sub r)) by_sum
 break_of t slots row (cast e target) = cause_where (not (is_fault (mean t slots row e))) (mean t slots row (cast e target)) by_cast
 break_of t slots row _ = None
+
+-- whether a node breaks at a row
+abbrev pub breaks : Ty → Slots → Val → Tree → Bool
+breaks t slots row e = is_some (break_of t slots row e)
 
 -- whether a cause is this one
 abbrev pub is_cause : Cause → Option Cause → Bool

@@ -1,5 +1,5 @@
 -- What a scan answers: the blocks that it keeps, the rows, the reads, and the phases in which it evaluates.
-use Rattle.std.specs.Prelude.{ℕ, Bool, true, false, cond, not, ◌||◌, List, [], ◌∷◌, ◌++◌, map}
+use Rattle.std.specs.Prelude.{ℕ, Bool, true, false, cond, not, List, [], ◌∷◌, ◌++◌, map}
 use Rattle.std.specs.List.{filter, list_any, flat_map}
 use Rattle.std.specs.Str.{bytes_eq}
 use Rattle.vx_dtype.specs.Types.{Bytes, Ty}
@@ -8,8 +8,8 @@ use Rattle.vx_dtype.specs.Values.{Val}
 use Rattle.vx_dtype.specs.Logic.{is_true_val}
 use Rattle.vx_expr.specs.Trees.{Tree}
 use Rattle.vx_semantics.specs.Meaning.{Slots, mean}
-use Rattle.vx_semantics.specs.Breaks.{Cause, by_sum, by_cast, breaks_by}
-use Rattle.vx_semantics.specs.Asked.{asked_nodes, asked_columns}
+use Rattle.vx_semantics.specs.Breaks.{Cause, breaks_by}
+use Rattle.vx_semantics.specs.Asked.{asked_nodes, asked_columns, some_asked_breaks}
 use Rattle.vx_semantics.specs.Tables.{Table, Zones, row_type, numbered_from}
 use Rattle.vx_semantics.specs.Pruning.{rules_out}
 
@@ -78,10 +78,10 @@ abbrev pub phases_of : Table → Zones → Slots → Tree → Tree → List Phas
 phases_of table zones slots filter_expr projection =
     flat_map (block_phases (row_type table.columns) slots filter_expr projection) (kept_of table zones slots filter_expr)
 
--- whether an asked node of the phase's expression breaks at one of its rows by this cause
+-- whether an asked node of the phase's expression breaks at one of its rows
+abbrev pub phase_breaks : Ty → Slots → Phase → Bool
+phase_breaks t slots phase = list_any (λ row. some_asked_breaks t slots row phase.expression) phase.rows
+
+-- whether it does so by this cause
 abbrev pub phase_breaks_by : Cause → Ty → Slots → Phase → Bool
 phase_breaks_by c t slots phase = list_any (λ row. list_any (breaks_by c t slots row) (asked_nodes t phase.expression)) phase.rows
-
--- whether a phase breaks
-abbrev pub phase_breaks : Ty → Slots → Phase → Bool
-phase_breaks t slots phase = phase_breaks_by by_sum t slots phase || phase_breaks_by by_cast t slots phase
