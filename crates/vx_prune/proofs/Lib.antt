@@ -1,1 +1,3 @@
 pub mod DepthLemmas
+pub mod DistinctLemmas
+pub mod LeafLemmas

@@ -2,3 +2,4 @@ pub mod Zoning
 pub mod ZoneViews
 pub mod ZoneCodes
 pub mod ZoneAnswers
+pub mod Leaves

@@ -1,3 +1,4 @@
+-- For the checker: no public clause cites this.
 -- A code of zones: by it the checker tells the zones that are seen apart.
 use Rattle.std.proofs.Common.{◌≡◌, ℕ, zero, suc, refl, List}
 use Rattle.std.specs.Coded.{Coded, code_by, coded_ℕ, coded_list, coded×}
@@ -38,9 +39,11 @@ coded_scalars = coded_list coded_typed
 -- a statistic is stored as its path, kind and values
 abbrev pub coded_zone_stat : Coded ZoneStat
 coded_zone_stat =
-    code_by (List Bytes × (Stat × List Typed)) (coded× (coded_list coded_bytes) (coded× coded_stat coded_scalars)) (λ z. (z.path, (z.stat, z.values))) (λ p. record { path = p.0; stat = p.1.0; values = p.1.1 }) (λ _. refl)
+    code_by (List Bytes × (Stat × List Typed)) (coded× (coded_list coded_bytes) (coded× coded_stat coded_scalars)) (λ z. (z.path, (z.stat, z.values)))
+    (λ p. record { path = p.0; stat = p.1.0; values = p.1.1 }) (λ _. refl)
 
 -- zones are stored as their columns, lengths and statistics
 abbrev pub coded_zones : Coded Zones
 coded_zones =
-    code_by (Fields × (List ℕ × List ZoneStat)) (coded× coded_fields (coded× (coded_list coded_ℕ) (coded_list coded_zone_stat))) (λ z. (z.columns, (z.lengths, z.stats))) (λ p. record { columns = p.0; lengths = p.1.0; stats = p.1.1 }) (λ _. refl)
+    code_by (Fields × (List ℕ × List ZoneStat)) (coded× coded_fields (coded× (coded_list coded_ℕ) (coded_list coded_zone_stat)))
+    (λ z. (z.columns, (z.lengths, z.stats))) (λ p. record { columns = p.0; lengths = p.1.0; stats = p.1.1 }) (λ _. refl)

@@ -1,75 +1,75 @@
-// The plain types that paths of a table lead to.
-ghost use Rattle.std.specs.Prelude.{◌≡◌, map, option_map};
-ghost use Rattle.std.specs.Option.{option_and_then};
-ghost use Rattle.vx_dtype.specs.PathViews.{part_name};
-ghost use Rattle.vx_dtype.specs.StructTypes.{struct_fields};
-ghost use Rattle.vx_dtype.specs.TypeRules.{is_plain, field_type};
+// The plain types that paths of a table lead to, in a map by path: so that a statistic's path costs one look-up, however
+// many columns there are.
+ghost use Rattle.std.specs.Prelude.{◌≡◌, true, cond, Some, None, IfOk, OnOk};
+ghost use Rattle.vx_dtype.specs.Equal.{names_eq};
+ghost use Rattle.vx_dtype.specs.TypeRules.{no_name_twice};
 ghost use Rattle.vx_dtype.specs.TypeViews.{type_view};
-ghost use Rattle.vx_prune.specs.Zoning.{leaf_type, plain_only, type_at};
+ghost use Rattle.vx_semantics.specs.Tables.{row_type};
+ghost use Rattle.vx_prune.specs.Leaves.{leaf_at, leaf_below, Adds, HasLeaves};
 
-use vx_dtype::{DType, Field, FieldName, FieldPath, StructFields};
+use std::alloc::Global;
+use std::collections::HashMap;
+use vx_dtype::{DType, FieldPath, Mem, StructFields};
 
-/// The plain type that a path of a table leads to through fields of structs. None where it leads to no field, or to a
-/// list or a struct.
-pub(crate) fn leaf_type<'a>(columns: &'a StructFields, path: &FieldPath) -> Option<&'a DType>
-    ensures { option_map (λ dtype. type_view dtype.now) result ≡ leaf_type columns.now path.now }
+/// The plain type of each path that leads through fields of structs to one. Other paths lead to no field, or to a list
+/// or a struct.
+pub(crate) fn leaves(alloc: Global, columns: &StructFields) -> Mem<HashMap<FieldPath, DType>>
+    requires { no_name_twice (row_type columns.now) ≡ true }
+    ensures { IfOk result (HasLeaves columns.now) }
 {
-    match path.parts() {
-        [] => None,
-        [Field::Name(name), rest @ ..] => match columns.field(name) {
-            Some(dtype) => plain_at(dtype, rest),
-            None => None,
-        },
-    }
+    let mut leaves = HashMap::new(alloc);
+    add_below(alloc, &FieldPath::root(alloc), columns, &mut leaves)?;
+    Ok(leaves)
 }
 
-/// The plain type that parts of a path lead to, from a type on.
-fn plain_at<'a>(dtype: &'a DType, parts: &[Field]) -> Option<&'a DType>
-    ensures { option_map (λ dtype. type_view dtype.now) result ≡ option_and_then plain_only (type_at (map part_name parts.now) (type_view dtype.now)) }
+/// Adds the plain fields of a struct at this path, from the last to the first.
+#[cycle(add)]
+fn add_below(
+    alloc: Global,
+    path: &FieldPath,
+    fields: &StructFields,
+    leaves: &mut HashMap<FieldPath, DType>,
+) -> Mem<()>
+    ensures { OnOk result (Adds (leaf_below path.now fields.now) leaves.old leaves.new) }
 {
-    match type_at(dtype, parts) {
-        Some(leaf) => {
-            if is_plain(leaf) {
-                return Some(leaf);
-            }
-            None
-        }
-        None => None,
+    let mut left = fields.nfields();
+    while left > 0 {
+        left -= 1;
+        let Some(name) = fields.field_name(left) else {
+            unreachable!();
+        };
+        let Some(dtype) = fields.field_by_index(left) else {
+            unreachable!();
+        };
+        add_at(alloc, path.push(alloc, name.clone()?)?, dtype, leaves)?;
     }
+    Ok(())
 }
 
-/// The type that parts of a path lead to, from a type on through fields of structs.
-fn type_at<'a>(dtype: &'a DType, parts: &[Field]) -> Option<&'a DType>
-    ensures { option_map (λ dtype. type_view dtype.now) result ≡ type_at (map part_name parts.now) (type_view dtype.now) }
-{
-    match parts {
-        [] => Some(dtype),
-        [Field::Name(name), rest @ ..] => match field_type(dtype, name) {
-            Some(field) => type_at(field, rest),
-            None => None,
-        },
-    }
-}
-
-/// The type of the first field of this name, where the type is a struct.
-fn field_type<'a>(dtype: &'a DType, name: &FieldName) -> Option<&'a DType>
-    ensures { option_map (λ dtype. type_view dtype.now) result ≡ option_and_then (field_type name.now) (struct_fields (type_view dtype.now)) }
-{
-    match dtype.as_struct_fields_opt() {
-        Some(fields) => fields.field(name),
-        None => None,
-    }
-}
-
-/// Whether the type is that of booleans, integers or texts.
-fn is_plain(dtype: &DType) -> bool
-    ensures { result ≡ is_plain (type_view dtype.now) }
+/// Adds the field of this path and type where it is plain, and the plain fields below it where it is a struct.
+#[cycle(add)]
+#[tactic(auto, unfolding(vx_dtype::specs::TypeRules::depth_of))]
+fn add_at(
+    alloc: Global,
+    path: FieldPath,
+    dtype: &DType,
+    leaves: &mut HashMap<FieldPath, DType>,
+) -> Mem<()>
+    ensures { OnOk result (Adds (leaf_at path (type_view dtype.now)) leaves.old leaves.new) }
 {
     match dtype {
-        DType::Bool(_) => true,
-        DType::Primitive(_, _) => true,
-        DType::Utf8(_) => true,
-        DType::List(_, _) => false,
-        DType::Struct(_, _) => false,
+        DType::Bool(_) => add_leaf(path, dtype, leaves),
+        DType::Primitive(_, _) => add_leaf(path, dtype, leaves),
+        DType::Utf8(_) => add_leaf(path, dtype, leaves),
+        DType::List(_, _) => Ok(()),
+        DType::Struct(fields, _) => add_below(alloc, &path, fields, leaves),
     }
+}
+
+/// Adds the type of the field of this path.
+fn add_leaf(path: FieldPath, dtype: &DType, leaves: &mut HashMap<FieldPath, DType>) -> Mem<()>
+    ensures { OnOk result (Adds (λ q. cond (names_eq path q) (Some (type_view dtype.now)) None) leaves.old leaves.new) }
+{
+    leaves.insert(path, dtype.clone()?)?;
+    Ok(())
 }

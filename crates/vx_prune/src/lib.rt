@@ -3,8 +3,6 @@
 
 mod errors;
 mod leaves;
-#[cfg(test)]
-mod tests;
 mod zone_rules;
 mod zones;
 

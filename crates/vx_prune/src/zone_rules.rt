@@ -1,18 +1,18 @@
 // The rules that make columns, lengths and statistics zones.
 ghost use Rattle.std.specs.Prelude.{◌≡◌, true, false, length, map, is_some, option_map, IfOk};
-ghost use Rattle.std.specs.List.{list_all, list_any};
+ghost use Rattle.std.specs.List.{list_all};
 ghost use Rattle.vx_dtype.specs.Equal.{ty_eq};
-ghost use Rattle.vx_dtype.specs.declared.Nullability.TheVariants.{Nullable};
-ghost use Rattle.vx_dtype.specs.TypeRules.{with_nullability};
 ghost use Rattle.vx_dtype.specs.TypeViews.{type_view};
-ghost use Rattle.vx_prune.specs.Zoning.{broken_rule, are_shallow, type_of_statistic, same_statistic, distinct_statistics, counts_blocks, has_its_type};
+ghost use Rattle.vx_prune.specs.Zoning.{broken_rule, are_shallow, distinct_statistics, counts_blocks, values_have};
+ghost use Rattle.vx_prune.specs.Leaves.{leaf_in, type_by, broken_statistic, nullable};
 ghost use Rattle.vx_prune.specs.ZoneViews.{stat_view};
 
 use crate::errors::ZoneError;
-use crate::leaves::leaf_type;
+use crate::leaves::leaves;
 use crate::zones::ZoneStat;
 use std::alloc::Global;
-use vx_dtype::{DType, MOST_DEEP, Mem, Nullability, PType, Scalar, Stat, StructFields};
+use std::collections::{HashMap, HashSet};
+use vx_dtype::{DType, FieldPath, MOST_DEEP, Mem, Nullability, PType, Scalar, Stat, StructFields};
 
 /// The first rule that columns, lengths and statistics break, and None where they are zones.
 #[tactic(auto, unfolding(crate::specs::Zoning::broken_rule, vx_dtype::specs::TypeRules::no_name_twice))]
@@ -30,16 +30,29 @@ pub(crate) fn broken_rule(
     if !are_shallow(columns) {
         return Ok(Some(ZoneError::DeepType));
     }
-    if !lead_to_fields(columns, stats) {
+    let leaves = leaves(alloc, columns)?;
+    broken_statistic(alloc, &leaves, lengths, stats)
+}
+
+/// The first rule that lengths and statistics break, by the plain types of the table's paths.
+fn broken_statistic(
+    alloc: Global,
+    leaves: &HashMap<FieldPath, DType>,
+    lengths: &[u32],
+    stats: &[ZoneStat],
+) -> Mem<Option<ZoneError>>
+    ensures { IfOk result (λ rule. rule ≡ broken_statistic (leaf_in leaves.now) lengths.now (map stat_view stats.now)) }
+{
+    if !lead_to_fields(leaves, stats) {
         return Ok(Some(ZoneError::BadStatPath));
     }
-    if !are_distinct(stats) {
+    if !are_distinct(alloc, stats)? {
         return Ok(Some(ZoneError::DuplicateStat));
     }
     if !count_blocks(lengths, stats) {
         return Ok(Some(ZoneError::WrongStatCount));
     }
-    if !have_their_types(columns, stats)? {
+    if !have_their_types(leaves, stats)? {
         return Ok(Some(ZoneError::WrongStatType));
     }
     Ok(None)
@@ -59,11 +72,11 @@ fn are_shallow(columns: &StructFields) -> bool
 }
 
 /// Whether each statistic is one of a plain field that its path leads to.
-fn lead_to_fields(columns: &StructFields, stats: &[ZoneStat]) -> bool
-    ensures { result ≡ list_all (λ z. is_some (type_of_statistic columns.now z)) (map stat_view stats.now) }
+fn lead_to_fields(leaves: &HashMap<FieldPath, DType>, stats: &[ZoneStat]) -> bool
+    ensures { result ≡ list_all (λ z. is_some (type_by (leaf_in leaves.now) z)) (map stat_view stats.now) }
 {
     for stat in stats {
-        if !leads_to_field(columns, stat) {
+        if !leads_to_field(leaves, stat) {
             return false;
         }
     }
@@ -71,10 +84,10 @@ fn lead_to_fields(columns: &StructFields, stats: &[ZoneStat]) -> bool
 }
 
 /// Whether a statistic is one of a plain field that its path leads to.
-fn leads_to_field(columns: &StructFields, stat: &ZoneStat) -> bool
-    ensures { result ≡ is_some (type_of_statistic columns.now (stat_view stat.now)) }
+fn leads_to_field(leaves: &HashMap<FieldPath, DType>, stat: &ZoneStat) -> bool
+    ensures { result ≡ is_some (type_by (leaf_in leaves.now) (stat_view stat.now)) }
 {
-    let leaf = leaf_type(columns, &stat.path);
+    let leaf = leaves.get(&stat.path);
     match stat.stat {
         Stat::Min => leaf.is_some(),
         Stat::Max => leaf.is_some(),
@@ -83,35 +96,20 @@ fn leads_to_field(columns: &StructFields, stat: &ZoneStat) -> bool
     }
 }
 
-/// Whether no two statistics are of one path and one kind.
-fn are_distinct(stats: &[ZoneStat]) -> bool
-    ensures { result ≡ distinct_statistics (map stat_view stats.now) }
+/// Whether no two statistics are of one path and one kind: from the last to the first, by a set of those behind.
+fn are_distinct(alloc: Global, stats: &[ZoneStat]) -> Mem<bool>
+    ensures { IfOk result (λ distinct. distinct ≡ distinct_statistics (map stat_view stats.now)) }
 {
-    for i in 0..stats.len() {
-        if has_statistic(&stats[i], &stats[i + 1..]) {
-            return false;
+    let mut behind = HashSet::new(alloc);
+    let mut left = stats.len();
+    while left > 0 {
+        left -= 1;
+        let stat = &stats[left];
+        if !behind.insert((stat.path.clone()?, stat.stat))? {
+            return Ok(false);
         }
     }
-    true
-}
-
-/// Whether one of the others is of the same path and kind.
-fn has_statistic(stat: &ZoneStat, others: &[ZoneStat]) -> bool
-    ensures { result ≡ list_any (same_statistic (stat_view stat.now)) (map stat_view others.now) }
-{
-    for other in others {
-        if same_statistic(stat, other) {
-            return true;
-        }
-    }
-    false
-}
-
-/// Whether two statistics are of one path and one kind.
-fn same_statistic(stat: &ZoneStat, other: &ZoneStat) -> bool
-    ensures { result ≡ same_statistic (stat_view stat.now) (stat_view other.now) }
-{
-    stat.path == other.path && stat.stat == other.stat
+    Ok(true)
 }
 
 /// Whether each statistic has one value per block.
@@ -127,11 +125,11 @@ fn count_blocks(lengths: &[u32], stats: &[ZoneStat]) -> bool
 }
 
 /// Whether each value of each statistic has the statistic's type, made nullable.
-fn have_their_types(columns: &StructFields, stats: &[ZoneStat]) -> Mem<bool>
-    ensures { IfOk result (λ b. b ≡ list_all (has_its_type columns.now) (map stat_view stats.now)) }
+fn have_their_types(leaves: &HashMap<FieldPath, DType>, stats: &[ZoneStat]) -> Mem<bool>
+    ensures { IfOk result (λ b. b ≡ list_all (λ z. values_have z.values (type_by (leaf_in leaves.now) z)) (map stat_view stats.now)) }
 {
     for stat in stats {
-        if !has_its_type(columns, stat)? {
+        if !has_its_type(leaves, stat)? {
             return Ok(false);
         }
     }
@@ -139,20 +137,20 @@ fn have_their_types(columns: &StructFields, stats: &[ZoneStat]) -> Mem<bool>
 }
 
 /// Whether each value of a statistic has the statistic's type, made nullable.
-fn has_its_type(columns: &StructFields, stat: &ZoneStat) -> Mem<bool>
-    ensures { IfOk result (λ b. b ≡ has_its_type columns.now (stat_view stat.now)) }
+fn has_its_type(leaves: &HashMap<FieldPath, DType>, stat: &ZoneStat) -> Mem<bool>
+    ensures { IfOk result (λ b. b ≡ values_have (stat_view stat.now).values (type_by (leaf_in leaves.now) (stat_view stat.now))) }
 {
-    match type_of_values(columns, stat)? {
+    match type_of_values(leaves, stat)? {
         Some(dtype) => Ok(all_have(stat.values.as_slice(), &dtype)),
         None => Ok(false),
     }
 }
 
 /// The type of a statistic's values: the statistic's, made nullable.
-fn type_of_values(columns: &StructFields, stat: &ZoneStat) -> Mem<Option<DType>>
-    ensures { IfOk result (λ dtype. option_map type_view dtype ≡ option_map (λ t. with_nullability t Nullable) (type_of_statistic columns.now (stat_view stat.now))) }
+fn type_of_values(leaves: &HashMap<FieldPath, DType>, stat: &ZoneStat) -> Mem<Option<DType>>
+    ensures { IfOk result (λ dtype. option_map type_view dtype ≡ option_map nullable (type_by (leaf_in leaves.now) (stat_view stat.now))) }
 {
-    match leaf_type(columns, &stat.path) {
+    match leaves.get(&stat.path) {
         Some(leaf) => match stat.stat {
             Stat::Min => Ok(Some(leaf.with_nullability(Nullability::Nullable)?)),
             Stat::Max => Ok(Some(leaf.with_nullability(Nullability::Nullable)?)),

@@ -77,22 +77,20 @@ pub struct ZoneMap {
 }
 
 impl Model for ZoneMap {
-    ghost use Rattle.std.specs.Prelude.{◌≡◌, ◌^◌, ◌<◌, None, length, map};
-    ghost use Rattle.vx_semantics.specs.Tables.{Zones, row_type};
+    ghost use Rattle.std.specs.Prelude.{map};
+    ghost use Rattle.vx_semantics.specs.Tables.{Zones};
     ghost use Rattle.vx_prune.specs.ZoneCodes.{coded_zones};
 
     ghost Value = { Zones };
 
     ghost coded = { coded_zones };
 
-    ghost use Rattle.vx_dtype.specs.TypeRules.{fields_of};
     ghost use Rattle.vx_dtype.specs.TypeViews.{type_view};
-    ghost use Rattle.vx_prune.specs.Zoning.{broken_rule};
-    ghost use Rattle.vx_prune.specs.ZoneViews.{stat_view};
+    ghost use Rattle.vx_prune.specs.ZoneViews.{stat_view, zones_with, AreZones};
 
-    ghost view = { λ z. record { columns = fields_of (type_view z.dtype); lengths = z.lengths.items; stats = map stat_view z.stats.items } };
+    ghost view = { λ z. zones_with (type_view z.dtype) z.lengths.items (map stat_view z.stats.items) };
 
-    ghost invariant = { λ z. (type_view z.dtype ≡ row_type (fields_of (type_view z.dtype))) × (length z.lengths.items < 2 ^ 32) × (broken_rule (record { columns = fields_of (type_view z.dtype); lengths = z.lengths.items; stats = map stat_view z.stats.items }) ≡ None) };
+    ghost invariant = { λ z. AreZones (type_view z.dtype) z.lengths.items (map stat_view z.stats.items) };
 }
 
 impl ZoneMap {

@@ -1,10 +1,11 @@
-use Rattle.std.proofs.Common.{◌≡◌, map, drop}
+use Rattle.std.proofs.Common.{◌≡◌, map, drop, is_some}
 use Rattle.std.specs.List.{list_all}
 use Rattle.vx_prune.specs.ZoneViews.{stat_view}
-use Rattle.std.specs.Prelude.{is_some}
-use Rattle.vx_prune.specs.Zoning.{type_of_statistic}
+use Rattle.vx_prune.specs.Leaves.{leaf_in, type_by}
 use Rattle.vx_prune.proofs.zone_rules.lead_to_fields.Given as goal
 
 -- what is left to test
 abbrev pub invariant-loop-stat : goal.invariant-loop-stat
-invariant-loop-stat l = list_all (λ z. is_some (type_of_statistic l.fn.columns z)) (map stat_view l.fn.stats) ≡ list_all (λ z. is_some (type_of_statistic l.fn.columns z)) (map stat_view (drop l.stat-index l.fn.stats))
+invariant-loop-stat l =
+    list_all (λ z. is_some (type_by (leaf_in l.fn.leaves) z)) (map stat_view l.fn.stats)
+    ≡ list_all (λ z. is_some (type_by (leaf_in l.fn.leaves) z)) (map stat_view (drop l.stat-index l.fn.stats))
