@@ -7,7 +7,7 @@ use Rattle.std.specs.Hash as fed
 use Rattle.std.specs.Cmp.Lexicographic.{pointwise}
 use Rattle.std.proofs.lemmas.Slice.Eq.{slice_eq-Decides}
 use Rattle.vx_dtype.specs.Types.{Ty, bool_ty, int_ty, text_ty, list_ty, struct_ty, Fields, no_fields, field}
-use Rattle.vx_dtype.specs.Values.{Raw, raw_null, raw_bool, raw_int, raw_text, raw_list, raw_struct, Raws, no_raws, raw, valued, all_valued, members_valued}
+use Rattle.vx_dtype.specs.Values.{Raw, raw_null, raw_bool, raw_int, raw_text, raw_list, raw_struct, Raws, no_raws, raw, valued, all_valued, members_valued, null_val, struct_val}
 use Rattle.vx_dtype.specs.Fits.{fits, all_fit, fields_fit}
 use Rattle.vx_dtype.specs.Equal.{raw_eq}
 use Rattle.vx_dtype.specs.EqualLaws.{raw_decides}
@@ -16,6 +16,7 @@ use Rattle.vx_dtype.specs.RawViews.{raw_view}
 use Rattle.vx_dtype.specs.declared.values.ScalarValue.{ScalarValue}
 use Rattle.vx_column.specs.Columns.{Column, column, values_fit, seen_rows}
 use Rattle.vx_column.specs.ColumnEqual.{column_feed, val_feed, vals_feed, members_feed}
+use Rattle.vx_dtype.proofs.ValuedLemmas.{valued-struct}
 use Rattle.vx_column.proofs.FitLemmas.{both_of}
 
 mutual
@@ -31,8 +32,15 @@ mutual
       let inner : all_valued xs t ≡ all_valued ys t = cc in
       ap raw_list (all_valued-same t xs ys a b inner)
   valued-same (struct_ty fs n) (raw_struct xs) (raw_struct ys) a b e =
+      let whole : struct_val (members_valued xs fs) ≡ struct_val (members_valued ys fs) = sym (valued-struct xs fs n a) ∙ e ∙ valued-struct ys fs n b in
       let inner : members_valued xs fs ≡ members_valued ys fs = cc in
       ap raw_struct (members_valued-same fs xs ys a b inner)
+  valued-same (struct_ty fs n) raw_null (raw_struct ys) a b e =
+      let whole : null_val ≡ struct_val (members_valued ys fs) = e ∙ valued-struct ys fs n b in
+      absurd cc
+  valued-same (struct_ty fs n) (raw_struct xs) raw_null a b e =
+      let whole : struct_val (members_valued xs fs) ≡ null_val = sym (valued-struct xs fs n a) ∙ e in
+      absurd cc
   valued-same (bool_ty n) _ _ a b e = cc
   valued-same (int_ty p n) _ _ a b e = cc
   valued-same (text_ty n) _ _ a b e = cc
@@ -81,7 +89,7 @@ mutual
   val_feed-valued (int_ty p n) (raw_int i) a = refl
   val_feed-valued (text_ty n) (raw_text i) a = refl
   val_feed-valued (list_ty t n) (raw_list xs) a = ap (λ w. fed.u8 4 ++ w) (vals_feed-valued t xs a)
-  val_feed-valued (struct_ty fs n) (raw_struct xs) a = ap (λ w. fed.u8 5 ++ w) (members_feed-valued fs xs a)
+  val_feed-valued (struct_ty fs n) (raw_struct xs) a = ap val_feed (valued-struct xs fs n a) ∙ ap (λ w. fed.u8 5 ++ w) (members_feed-valued fs xs a)
   val_feed-valued _ _ a = cc
 
   pub vals_feed-valued : (t : Ty) (xs : Raws) → all_fit xs t ≡ true → vals_feed (all_valued xs t) ≡ raws_feed xs

@@ -8,6 +8,7 @@ use Rattle.vx_dtype.specs.Types.{Bytes, Ty, bool_ty, int_ty, text_ty, list_ty, s
 use Rattle.vx_dtype.specs.declared.Nullability.{Nullability}
 use Rattle.vx_dtype.specs.declared.values.ScalarValue.{ScalarValue}
 use Rattle.vx_dtype.specs.RawViews.{raw_view, raws_of}
+use Rattle.vx_dtype.proofs.ValuedLemmas.{valued-struct}
 use Rattle.vx_column.specs.Columns.{seen}
 use Rattle.vx_column.specs.Answers.{type_at_place}
 use Rattle.vx_dtype.specs.TypeRules.{field_names, field_type, is_nullable, nullability_of, union, widened, distinct_names, no_name_twice, no_name_twice_below}
@@ -164,3 +165,10 @@ names_of_struct fs n h = (both_of (distinct_names (field_names fs)) (no_name_twi
 
 pub names_widened : (t : Ty) (n : Nullability) → no_name_twice t ≡ true → no_name_twice (widened t n) ≡ true
 names_widened t n h = names_with_nullability t (union (nullability_of t) n) ∙ h
+
+-- the values of a struct of a type fit its fields, and the struct stands for the struct of the members
+pub parts-stand : (fs : Fields) (n : Nullability) (v : ScalarValue) (xs : List ScalarValue) → raw_view v ≡ raw_struct (raws_of (map raw_view xs)) → fits (raw_view v) (struct_ty fs n) ≡ true → (fields_fit (raws_of (map raw_view xs)) fs ≡ true) × (seen (struct_ty fs n) v ≡ struct_val (members_valued (raws_of (map raw_view xs)) fs))
+unfolding fits
+parts-stand fs n v xs is h =
+    let fit : fields_fit (raws_of (map raw_view xs)) fs ≡ true = ap (λ r. fits r (struct_ty fs n)) (sym is) ∙ h in
+    (fit, ap (λ r. valued r (struct_ty fs n)) is ∙ valued-struct (raws_of (map raw_view xs)) fs n fit)

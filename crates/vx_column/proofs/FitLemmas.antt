@@ -1,20 +1,25 @@
 -- What a raw value of a type stands for is a value of the type.
-use Rattle.std.proofs.Common.{◌≡◌, refl, ap, Bool, true, false, ◌&&◌, List, [], ◌∷◌}
+use Rattle.std.proofs.Common.{◌≡◌, refl, ap, sym, ◌∙◌, Bool, true, false, ◌&&◌, List, [], ◌∷◌}
 use Rattle.std.specs.Str.{bytes_eq}
 use Rattle.std.proofs.lemmas.Slice.Eq.{bytes_eq-Decides}
-use Rattle.vx_dtype.specs.Types.{Bytes, Ty, bool_ty, int_ty, text_ty, list_ty, struct_ty, Fields, no_fields, field}
+use Rattle.vx_dtype.specs.Types.{Bytes, Ty, bool_ty, int_ty, text_ty, list_ty, struct_ty}
 use Rattle.vx_dtype.specs.declared.PType.{PType}
 use Rattle.vx_dtype.specs.declared.PType.TheVariants.{U8, U16, U32, U64, I8, I16, I32, I64}
 use Rattle.vx_dtype.specs.TypeRules.{same_ptype, is_nullable, nullability_of, with_nullability, no_name_twice}
 use Rattle.vx_dtype.specs.declared.Nullability.{Nullability}
-use Rattle.vx_dtype.specs.declared.Nullability.TheVariants.{Nullable}
-use Rattle.vx_dtype.specs.Values.{Raw, raw_null, raw_bool, raw_int, raw_text, raw_list, raw_struct, Raws, no_raws, raw, valued, all_valued, members_valued, bool_val}
+use Rattle.vx_dtype.specs.declared.Nullability.TheVariants.{NonNullable, Nullable}
+use Rattle.vx_dtype.specs.Values.{Raw, raw_null, raw_bool, raw_int, raw_text, raw_list, raw_struct, valued, bool_val}
 use Rattle.vx_dtype.specs.Logic.{is_null3}
+use Rattle.vx_dtype.proofs.ValuedLemmas.{val_fits_valued, valued-struct}
 use Rattle.vx_column.specs.RawParts.{is_raw_null}
-use Rattle.vx_dtype.specs.Fits.{fits, all_fit, fields_fit, val_fits, vals_fit, members_fit}
-use Rattle.vx_dtype.specs.RawViews.{raw_view}
+use Rattle.vx_dtype.specs.Fits.{fits}
+use Rattle.vx_dtype.specs.RawViews.{raw_view, raw_step}
 use Rattle.vx_dtype.specs.declared.values.ScalarValue.{ScalarValue}
-use Rattle.vx_column.specs.Columns.{rows_fit, values_fit, seen_rows}
+use Rattle.vx_dtype.specs.declared.values.ScalarValue.TheVariants as scalars
+use Rattle.vx_dtype.specs.declared.values.ScalarValue.TheVariants.{rolls-Bool}
+use Rattle.vx_dtype.specs.declared.values.ScalarValue.TheOpen.{Bool as BoolLayer}
+use Rattle.vx_dtype.specs.declared.values.ScalarValue.TheFolds.{fold-roll-ScalarValue}
+use Rattle.vx_column.specs.Columns.{rows_fit, values_fit, seen, seen_rows}
 
 -- an integer type is itself
 pub same_ptype_self : (p : PType) → same_ptype p p ≡ true
@@ -41,32 +46,6 @@ pub of_both : (a b : Bool) → a ≡ true → b ≡ true → a && b ≡ true
 of_both true b p q = q
 of_both false b p q = p
 
-mutual
-  unfolding fits valued val_fits
-
-  pub val_fits_valued : (x : Raw) (t : Ty) → fits x t ≡ true → val_fits (valued x t) t ≡ true
-  val_fits_valued raw_null t e = e
-  val_fits_valued (raw_bool b) (bool_ty n) e = refl
-  val_fits_valued (raw_int i) (int_ty p n) e = of_both _ _ (same_ptype_self p) e
-  val_fits_valued (raw_text s) (text_ty n) e = refl
-  val_fits_valued (raw_list xs) (list_ty t n) e = vals_fit_valued xs t e
-  val_fits_valued (raw_struct xs) (struct_ty fs n) e = members_fit_valued xs fs e
-  val_fits_valued _ _ e = cc
-
-  pub vals_fit_valued : (xs : Raws) (t : Ty) → all_fit xs t ≡ true → vals_fit (all_valued xs t) t ≡ true
-  vals_fit_valued no_raws t e = refl
-  vals_fit_valued (raw x xs) t e =
-      let h = both_of _ _ e in
-      of_both _ _ (val_fits_valued x t h.0) (vals_fit_valued xs t h.1)
-
-  pub members_fit_valued : (xs : Raws) (fs : Fields) → fields_fit xs fs ≡ true → members_fit (members_valued xs fs) fs ≡ true
-  members_fit_valued no_raws no_fields e = refl
-  members_fit_valued no_raws (field f t fs) e = cc
-  members_fit_valued (raw x xs) no_fields e = cc
-  members_fit_valued (raw x xs) (field f t fs) e =
-      let h = both_of _ _ e in
-      of_both _ _ (bytes_eq_self f) (of_both _ _ (val_fits_valued x t h.0) (members_fit_valued xs fs h.1))
-
 -- what a raw value of a type stands for is null where the raw value is
 pub is_null3_valued : (x : Raw) (t : Ty) → fits x t ≡ true → is_null3 (valued x t) ≡ bool_val (is_raw_null x)
 unfolding fits valued
@@ -75,8 +54,13 @@ is_null3_valued (raw_bool b) (bool_ty n) e = refl
 is_null3_valued (raw_int i) (int_ty p n) e = refl
 is_null3_valued (raw_text s) (text_ty n) e = refl
 is_null3_valued (raw_list xs) (list_ty t n) e = refl
-is_null3_valued (raw_struct xs) (struct_ty fs n) e = refl
+is_null3_valued (raw_struct xs) (struct_ty fs n) e = ap is_null3 (valued-struct xs fs n e)
 is_null3_valued _ _ e = cc
+
+-- a boolean of the code stands for itself
+pub bool-seen : (b : Bool) → seen (bool_ty NonNullable) (scalars.Bool b) ≡ bool_val b
+unfolding valued
+bool-seen b = ap (λ x. valued x (bool_ty NonNullable)) (ap raw_view (sym (rolls-Bool b)) ∙ fold-roll-ScalarValue Raw raw_step (BoolLayer b))
 
 -- so where each value of the code fits, each row does
 pub rows_fit_seen : (t : Ty) (xs : List ScalarValue) → values_fit t xs ≡ true → rows_fit t (seen_rows t xs) ≡ true

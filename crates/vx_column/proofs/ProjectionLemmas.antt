@@ -13,6 +13,7 @@ use Rattle.vx_dtype.specs.Values.{Val, valued, members_valued, member, raw_struc
 use Rattle.vx_dtype.specs.Fits.{fits, fields_fit}
 use Rattle.vx_dtype.specs.RawViews.{raw_view, raws_of}
 use Rattle.vx_dtype.specs.declared.values.ScalarValue.{ScalarValue}
+use Rattle.vx_dtype.proofs.ValuedLemmas.{valued-struct}
 use Rattle.vx_column.specs.Columns.{seen}
 use Rattle.vx_column.specs.Answers.{type_at_place}
 use Rattle.vx_column.specs.StructColumns.{place_of, IsAtPlace}
@@ -156,4 +157,4 @@ taken_fits fs gs made n xs ys x h p = ap (λ r. fits r (struct_ty made n)) p ∙
 
 pub taken_stands : (fs : List Bytes) (gs made : Fields) (n : Nullability) (xs ys : List ScalarValue) (x : ScalarValue) (v : Val) → AreMembers fs gs xs ys made → raw_view x ≡ raw_struct (raws_of (map raw_view ys)) → v ≡ struct_val (members_valued (raws_of (map raw_view xs)) gs) → seen (struct_ty made n) x ≡ selected fs v
 unfolding valued
-taken_stands fs gs made n xs ys x v h p e = ap (λ r. valued r (struct_ty made n)) p ∙ ap struct_val h.1 ∙ ap (selected fs) (sym e)
+taken_stands fs gs made n xs ys x v h p e = ap (λ r. valued r (struct_ty made n)) p ∙ valued-struct (raws_of (map raw_view ys)) made n h.0 ∙ ap struct_val h.1 ∙ ap (selected fs) (sym e)

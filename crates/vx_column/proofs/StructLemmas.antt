@@ -14,6 +14,7 @@ use Rattle.vx_dtype.specs.declared.values.ScalarValue.{ScalarValue}
 use Rattle.vx_dtype.specs.TypeViews.{type_view}
 use Rattle.vx_dtype.specs.declared.types.DType.{DType}
 use Rattle.std.proofs.lemmas.List.{map_more, map-append}
+use Rattle.vx_dtype.proofs.ValuedLemmas.{valued-struct}
 use Rattle.vx_column.specs.Columns.{Column, values_fit, seen, seen_rows, row_at}
 use Rattle.vx_column.specs.StructColumns.{column_types, all_have_rows, truths_number, nullability_by, is_valid_row, row_members, StandsAt}
 use Rattle.vx_column.proofs.FitLemmas.{both_of, of_both}
@@ -101,7 +102,7 @@ struct_fits fs cs n xs i x e h p = ap (λ r. fits r (struct_ty (zipped fs (colum
 
 pub struct_stands : (fs : List Bytes) (cs : List Column) (n : Nullability) (xs : List ScalarValue) (i : ℕ) (x : ScalarValue) → length fs ≡ length cs → AllZip (StandsAt i) cs xs → raw_view x ≡ raw_struct (raws_of (map raw_view xs)) → seen (struct_ty (zipped fs (column_types cs)) n) x ≡ struct_val (row_members fs cs i)
 unfolding valued
-struct_stands fs cs n xs i x e h p = ap (λ r. valued r (struct_ty (zipped fs (column_types cs)) n)) p ∙ ap struct_val (row_stands fs cs xs i e h)
+struct_stands fs cs n xs i x e h p = ap (λ r. valued r (struct_ty (zipped fs (column_types cs)) n)) p ∙ valued-struct (raws_of (map raw_view xs)) (zipped fs (column_types cs)) n (row_fits fs cs xs i e h) ∙ ap struct_val (row_stands fs cs xs i e h)
 
 -- one type more
 pub types_step : (cs : List Column) (ts us : List DType) (i : ℕ) (c : Column) (t : DType) → i < length cs → c ≡ get_or cs i c → type_view t ≡ c.ty → us ≡ ts ++ t ∷ [] → map type_view ts ≡ column_types (take i cs) → map type_view us ≡ column_types (take (i + 1) cs)

@@ -1,4 +1,4 @@
--- The tests of equality answer true exactly where the two sides are one.
+-- For the checker: no public clause cites this. The tests of equality answer true exactly where the two sides are one.
 use Rattle.std.specs.Prelude.{◌≡◌, true, ◌&&◌, List, refl, Decides}
 use Rattle.std.proofs.Common.{ap, subst}
 use Rattle.std.specs.Cmp.{IsEquivalence, decided, signed_Decides, first_so, second_so}

@@ -1,4 +1,5 @@
--- Patterns of LIKE as the code keeps them: in parts, and with a table of states while a text is matched.
+-- For the checker: no public clause cites this. Patterns of LIKE as the code keeps them: in parts, and with a table of states while a
+-- text is matched.
 use Rattle.std.specs.Prelude.{◌≡◌, ◌≤◌, ℕ, ◌+◌, ◌==◌, slice_index_or, Bool, true, false, cond, ◌&&◌, ◌||◌, List, map, drop, length, Option, Some, None}
 use Rattle.vx_dtype.specs.Like.{Wildcard, any_run, any_one, just, matches, folded}
 use Rattle.vx_dtype.specs.Values.{Val, null_val, text_val}

@@ -1,4 +1,4 @@
--- Sums and differences by one name.
+-- For the checker: no public clause cites this. Sums and differences by one name.
 use Rattle.std.specs.Prelude.{ℤ, Bool, Option, Some, None}
 use Rattle.vx_dtype.specs.declared.Nullability.{Nullability}
 use Rattle.vx_dtype.specs.declared.PType.{PType}

@@ -1,4 +1,4 @@
--- A code of values, and of columns: by it the checker tells those that are seen apart.
+-- For the checker: no public clause cites this. A code of values, and of columns: by it the checker tells those that are seen apart.
 use Rattle.std.proofs.Common.{◌≡◌, refl, ap, List}
 use Rattle.std.specs.Coded.{Coded, coded_ℤ, coded_bool, coded_list}
 use base.Stored.{Gv, gnil, gcons}

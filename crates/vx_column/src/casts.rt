@@ -11,7 +11,6 @@ ghost use Rattle.vx_column.specs.Answers.{Answers, unless_faulty, GivesUnlessFau
 
 use crate::columns::ColumnRef;
 use crate::errors::ColumnError;
-use crate::sums::in_range;
 use std::alloc::Global;
 use vx_dtype::{DType, Mem, ScalarValue};
 
@@ -20,7 +19,7 @@ fn has_number(dtype: &DType, i: i128) -> bool
     ensures { cond result (Some (raw_int i)) None ≡ raw_cast (type_view dtype.now) (raw_int i) }
 {
     match dtype {
-        DType::Primitive(p, _) => in_range(*p, i),
+        DType::Primitive(p, _) => p.in_range(i),
         _ => true,
     }
 }

@@ -3,7 +3,7 @@ ghost use Rattle.std.specs.Prelude.{◌≡◌, true, length, map, option_map, If
 ghost use Rattle.vx_dtype.specs.Types.{bool_ty};
 ghost use Rattle.vx_dtype.specs.TypeRules.{is_plain, alike, nullability_of, union};
 ghost use Rattle.vx_dtype.specs.TypeViews.{type_view};
-ghost use Rattle.vx_dtype.specs.Order.{meets, compare3, bound_operator, between3};
+ghost use Rattle.vx_dtype.specs.Order.{meets, compare3, between3};
 ghost use Rattle.vx_dtype.specs.RawViews.{raw_view, raws_of};
 ghost use Rattle.vx_dtype.specs.Lists.{contains3};
 ghost use Rattle.vx_column.specs.Columns.{zip_rows, zip_rows3};
@@ -14,7 +14,7 @@ use crate::logic::{and_kleene, is_null_value, of_truth};
 use crate::rows::{PairRule, zip_columns};
 use std::alloc::Global;
 use std::cmp::Ordering;
-use vx_dtype::{BetweenOptions, CompareOperator, DType, Mem, ScalarValue, StrictComparison};
+use vx_dtype::{BetweenOptions, CompareOperator, DType, Mem, ScalarValue};
 
 /// How two plain values of one kind stand: false before true, numbers by value, texts by their bytes. None where one of them is null.
 pub(crate) fn order_of(l: &ScalarValue, r: &ScalarValue) -> Option<Ordering>
@@ -28,26 +28,12 @@ pub(crate) fn order_of(l: &ScalarValue, r: &ScalarValue) -> Option<Ordering>
     }
 }
 
-/// Whether a comparison holds of values that stand so.
-fn holds(op: CompareOperator, order: Ordering) -> bool
-    ensures { result ≡ meets op order }
-{
-    match op {
-        CompareOperator::Eq => order.is_eq(),
-        CompareOperator::NotEq => order.is_ne(),
-        CompareOperator::Gt => order.is_gt(),
-        CompareOperator::Gte => order.is_ge(),
-        CompareOperator::Lt => order.is_lt(),
-        CompareOperator::Lte => order.is_le(),
-    }
-}
-
 /// Whether a comparison holds, and none where there is no order.
 fn compared(op: CompareOperator, order: Option<Ordering>) -> Option<bool>
     ensures { result ≡ option_map (meets op) order }
 {
     match order {
-        Some(order) => Some(holds(op, order)),
+        Some(order) => Some(op.holds(order)),
         None => None,
     }
 }
@@ -92,16 +78,6 @@ pub fn compare(alloc: Global, l: &ColumnRef, r: &ColumnRef, op: CompareOperator)
     zip_columns(alloc, &Comparison { op, left, right }, dtype, l, r)
 }
 
-/// The comparison that a bound asks: less where it is strict, else less or equal.
-fn bound_operator(strict: StrictComparison) -> CompareOperator
-    ensures { result ≡ bound_operator strict }
-{
-    match strict {
-        StrictComparison::Strict => CompareOperator::Lt,
-        StrictComparison::NonStrict => CompareOperator::Lte,
-    }
-}
-
 /// Whether the lower bound stands before the value and the value before the upper bound, row by row. The conjunction is Kleene's, also beside a null bound.
 pub fn between(
     alloc: Global,
@@ -118,8 +94,8 @@ pub fn between(
     ensures dtype { IfOk result (λ made. made.ty ≡ bool_ty (union (nullability_of c.now.ty) (union (nullability_of lower.now.ty) (nullability_of upper.now.ty)))) }
     ensures rows { IfOk result (λ made. made.rows ≡ zip_rows3 (between3 options) c.now.rows lower.now.rows upper.now.rows) }
 {
-    let above = compare(alloc, lower, c, bound_operator(options.lower_strict))?;
-    let below = compare(alloc, c, upper, bound_operator(options.upper_strict))?;
+    let above = compare(alloc, lower, c, options.lower_strict.to_operator())?;
+    let below = compare(alloc, c, upper, options.upper_strict.to_operator())?;
     and_kleene(alloc, &above, &below)
 }
 

@@ -16,8 +16,6 @@ mod projections;
 mod rows;
 mod structs;
 mod sums;
-#[cfg(test)]
-mod tests;
 
 pub use casts::cast;
 pub use columns::ColumnRef;

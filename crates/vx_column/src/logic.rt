@@ -203,7 +203,7 @@ impl RowRule for NullTest<'_> {
 
     ghost rule = { λ _. is_null3 };
 
-    #[tactic(auto, using(crate::proofs::FitLemmas::is_null3_valued), unfolding(vx_dtype::specs::Fits::fits, vx_dtype::specs::Values::valued))]
+    #[tactic(auto, unfolding(vx_dtype::specs::Fits::fits))]
     fn at(&self, _alloc: Global, value: &ScalarValue) -> Mem<ScalarValue> {
         Ok(ScalarValue::Bool(is_null_value(value)))
     }

@@ -48,20 +48,13 @@ pub(crate) fn of_number(i: i128) -> ScalarValue
     ScalarValue::Int(i)
 }
 
-/// Whether a number is one of an integer type.
-pub(crate) fn in_range(p: PType, i: i128) -> bool
-    ensures { result ≡ in_range p i }
-{
-    p.least() <= i && i <= p.greatest()
-}
-
 /// The value with this number where it is one of an integer type.
 pub(crate) fn within(p: PType, i: i128) -> Option<ScalarValue>
     ensures none { result ≡ None → int_in p i ≡ fault }
     ensures fit { (n : Nullability) → IfSome result (λ v. fits (raw_view v) (int_ty p n) ≡ true) }
     ensures value { (n : Nullability) → IfSome result (λ v. seen (int_ty p n) v ≡ int_in p i) }
 {
-    if in_range(p, i) {
+    if p.in_range(i) {
         Some(of_number(i))
     } else {
         None

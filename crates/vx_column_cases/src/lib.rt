@@ -1,2 +1,11 @@
 //! Tests of columns.
 #![tactic(auto)]
+
+#[cfg(test)]
+mod ample;
+#[cfg(test)]
+mod columns;
+#[cfg(test)]
+mod structs;
+#[cfg(test)]
+mod wildcards;

@@ -23,5 +23,5 @@ returns-clause-rows c =
     let above = c.in_ok-above.ensures.rows in
     let below = c.in_ok-below.ensures.rows in
     let both = zip_rows3_zip_rows and3 (compare3 (bound_operator c.args.options.lower_strict)) (compare3 (bound_operator c.args.options.upper_strict)) c.args.c.now.rows c.args.lower.now.rows c.args.upper.now.rows c.requires.lower_length c.requires.upper_length in
-    let rows : zip_rows and3 c.in_ok-above.above.rows c.in_ok-below.below.rows ≡ zip_rows3 (between3 c.args.options) c.args.c.now.rows c.args.lower.now.rows c.args.upper.now.rows = rw (above, below, c.bound_operator.ensures, c.bound_operator-2.ensures) both in
+    let rows : zip_rows and3 c.in_ok-above.above.rows c.in_ok-below.below.rows ≡ zip_rows3 (between3 c.args.options) c.args.c.now.rows c.args.lower.now.rows c.args.upper.now.rows = rw (above, below, c.to_operator.ensures, c.to_operator-2.ensures) both in
     rw (← rows) c.and_kleene.ensures.rows

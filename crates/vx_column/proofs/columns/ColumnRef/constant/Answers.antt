@@ -1,4 +1,4 @@
-use Rattle.std.proofs.Common.{◌≡◌, true, sym, ◌∙◌, ap, refl}
+use Rattle.std.proofs.Common.{◌≡◌, true, refl, rules}
 use Rattle.vx_dtype.specs.TypeRules.{no_name_twice}
 use Rattle.vx_column.proofs.MadeLemmas.{raws_fit_repeated, raw_rows_repeated}
 use Rattle.vx_column.proofs.columns.ColumnRef.constant.Goals as goal
@@ -9,6 +9,6 @@ of_rows-requires-clause-fit c =
 
 pub returns : goal.returns
 returns c =
-    let distinct : no_name_twice c.args.value.now.ty ≡ true = ap no_name_twice (sym c.dtype.ensures) ∙ sym c.if-not-has_distinct_names.ensures in
+    let distinct : no_name_twice c.args.value.now.ty ≡ true = search rules in
     let rows = raw_rows_repeated c.args.value.now.ty c.args.len c.args.value.now.value in
     rw (distinct, c.in_ok-of_rows.ensures, c.in_ok-clone.ensures.cases, c.dtype-2.ensures, c.in_ok-rows.ensures, c.value.ensures.held, rows) refl

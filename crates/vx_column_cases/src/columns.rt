@@ -1,4 +1,4 @@
-// Tables of expected rows, and each call that takes memory once with ample memory.
+//! Columns by their values, and each call behind a test of what it asks.
 ghost use Rattle.std.specs.Prelude.{◌≡◌, ◌&&◌};
 ghost use Rattle.vx_dtype.specs.TypeRules.{is_bool_ty, is_int_ty, is_text_ty, is_plain, alike};
 ghost use Rattle.vx_dtype.specs.Casts.{takes_cast};
@@ -6,33 +6,28 @@ ghost use Rattle.vx_dtype.specs.TypeViews.{type_view};
 ghost use Rattle.vx_dtype.specs.StructTypes.{is_struct_ty};
 ghost use Rattle.vx_column.specs.RawParts.{lists_kind};
 
-use crate::*;
 use std::alloc::Global;
 use std::test::Fail;
-use vx_dtype::{
-    BetweenOptions, CompareOperator, DType, FieldName, FieldNames, Nullability, PType, Text,
+use vx_column::{
+    ColumnError, ColumnRef, and_kleene, between, cast, checked_add, checked_sub, compare, invert,
+    like, list_contains, or_kleene,
 };
-
-mod ample;
-mod booleans;
-mod nested;
-mod plain;
-mod wildcards;
+use vx_dtype::{BetweenOptions, CompareOperator, DType, FieldName, Nullability, PType, Text};
 
 /// A nullable column of booleans.
-fn truths(alloc: Global, values: &[Option<bool>]) -> Result<ColumnRef, Fail> {
+pub(crate) fn truths(alloc: Global, values: &[Option<bool>]) -> Result<ColumnRef, Fail> {
     let values = Vec::from_slice(alloc, values)?;
     Ok(ColumnRef::bool(alloc, values, Nullability::Nullable)?)
 }
 
 /// A nullable column of numbers.
-fn numbers(alloc: Global, p: PType, values: &[Option<i128>]) -> Result<ColumnRef, Fail> {
+pub(crate) fn numbers(alloc: Global, p: PType, values: &[Option<i128>]) -> Result<ColumnRef, Fail> {
     let values = Vec::from_slice(alloc, values)?;
     Ok(ColumnRef::primitive(alloc, p, values, Nullability::Nullable)?)
 }
 
 /// A nullable column of texts.
-fn texts(alloc: Global, values: &[Option<&str>]) -> Result<ColumnRef, Fail> {
+pub(crate) fn texts(alloc: Global, values: &[Option<&str>]) -> Result<ColumnRef, Fail> {
     let mut made = Vec::new(alloc);
     for value in values {
         made.push(match value {
@@ -44,7 +39,7 @@ fn texts(alloc: Global, values: &[Option<&str>]) -> Result<ColumnRef, Fail> {
 }
 
 /// Names of fields.
-fn names(alloc: Global, texts: &[&str]) -> Result<Vec<FieldName>, Fail> {
+pub(crate) fn names(alloc: Global, texts: &[&str]) -> Result<Vec<FieldName>, Fail> {
     let mut names = Vec::new(alloc);
     for text in texts {
         names.push(FieldName::new(alloc, text)?)?;
@@ -53,7 +48,10 @@ fn names(alloc: Global, texts: &[&str]) -> Result<Vec<FieldName>, Fail> {
 }
 
 /// Whether an answer is the wanted one.
-fn answers(made: Result<ColumnRef, ColumnError>, want: Result<&ColumnRef, ColumnError>) -> bool {
+pub(crate) fn answers(
+    made: Result<ColumnRef, ColumnError>,
+    want: Result<&ColumnRef, ColumnError>,
+) -> bool {
     match (made, want) {
         (Ok(made), Ok(want)) => made == *want,
         (Err(made), Err(want)) => made == want,
@@ -62,28 +60,28 @@ fn answers(made: Result<ColumnRef, ColumnError>, want: Result<&ColumnRef, Column
 }
 
 /// Whether a column has booleans.
-fn is_bool(c: &ColumnRef) -> bool
+pub(crate) fn is_bool(c: &ColumnRef) -> bool
     ensures { result ≡ is_bool_ty c.now.ty }
 {
     matches!(c.dtype(), DType::Bool(_))
 }
 
 /// Whether a column has numbers.
-fn is_int(c: &ColumnRef) -> bool
+pub(crate) fn is_int(c: &ColumnRef) -> bool
     ensures { result ≡ is_int_ty c.now.ty }
 {
     matches!(c.dtype(), DType::Primitive(_, _))
 }
 
 /// Whether a column has texts.
-fn is_text(c: &ColumnRef) -> bool
+pub(crate) fn is_text(c: &ColumnRef) -> bool
     ensures { result ≡ is_text_ty c.now.ty }
 {
     matches!(c.dtype(), DType::Utf8(_))
 }
 
 /// Whether a column has plain values.
-fn is_plain(c: &ColumnRef) -> bool
+pub(crate) fn is_plain(c: &ColumnRef) -> bool
     ensures { result ≡ is_plain c.now.ty }
 {
     match c.dtype() {
@@ -96,21 +94,21 @@ fn is_plain(c: &ColumnRef) -> bool
 }
 
 /// Whether a column has structs.
-fn is_struct(c: &ColumnRef) -> bool
+pub(crate) fn is_struct(c: &ColumnRef) -> bool
     ensures { result ≡ is_struct_ty c.now.ty }
 {
     matches!(c.dtype(), DType::Struct(_, _))
 }
 
 /// Whether two columns have equal types but for nullability.
-fn is_alike(l: &ColumnRef, r: &ColumnRef) -> bool
+pub(crate) fn is_alike(l: &ColumnRef, r: &ColumnRef) -> bool
     ensures { result ≡ alike l.now.ty r.now.ty }
 {
     l.dtype().eq_ignore_nullability(r.dtype())
 }
 
 /// Whether values of the one type may be cast to the other.
-fn takes_cast(c: &ColumnRef, target: &DType) -> bool
+pub(crate) fn takes_cast(c: &ColumnRef, target: &DType) -> bool
     ensures { result ≡ takes_cast c.now.ty (type_view target.now) }
 {
     match (c.dtype(), target) {
@@ -122,7 +120,7 @@ fn takes_cast(c: &ColumnRef, target: &DType) -> bool
 }
 
 /// Whether a column's lists may be asked for another's values.
-fn has_lists_of(list: &ColumnRef, value: &ColumnRef) -> bool
+pub(crate) fn has_lists_of(list: &ColumnRef, value: &ColumnRef) -> bool
     ensures { result ≡ lists_kind list.now.ty value.now.ty }
 {
     match list.dtype() {
@@ -132,7 +130,7 @@ fn has_lists_of(list: &ColumnRef, value: &ColumnRef) -> bool
 }
 
 /// Whether a type is plain and equal to another but for nullability.
-fn is_kind(element: &DType, value: &DType) -> bool
+pub(crate) fn is_kind(element: &DType, value: &DType) -> bool
     ensures { result ≡ (is_plain (type_view element.now) && alike (type_view element.now) (type_view value.now)) }
 {
     match element {
@@ -143,7 +141,12 @@ fn is_kind(element: &DType, value: &DType) -> bool
 }
 
 /// Whether a conjunction has these rows.
-fn and_gives(alloc: Global, l: &ColumnRef, r: &ColumnRef, want: &ColumnRef) -> Result<bool, Fail> {
+pub(crate) fn and_gives(
+    alloc: Global,
+    l: &ColumnRef,
+    r: &ColumnRef,
+    want: &ColumnRef,
+) -> Result<bool, Fail> {
     if !is_bool(l) {
         return Ok(false);
     }
@@ -157,7 +160,12 @@ fn and_gives(alloc: Global, l: &ColumnRef, r: &ColumnRef, want: &ColumnRef) -> R
 }
 
 /// Whether a disjunction has these rows.
-fn or_gives(alloc: Global, l: &ColumnRef, r: &ColumnRef, want: &ColumnRef) -> Result<bool, Fail> {
+pub(crate) fn or_gives(
+    alloc: Global,
+    l: &ColumnRef,
+    r: &ColumnRef,
+    want: &ColumnRef,
+) -> Result<bool, Fail> {
     if !is_bool(l) {
         return Ok(false);
     }
@@ -171,7 +179,7 @@ fn or_gives(alloc: Global, l: &ColumnRef, r: &ColumnRef, want: &ColumnRef) -> Re
 }
 
 /// Whether a negation has these rows.
-fn invert_gives(alloc: Global, c: &ColumnRef, want: &ColumnRef) -> Result<bool, Fail> {
+pub(crate) fn invert_gives(alloc: Global, c: &ColumnRef, want: &ColumnRef) -> Result<bool, Fail> {
     if !is_bool(c) {
         return Ok(false);
     }
@@ -179,7 +187,7 @@ fn invert_gives(alloc: Global, c: &ColumnRef, want: &ColumnRef) -> Result<bool, 
 }
 
 /// Whether these rows are kept.
-fn filter_gives(
+pub(crate) fn filter_gives(
     alloc: Global,
     c: &ColumnRef,
     by: &ColumnRef,
@@ -195,7 +203,7 @@ fn filter_gives(
 }
 
 /// Whether masking leaves these rows.
-fn mask_gives(
+pub(crate) fn mask_gives(
     alloc: Global,
     c: &ColumnRef,
     by: &ColumnRef,
@@ -211,7 +219,7 @@ fn mask_gives(
 }
 
 /// Whether a comparison has these rows.
-fn compare_gives(
+pub(crate) fn compare_gives(
     alloc: Global,
     l: &ColumnRef,
     r: &ColumnRef,
@@ -231,7 +239,7 @@ fn compare_gives(
 }
 
 /// Whether the test for a range has these rows.
-fn between_gives(
+pub(crate) fn between_gives(
     alloc: Global,
     c: &ColumnRef,
     lower: &ColumnRef,
@@ -258,7 +266,7 @@ fn between_gives(
 }
 
 /// Whether LIKE has these rows.
-fn like_gives(
+pub(crate) fn like_gives(
     alloc: Global,
     c: &ColumnRef,
     pattern: &ColumnRef,
@@ -279,7 +287,7 @@ fn like_gives(
 }
 
 /// Whether membership has these rows.
-fn contains_gives(
+pub(crate) fn contains_gives(
     alloc: Global,
     list: &ColumnRef,
     value: &ColumnRef,
@@ -295,7 +303,7 @@ fn contains_gives(
 }
 
 /// Whether a sum has these rows, or is refused so.
-fn add_gives(
+pub(crate) fn add_gives(
     alloc: Global,
     l: &ColumnRef,
     r: &ColumnRef,
@@ -314,7 +322,7 @@ fn add_gives(
 }
 
 /// Whether a difference has these rows, or is refused so.
-fn sub_gives(
+pub(crate) fn sub_gives(
     alloc: Global,
     l: &ColumnRef,
     r: &ColumnRef,
@@ -333,7 +341,7 @@ fn sub_gives(
 }
 
 /// Whether a cast has these rows, or is refused so.
-fn cast_gives(
+pub(crate) fn cast_gives(
     alloc: Global,
     c: &ColumnRef,
     target: &DType,
@@ -346,7 +354,7 @@ fn cast_gives(
 }
 
 /// Whether a field has these rows, or is refused so.
-fn field_gives(
+pub(crate) fn field_gives(
     alloc: Global,
     c: &ColumnRef,
     name: &str,
@@ -360,7 +368,7 @@ fn field_gives(
 }
 
 /// Whether a projection has these rows, or is refused so.
-fn project_gives(
+pub(crate) fn project_gives(
     alloc: Global,
     c: &ColumnRef,
     texts: &[&str],

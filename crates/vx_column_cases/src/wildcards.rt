@@ -1,5 +1,8 @@
-// LIKE at texts, patterns and cases.
-use super::*;
+//! LIKE at texts, patterns and cases.
+
+use crate::columns::{like_gives, texts, truths};
+use std::alloc::Global;
+use std::test::Fail;
 
 /// Texts and patterns, whether they match, and whether they do so without regard to case.
 const MATCHES: [(&str, &str, bool, bool); 40] = [

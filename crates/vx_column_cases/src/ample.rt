@@ -1,7 +1,14 @@
-// With memory at hand each call that may lack it answers.
-use super::*;
+//! With memory at hand each call that may lack it answers.
+
+use crate::columns::*;
+use std::alloc::Global;
 use std::rc::Rc;
-use vx_dtype::{Scalar, ScalarValue, StrictComparison};
+use std::test::Fail;
+use vx_column::{ColumnRef, is_null};
+use vx_dtype::{
+    BetweenOptions, CompareOperator, DType, FieldNames, Nullability, PType, Scalar, ScalarValue,
+    StrictComparison,
+};
 
 /// A column of one number, never null.
 fn one(alloc: Global, i: i128) -> Result<ColumnRef, Fail> {

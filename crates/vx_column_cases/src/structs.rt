@@ -1,8 +1,11 @@
-// Columns of structs, refusals of values, and columns of no rows.
-use super::*;
-use std::process::Abort;
+//! What a null of a struct hides, and the refusals of structs, projections and values.
+
+use crate::columns::{answers, field_gives, names, numbers, project_gives, texts};
+use std::alloc::Global;
 use std::rc::Rc;
-use vx_dtype::{ElementType, ScalarValue, StructFields};
+use std::test::Fail;
+use vx_column::{ColumnError, ColumnRef};
+use vx_dtype::{DType, FieldName, FieldNames, Nullability, PType, ScalarValue, StructFields, Text};
 
 /// A struct of a number and a text, either of which may be null.
 type Pair<'a> = (Option<i128>, Option<&'a str>);
@@ -91,20 +94,6 @@ fn holed(alloc: Global) -> Result<ColumnRef, Fail> {
 }
 
 #[test]
-fn structs_that_are_always_valid(rt: HostRuntime) -> Result<(), Fail> {
-    let alloc = rt.alloc();
-    let rows = [
-        Some((Some(1), Some("x"))),
-        Some((None, Some("y"))),
-        Some((Some(3), None)),
-    ];
-    let want = pairs(alloc, rows.as_slice(), Nullability::NonNullable)?;
-    let made = made_of(alloc, ["a", "b"].as_slice(), parts(alloc)?, 3, None)?;
-    assert!(rt; answers(made, Ok(&want)));
-    Ok(())
-}
-
-#[test]
 fn structs_that_are_valid_by_truths(rt: HostRuntime) -> Result<(), Fail> {
     let alloc = rt.alloc();
     let valid = [true, false, true];
@@ -138,18 +127,6 @@ fn equal_but_for_what_is_hidden(rt: HostRuntime) -> Result<(), Fail> {
 }
 
 #[test]
-fn equal_only_at_one_type(rt: HostRuntime) -> Result<(), Fail> {
-    let alloc = rt.alloc();
-    let narrow = numbers(alloc, PType::I8, [Some(1)].as_slice())?;
-    let wide = numbers(alloc, PType::I16, [Some(1)].as_slice())?;
-    let one = Vec::from_slice(alloc, [Some(1)].as_slice())?;
-    let strict = ColumnRef::primitive(alloc, PType::I8, one, Nullability::NonNullable)?;
-    assert!(rt; narrow != wide);
-    assert!(rt; narrow != strict);
-    Ok(())
-}
-
-#[test]
 fn refusals_of_structs(rt: HostRuntime) -> Result<(), Fail> {
     let alloc = rt.alloc();
     let two = [true, false];
@@ -175,18 +152,6 @@ fn refusals_of_structs(rt: HostRuntime) -> Result<(), Fail> {
 }
 
 #[test]
-fn structs_without_fields(rt: HostRuntime) -> Result<(), Fail> {
-    let alloc = rt.alloc();
-    let valid = [false, true];
-    let valid = Some(valid.as_slice());
-    let made = made_of(alloc, [].as_slice(), Vec::new(alloc), 2, valid)??;
-    assert!(rt; made.len() == 2);
-    assert!(rt; !made.is_valid(0));
-    assert!(rt; made.is_valid(1));
-    Ok(())
-}
-
-#[test]
 fn fields_of_structs(rt: HostRuntime) -> Result<(), Fail> {
     let alloc = rt.alloc();
     let c = holed(alloc)?;
@@ -195,27 +160,6 @@ fn fields_of_structs(rt: HostRuntime) -> Result<(), Fail> {
     assert!(rt; field_gives(alloc, &c, "a", Ok(&a))?);
     assert!(rt; field_gives(alloc, &c, "b", Ok(&b))?);
     assert!(rt; field_gives(alloc, &c, "c", Err(ColumnError::UnknownField))?);
-    Ok(())
-}
-
-/// Some of the fields of a struct column.
-fn projected(alloc: Global, c: &ColumnRef, texts: &[&str]) -> Result<Option<ColumnRef>, Fail> {
-    if !is_struct(c) {
-        return Ok(None);
-    }
-    let names = names(alloc, texts)?;
-    Ok(Some(c.project(alloc, names.as_slice())?))
-}
-
-#[test]
-fn projections_of_structs(rt: HostRuntime) -> Result<(), Fail> {
-    let alloc = rt.alloc();
-    let c = holed(alloc)?;
-    assert!(rt; project_gives(alloc, &c, ["a", "b"].as_slice(), Ok(&c))?);
-    let only = projected(alloc, &c, ["b"].as_slice())?.unwrap_or(c);
-    let b = texts(alloc, [Some("x"), None, None].as_slice())?;
-    assert!(rt; field_gives(alloc, &only, "b", Ok(&b))?);
-    assert!(rt; field_gives(alloc, &only, "a", Err(ColumnError::UnknownField))?);
     Ok(())
 }
 
@@ -231,53 +175,6 @@ fn refusals_of_projections(rt: HostRuntime) -> Result<(), Fail> {
         assert!(rt; project_gives(alloc, &c, texts, Err(want))?);
     }
     Ok(())
-}
-
-/// The column of no rows of a type.
-fn empty(alloc: Global, dtype: DType) -> Result<ColumnRef, Fail> {
-    let none: Vec<ScalarValue> = Vec::new(alloc);
-    Ok(ColumnRef::from_values(alloc, dtype, none.as_slice())?)
-}
-
-/// Looks at the calls that any column of no rows takes.
-fn stays_empty(rt: &impl Abort, alloc: Global, dtype: DType) -> Result<(), Fail> {
-    let want = empty(alloc, dtype.with_nullability(Nullability::Nullable)?)?;
-    let c = empty(alloc, dtype)?;
-    let by = truths(alloc, [].as_slice())?;
-    assert!(rt; c.len() == 0);
-    assert!(rt; filter_gives(alloc, &c, &by, &c)?);
-    assert!(rt; mask_gives(alloc, &c, &by, &want)?);
-    assert!(rt; is_null(alloc, &c)?.len() == 0);
-    Ok(())
-}
-
-#[test]
-fn plain_columns_of_no_rows(rt: HostRuntime) -> Result<(), Fail> {
-    let alloc = rt.alloc();
-    let strict = Nullability::NonNullable;
-    for p in [
-        PType::U8,
-        PType::U16,
-        PType::U32,
-        PType::U64,
-        PType::I8,
-        PType::I16,
-        PType::I32,
-        PType::I64,
-    ] {
-        stays_empty(&rt, alloc, DType::Primitive(p, strict))?;
-    }
-    stays_empty(&rt, alloc, DType::Bool(strict))?;
-    stays_empty(&rt, alloc, DType::Utf8(strict))
-}
-
-#[test]
-fn nested_columns_of_no_rows(rt: HostRuntime) -> Result<(), Fail> {
-    let alloc = rt.alloc();
-    let strict = Nullability::NonNullable;
-    let element = ElementType::new(Rc::new(alloc, DType::Bool(strict))?);
-    stays_empty(&rt, alloc, DType::List(element, strict))?;
-    stays_empty(&rt, alloc, pair_type(alloc, "a", "b", strict)?)
 }
 
 /// The column of one value of a type with a name twice, or the refusal.
