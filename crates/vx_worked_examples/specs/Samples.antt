@@ -183,17 +183,6 @@ rows_with_null = alone "x" (int_val I32 (pos 5)) ∷ alone "x" null_val ∷ alon
 abbrev pub slot_of : PType → ℤ → Option Typed
 slot_of p i = Some (record { ty = int_ty p NonNullable; value = raw_int i })
 
--- a struct of a number, two nullable numbers and two booleans
-abbrev pub five_columns : Ty
-five_columns =
-    struct_ty
-    (field (codes "a") (int_ty I32 NonNullable)
-    (field (codes "col1") (int_ty U16 Nullable)
-    (field (codes "col2") (int_ty U16 Nullable)
-    (field (codes "bool1") (bool_ty NonNullable)
-    (field (codes "bool2") (bool_ty NonNullable) no_fields)))))
-    NonNullable
-
 -- a struct of each kind of type, nullable and not: numbers, booleans, texts, a list, and two structs of which both have a field `q`
 abbrev pub struct_p_q : Ty
 struct_p_q = struct_ty (field (codes "p") (int_ty I32 NonNullable) (only "q" (text_ty NonNullable))) NonNullable

@@ -134,7 +134,8 @@ pub fn merges_three_structs_by_name()
         (member (codes "c") (int_val I32 (pos 4)) (member (codes "d") (int_val I32 (pos 5)) (member (codes "e") (int_val I32 (pos 6)) no_members))))) }
 {}
 
-/// A merge of two columns of structs has the second's type for the name that both have; of a nullable column the fields are nullable, and the merge as it says.
+/// A merge of two columns of structs has the second's type for the name that both have.
+/// Of a nullable column the fields are nullable, and the merge where it says so itself.
 pub fn types_merges_of_columns()
     ensures two { typed_of
         (two_fields "struct1" (two_fields "a" (int_ty I32 NonNullable) "b" (int_ty I64 NonNullable))

@@ -11,95 +11,96 @@ ghost use Rattle.vx_expr.specs.declared.Operator.TheVariants.{Eq, NotEq, Gt, Gte
 ghost use Rattle.vx_expr.specs.declared.FieldSelection.TheVariants.{Include, Exclude};
 ghost use Rattle.vx_expr.specs.Trees.{root, not_of, is_null_of, like, cast, list_contains, select, get_item, between, pack, merge, dynamic, tree};
 ghost use Rattle.vx_expr.specs.Trees.{no_trees};
+ghost use Rattle.vx_build.specs.Samples.{sample_struct};
 ghost use Rattle.vx_semantics.specs.Typing.{typed_of, type_mismatch, unknown_field, nullable_select, duplicate_field, not_struct};
 ghost use Rattle.vx_semantics.specs.LooseTyping.{loosely_typed};
-ghost use Rattle.vx_worked_examples.specs.Samples.{col, number, quoted, null_of, ◌⟨◌⟩◌, only, pack_two, five_columns, number_list, struct_p_q, mixed};
+ghost use Rattle.vx_worked_examples.specs.Samples.{col, number, quoted, null_of, ◌⟨◌⟩◌, only, pack_two, number_list, struct_p_q, mixed};
 ghost use Rattle.vx_worked_examples.specs.Samples.{operators, ends};
 
 /// A constant has its own type.
 pub fn types_a_constant()
-    ensures { loosely_typed five_columns (number I32 (pos 10)) ≡ Ok (int_ty I32 NonNullable) }
+    ensures { loosely_typed sample_struct (number I32 (pos 10)) ≡ Ok (int_ty I32 NonNullable) }
 {}
 
 /// The null of a type has it.
 pub fn types_a_null()
-    ensures { loosely_typed five_columns (null_of (bool_ty Nullable)) ≡ Ok (bool_ty Nullable) }
+    ensures { loosely_typed sample_struct (null_of (bool_ty Nullable)) ≡ Ok (bool_ty Nullable) }
 {}
 
 /// `and` of two booleans.
 pub fn types_and()
-    ensures { loosely_typed five_columns (col "bool1" ⟨ And ⟩ col "bool2") ≡ Ok (bool_ty NonNullable) }
+    ensures { loosely_typed sample_struct (col "bool1" ⟨ And ⟩ col "bool2") ≡ Ok (bool_ty NonNullable) }
 {}
 
 /// `or` of two booleans.
 pub fn types_or()
-    ensures { loosely_typed five_columns (col "bool1" ⟨ Or ⟩ col "bool2") ≡ Ok (bool_ty NonNullable) }
+    ensures { loosely_typed sample_struct (col "bool1" ⟨ Or ⟩ col "bool2") ≡ Ok (bool_ty NonNullable) }
 {}
 
 /// A negation.
 pub fn types_a_negation()
-    ensures { loosely_typed five_columns (not_of (col "bool1")) ≡ Ok (bool_ty NonNullable) }
+    ensures { loosely_typed sample_struct (not_of (col "bool1")) ≡ Ok (bool_ty NonNullable) }
 {}
 
 /// A cast looks at its target alone.
 pub fn types_a_cast()
-    ensures { loosely_typed five_columns (cast root (bool_ty NonNullable)) ≡ Ok (bool_ty NonNullable) }
+    ensures { loosely_typed sample_struct (cast root (bool_ty NonNullable)) ≡ Ok (bool_ty NonNullable) }
 {}
 
 /// A null test looks at nothing.
 pub fn types_a_null_test()
-    ensures { loosely_typed five_columns (is_null_of root) ≡ Ok (bool_ty NonNullable) }
+    ensures { loosely_typed sample_struct (is_null_of root) ≡ Ok (bool_ty NonNullable) }
 {}
 
 /// A comparison of nullable columns is nullable: equality.
 pub fn types_equality()
-    ensures { loosely_typed five_columns (col "col1" ⟨ Eq ⟩ col "col2") ≡ Ok (bool_ty Nullable) }
+    ensures { loosely_typed sample_struct (col "col1" ⟨ Eq ⟩ col "col2") ≡ Ok (bool_ty Nullable) }
 {}
 
 /// A comparison of nullable columns is nullable: inequality.
 pub fn types_inequality()
-    ensures { loosely_typed five_columns (col "col1" ⟨ NotEq ⟩ col "col2") ≡ Ok (bool_ty Nullable) }
+    ensures { loosely_typed sample_struct (col "col1" ⟨ NotEq ⟩ col "col2") ≡ Ok (bool_ty Nullable) }
 {}
 
 /// A comparison of nullable columns is nullable: greater.
 pub fn types_greater()
-    ensures { loosely_typed five_columns (col "col1" ⟨ Gt ⟩ col "col2") ≡ Ok (bool_ty Nullable) }
+    ensures { loosely_typed sample_struct (col "col1" ⟨ Gt ⟩ col "col2") ≡ Ok (bool_ty Nullable) }
 {}
 
 /// A comparison of nullable columns is nullable: greater or equal.
 pub fn types_greater_or_equal()
-    ensures { loosely_typed five_columns (col "col1" ⟨ Gte ⟩ col "col2") ≡ Ok (bool_ty Nullable) }
+    ensures { loosely_typed sample_struct (col "col1" ⟨ Gte ⟩ col "col2") ≡ Ok (bool_ty Nullable) }
 {}
 
 /// A comparison of nullable columns is nullable: less.
 pub fn types_less()
-    ensures { loosely_typed five_columns (col "col1" ⟨ Lt ⟩ col "col2") ≡ Ok (bool_ty Nullable) }
+    ensures { loosely_typed sample_struct (col "col1" ⟨ Lt ⟩ col "col2") ≡ Ok (bool_ty Nullable) }
 {}
 
 /// A comparison of nullable columns is nullable: less or equal.
 pub fn types_less_or_equal()
-    ensures { loosely_typed five_columns (col "col1" ⟨ Lte ⟩ col "col2") ≡ Ok (bool_ty Nullable) }
+    ensures { loosely_typed sample_struct (col "col1" ⟨ Lte ⟩ col "col2") ≡ Ok (bool_ty Nullable) }
 {}
 
 /// `or` of two comparisons.
 pub fn types_or_of_comparisons()
-    ensures { loosely_typed five_columns ((col "col1" ⟨ Lt ⟩ col "col2") ⟨ Or ⟩ (col "col1" ⟨ NotEq ⟩ col "col2")) ≡ Ok (bool_ty Nullable) }
+    ensures { loosely_typed sample_struct ((col "col1" ⟨ Lt ⟩ col "col2") ⟨ Or ⟩ (col "col1" ⟨ NotEq ⟩ col "col2")) ≡ Ok (bool_ty Nullable) }
 {}
 
 /// An included field.
 pub fn types_an_included_field()
-    ensures { loosely_typed five_columns (select (Include (codes "a" ∷ [])) root) ≡ Ok (struct_ty (only "a" (int_ty I32 NonNullable)) NonNullable) }
+    ensures { loosely_typed sample_struct (select (Include (codes "a" ∷ [])) root) ≡ Ok (struct_ty (only "a" (int_ty I32 NonNullable)) NonNullable) }
 {}
 
 /// All fields but four.
 pub fn types_all_but_four()
-    ensures { loosely_typed five_columns (select (Exclude (codes "col1" ∷ codes "col2" ∷ codes "bool1" ∷ codes "bool2" ∷ [])) root)
+    ensures { loosely_typed sample_struct (select (Exclude (codes "col1" ∷ codes "col2" ∷ codes "bool1" ∷ codes "bool2" ∷ [])) root)
         ≡ Ok (struct_ty (only "a" (int_ty I32 NonNullable)) NonNullable) }
 {}
 
 /// All fields but two.
 pub fn types_all_but_two()
-    ensures { loosely_typed five_columns (select (Exclude (codes "col1" ∷ codes "col2" ∷ [])) root)
+    ensures { loosely_typed sample_struct (select (Exclude (codes "col1" ∷ codes "col2" ∷ [])) root)
         ≡ Ok
         (struct_ty
         (field (codes "a") (int_ty I32 NonNullable)
@@ -121,16 +122,16 @@ pub fn types_membership()
 
 /// Comparisons ask equal types by the strict rules alone.
 pub fn types_a_comparison_of_two_kinds_loosely()
-    ensures strictly { typed_of five_columns (col "a" ⟨ Eq ⟩ col "bool1") ≡ Err type_mismatch }
-    ensures loosely { loosely_typed five_columns (col "a" ⟨ Eq ⟩ col "bool1") ≡ Ok (bool_ty NonNullable) }
+    ensures strictly { typed_of sample_struct (col "a" ⟨ Eq ⟩ col "bool1") ≡ Err type_mismatch }
+    ensures loosely { loosely_typed sample_struct (col "a" ⟨ Eq ⟩ col "bool1") ≡ Ok (bool_ty NonNullable) }
 {}
 
 /// A missing excluded name is refused by the strict rules alone.
 pub fn passes_over_a_missing_excluded_name_loosely()
-    ensures strictly { typed_of five_columns
+    ensures strictly { typed_of sample_struct
         (select (Exclude (codes "zz" ∷ codes "a" ∷ codes "col1" ∷ codes "col2" ∷ codes "bool1" ∷ [])) root)
         ≡ Err unknown_field }
-    ensures loosely { loosely_typed five_columns
+    ensures loosely { loosely_typed sample_struct
         (select (Exclude (codes "zz" ∷ codes "a" ∷ codes "col1" ∷ codes "col2" ∷ codes "bool1" ∷ [])) root)
         ≡ Ok (struct_ty (only "bool2" (bool_ty NonNullable)) NonNullable) }
 {}
@@ -144,21 +145,21 @@ pub fn types_a_nullable_select_loosely()
 
 /// A name twice in a pack is refused by the strict rules alone; of two fields of one name the first is taken.
 pub fn takes_the_first_of_two_fields_loosely()
-    ensures strictly { typed_of five_columns (get_item (codes "n") (pack_two "n" (number I32 (pos 1)) "n" (number U8 (pos 2)))) ≡ Err duplicate_field }
-    ensures loosely { loosely_typed five_columns (get_item (codes "n") (pack_two "n" (number I32 (pos 1)) "n" (number U8 (pos 2))))
+    ensures strictly { typed_of sample_struct (get_item (codes "n") (pack_two "n" (number I32 (pos 1)) "n" (number U8 (pos 2)))) ≡ Err duplicate_field }
+    ensures loosely { loosely_typed sample_struct (get_item (codes "n") (pack_two "n" (number I32 (pos 1)) "n" (number U8 (pos 2))))
         ≡ Ok (int_ty I32 NonNullable) }
 {}
 
 /// A sum of two integer types has no type by either rules.
 pub fn types_no_sum_of_two_integer_types()
-    ensures strictly { typed_of five_columns (col "a" ⟨ Add ⟩ col "col1") ≡ Err type_mismatch }
-    ensures loosely { loosely_typed five_columns (col "a" ⟨ Add ⟩ col "col1") ≡ Err type_mismatch }
+    ensures strictly { typed_of sample_struct (col "a" ⟨ Add ⟩ col "col1") ≡ Err type_mismatch }
+    ensures loosely { loosely_typed sample_struct (col "a" ⟨ Add ⟩ col "col1") ≡ Err type_mismatch }
 {}
 
 /// A sum of nullable numbers is nullable.
 pub fn types_a_sum()
-    ensures strictly { typed_of five_columns (col "col1" ⟨ Add ⟩ col "col2") ≡ Ok (int_ty U16 Nullable) }
-    ensures loosely { loosely_typed five_columns (col "col1" ⟨ Add ⟩ col "col2") ≡ Ok (int_ty U16 Nullable) }
+    ensures strictly { typed_of sample_struct (col "col1" ⟨ Add ⟩ col "col2") ≡ Ok (int_ty U16 Nullable) }
+    ensures loosely { loosely_typed sample_struct (col "col1" ⟨ Add ⟩ col "col2") ≡ Ok (int_ty U16 Nullable) }
 {}
 
 /// The row and constants have their types, whatever stands in them twice or doesn't fit.

@@ -29,6 +29,7 @@ pub fn tables_agree_but_for_what_is_not_read()
 /// The bounds of each path of a filter are known and in order, through `and`, a negated range and a membership.
 pub fn paths_are_bounded_from_five_to_nine()
     ensures exact { is_exact_filter ((col "x" ⟨ Gt ⟩ number I32 (pos 7)) ⟨ And ⟩ list_contains (number_list I32 (pos 1 ∷ pos 8 ∷ [])) (col "x")) ≡ true }
-    ensures bounded { PathsAreBounded five_to_nine 0 ((col "x" ⟨ Gt ⟩ number I32 (pos 7)) ⟨ And ⟩ list_contains (number_list I32 (pos 1 ∷ pos 8 ∷ [])) (col "x")) }
+    ensures bounded { PathsAreBounded five_to_nine 0
+        ((col "x" ⟨ Gt ⟩ number I32 (pos 7)) ⟨ And ⟩ list_contains (number_list I32 (pos 1 ∷ pos 8 ∷ [])) (col "x")) }
     ensures negated_range { PathsAreBounded five_to_nine 0 (not_of (between (col "x") (number I32 (pos 1)) (number I32 (pos 8)) (ends Strict NonStrict))) }
 {}

@@ -40,7 +40,7 @@ pub fn children_of_each_kind()
         ≡ (col "x" ∷ []) ∷ (col "x" ∷ col "y" ∷ []) ∷ (col "x" ∷ []) ∷ (col "x" ∷ []) ∷ (col "x" ∷ col "y" ∷ []) ∷ (col "x" ∷ [])
         ∷ (col "x" ∷ col "y" ∷ []) ∷ (col "x" ∷ col "y" ∷ []) ∷ (col "x" ∷ col "y" ∷ []) ∷ (col "x" ∷ []) ∷ (col "x" ∷ []) ∷ [] }
     ensures three { children_of (between (col "x") (col "y") (col "z") (ends Strict NonStrict)) ≡ col "x" ∷ col "y" ∷ col "z" ∷ [] }
-    ensures row_of_trees { listed (trees_of (col "x" ∷ col "y" ∷ [])) ≡ col "x" ∷ col "y" ∷ [] }
+    ensures list_of_trees { listed (trees_of (col "x" ∷ col "y" ∷ [])) ≡ col "x" ∷ col "y" ∷ [] }
     ensures trees { trees_of (col "x" ∷ col "y" ∷ []) ≡ tree (col "x") (tree (col "y") no_trees) }
 {}
 
