@@ -1,9 +1,12 @@
 -- Row texts, as loops write them: what was written and what is left.
-use Rattle.std.proofs.Common.{◌≡◌, ℕ, suc, ◌+◌, ◌<◌, ◌≤◌, List, [], ◌∷◌, ◌++◌, length, map, drop, Some, codes, refl, sym, ap, ◌∙◌, append_assoc, append-nil, arith}
+use Rattle.std.proofs.Common.{◌≡◌, true, ℕ, zero, suc, ◌+◌, ◌<◌, ◌≤◌, List, [], ◌∷◌, ◌++◌, length, map, drop, Some, codes, refl, sym, ap, ◌∙◌, append_assoc, append-nil, arith}
 use Rattle.std.proofs.Math.ListN.{get_or}
 use Rattle.std.specs.List.{slice_get}
+use Rattle.std.proofs.lemmas.Bool.{and_parts}
 use Rattle.std.proofs.lemmas.List.{drop_more, drop_all}
-use Rattle.vx_dtype.specs.Types.{Bytes, Ty, Fields}
+use Rattle.std.proofs.lemmas.Option.{same_Some}
+use Rattle.vx_dtype.specs.Fits.{fits, all_fit, fields_fit}
+use Rattle.vx_dtype.specs.Types.{Bytes, Ty, Fields, no_fields, field}
 use Rattle.vx_dtype.specs.TypeRules.{field_names}
 use Rattle.vx_dtype.specs.StructTypes.{field_types}
 use Rattle.vx_dtype.specs.Values.{Raw, Raws, no_raws, raw}
@@ -45,6 +48,25 @@ pub members_text-no_field : (before : Bytes) (xs : Raws) (fs : Fields) (i : ℕ)
 unfolding members_text
 members_text-no_field before no_raws fs i le = refl
 members_text-no_field before (raw x xs) fs i le = ap (members_text before (raw x xs)) (fields_from-past i fs le)
+
+module _ {V : Type 0} (show : V → Raw) where
+  -- each of several values of a type is one of the type
+  pub all_fit_at : (vs : List V) (t : Ty) (i : ℕ) (v : V) → all_fit (raws_of (map show vs)) t ≡ true → i < length vs → get_or vs i v ≡ v → fits (show v) t ≡ true
+  unfolding fits
+  all_fit_at [] t i v h lt e = absurd (omega (arith, lt))
+  all_fit_at (w ∷ vs) t zero v h lt e = ap (λ x. fits (show x) t) (sym e) ∙ (and_parts (fits (show w) t) (all_fit (raws_of (map show vs)) t) h).0
+  all_fit_at (w ∷ vs) t (suc i) v h lt e =
+      all_fit_at vs t i v (and_parts (fits (show w) t) (all_fit (raws_of (map show vs)) t) h).1 (omega (arith, lt)) e
+
+  -- each of the values of fields is one of its field's type
+  pub fields_fit_at : (vs : List V) (fs : Fields) (i : ℕ) (v : V) (t : Ty) → fields_fit (raws_of (map show vs)) fs ≡ true → i < length vs → get_or vs i v ≡ v → slice_get (field_types fs) i ≡ Some t → fits (show v) t ≡ true
+  unfolding fits
+  fields_fit_at [] fs i v t h lt e s = absurd (omega (arith, lt))
+  fields_fit_at (w ∷ vs) no_fields i v t h lt e s = absurd cc
+  fields_fit_at (w ∷ vs) (field f u fs) zero v t h lt e s =
+      ap (λ x. fits (show x) t) (sym e) ∙ ap (fits (show w)) (sym (same_Some u t s)) ∙ (and_parts (fits (show w) u) (fields_fit (raws_of (map show vs)) fs) h).0
+  fields_fit_at (w ∷ vs) (field f u fs) (suc i) v t h lt e s =
+      fields_fit_at vs fs i v t (and_parts (fits (show w) u) (fields_fit (raws_of (map show vs)) fs) h).1 (omega (arith, lt)) e s
 
 -- what was written before, and its parts behind it, with what is left behind them
 pub written_two : (b c d x y left whole : Bytes) → c ≡ b ++ x → d ≡ c ++ y → b ++ (x ++ (y ++ left)) ≡ whole → d ++ left ≡ whole

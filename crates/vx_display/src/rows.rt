@@ -1,7 +1,7 @@
 // Rows as texts.
 ghost use Rattle.std.specs.Prelude.{◌≡◌, true, map, ◌++◌, OnOk, IfOk};
 ghost use Rattle.std.specs.String.{string_bytes};
-ghost use Rattle.vx_dtype.specs.Fits.{fits};
+ghost use Rattle.vx_dtype.specs.Fits.{fits, all_fit, fields_fit};
 ghost use Rattle.vx_dtype.specs.TypeViews.{type_view};
 ghost use Rattle.vx_dtype.specs.RawViews.{raw_view, raws_of};
 ghost use Rattle.vx_dtype.specs.Texts.{quoted_text};
@@ -27,8 +27,9 @@ pub fn row_text(alloc: Global, dtype: &DType, value: &ScalarValue) -> Mem<String
 
 /// Writes the text of a value at the end, as far as there is memory.
 #[cycle(push)]
-#[tactic(auto, unfolding(crate::specs::RowTexts::row_text_of))]
+#[tactic(auto, unfolding(crate::specs::RowTexts::row_text_of, vx_dtype::specs::Fits::fits, vx_dtype::specs::TypeRules::depth_of))]
 fn push_value(out: &mut String, value: &ScalarValue, dtype: &DType) -> Mem<()>
+    requires { fits (raw_view value.now) (type_view dtype.now) ≡ true }
     ensures { OnOk result (string_bytes out.new ≡ string_bytes out.old ++ row_text_of (raw_view value.now) (type_view dtype.now)) }
 {
     match value {
@@ -38,11 +39,11 @@ fn push_value(out: &mut String, value: &ScalarValue, dtype: &DType) -> Mem<()>
         ScalarValue::Utf8(text) => push_quoted(out, text.as_str()),
         ScalarValue::List(items) => match dtype {
             DType::List(element, _) => push_elements(out, items.as_slice(), element.dtype()),
-            _ => Ok(()),
+            _ => unreachable!(),
         },
         ScalarValue::Struct(values) => match dtype {
             DType::Struct(fields, _) => push_members(out, values.as_slice(), fields),
-            _ => Ok(()),
+            _ => unreachable!(),
         },
     }
 }
@@ -57,6 +58,7 @@ fn push_quoted(out: &mut String, text: &str) -> Mem<()>
 /// Writes values of one type in brackets at the end, as far as there is memory.
 #[cycle(push)]
 fn push_elements(out: &mut String, values: &[ScalarValue], dtype: &DType) -> Mem<()>
+    requires { all_fit (raws_of (map raw_view values.now)) (type_view dtype.now) ≡ true }
     ensures { OnOk result (string_bytes out.new ≡ string_bytes out.old ++ list_text (raws_of (map raw_view values.now)) (type_view dtype.now)) }
 {
     out.push_str("[")?;
@@ -72,6 +74,7 @@ fn push_elements(out: &mut String, values: &[ScalarValue], dtype: &DType) -> Mem
 /// Writes the values of fields in braces at the end, each behind its quoted name, as far as there is memory.
 #[cycle(push)]
 fn push_members(out: &mut String, values: &[ScalarValue], fields: &StructFields) -> Mem<()>
+    requires { fields_fit (raws_of (map raw_view values.now)) fields.now ≡ true }
     ensures { OnOk result (string_bytes out.new ≡ string_bytes out.old ++ struct_text (raws_of (map raw_view values.now)) fields.now) }
 {
     out.push_str("{")?;

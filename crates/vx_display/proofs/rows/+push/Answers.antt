@@ -1,4 +1,4 @@
-use Rattle.std.proofs.Common.{rules, ◌≡◌, ◌<◌, ◌≤◌, [], ◌∷◌, ◌++◌, length, map, drop, refl, sym, ap, ◌∙◌, inl, inr}
+use Rattle.std.proofs.Common.{rules, arith, ◌≡◌, ◌<◌, ◌≤◌, [], ◌∷◌, ◌++◌, length, map, drop, refl, sym, ap, ◌∙◌, inl, inr}
 use Rattle.std.proofs.lemmas.Bool.{cases_lt}
 use Rattle.std.proofs.Math.ListN.{get_or}
 use lib.Utf8.{encode}
@@ -7,9 +7,9 @@ use Rattle.vx_dtype.specs.TypeRules.{field_names}
 use Rattle.vx_dtype.specs.TypeViews.{type_view}
 use Rattle.vx_dtype.specs.RawViews.{raw_view, raws_of}
 use Rattle.vx_dtype.specs.Texts.{quoted_text}
-use Rattle.vx_dtype.proofs.FieldsFrom.{fields_from, has_type_at}
+use Rattle.vx_dtype.proofs.FieldsFrom.{fields_from, has_type_at, depth-at}
 use Rattle.vx_display.specs.RowTexts.{row_text_of, elements_text, members_text}
-use Rattle.vx_display.proofs.RowLemmas.{elements_text-step, elements_text-end, members_text-step, members_text-no_value, members_text-no_field, written_two, written_four, written_last}
+use Rattle.vx_display.proofs.RowLemmas.{elements_text-step, elements_text-end, all_fit_at, fields_fit_at, members_text-step, members_text-no_value, members_text-no_field, written_two, written_four, written_last}
 use Rattle.vx_display.proofs.rows.+push.Goals as goal
 
 pub push_elements-loop-i-preserved : goal.push_elements-loop-i-preserved
@@ -26,6 +26,26 @@ push_elements-loop-i-preserved t c =
           c.in_ok-push_str-2.ensures.bytes c.in_ok-push_value.ensures
           (ap (λ rest. string_bytes c.loop-i.out ++ rest) (sym step) ∙ c.loop-i.invariant.1),
     )
+
+pub push_elements-push_value-requires : goal.push_elements-push_value-requires
+push_elements-push_value-requires t c =
+    let vs = c.args.values.now in
+    let v = c.index-values-i.result in
+    let within : c.loop-i.i < length vs = search rules in
+    let there : get_or vs c.loop-i.i v ≡ v = search rules in
+    (omega (arith, c.decreases), all_fit_at raw_view vs (type_view c.args.dtype.now) c.loop-i.i v c.requires within there)
+
+pub push_members-push_value-requires : goal.push_members-push_value-requires
+push_members-push_value-requires t c =
+    let vs = c.args.values.now in
+    let fs = c.args.fields.now in
+    let v = c.index-values-i.result in
+    let ty = type_view c.in-Some-field_by_index.dtype.now in
+    let within : c.loop-i.i < length vs = search rules in
+    let there : get_or vs c.loop-i.i v ≡ v = search rules in
+    let typed = sym c.in-Some-field_by_index.ensures in
+    let d = depth-at c.loop-i.i fs ty typed in
+    (omega (arith, d, c.decreases), fields_fit_at raw_view vs fs c.loop-i.i v ty c.requires within there typed)
 
 pub push_elements-returns : goal.push_elements-returns
 push_elements-returns t c =
