@@ -1,16 +1,17 @@
 // What selects, LIKE, merges and comparisons with a slot mean, and where sums break: worked by hand.
 #![tactic(auto, unfolding(crate::proofs::Computing::all_definitions))]
 
-ghost use Rattle.std.specs.Prelude.{◌≡◌, [], ◌∷◌, codes, pos, true, false, None, Ok, map, replicate, Some};
+ghost use Rattle.std.specs.Prelude.{◌≡◌, List, [], ◌∷◌, codes, pos, true, false, None, Ok, map, replicate, Some};
 ghost use Rattle.vx_dtype.specs.declared.PType.TheVariants.{I8, I32, I64};
 ghost use Rattle.vx_dtype.specs.declared.Nullability.TheVariants.{NonNullable, Nullable};
-ghost use Rattle.vx_dtype.specs.Types.{int_ty, text_ty, struct_ty, no_fields, field, bool_ty, list_ty};
+ghost use Rattle.vx_dtype.specs.Types.{Bytes, int_ty, text_ty, struct_ty, no_fields, field, bool_ty, list_ty};
 ghost use Rattle.vx_dtype.specs.Values.{raw_null, null_val, bool_val, int_val, fault, struct_val, no_members, member, list_val, no_vals, val};
 ghost use Rattle.vx_dtype.specs.declared.StrictComparison.TheVariants.{Strict};
 ghost use Rattle.vx_dtype.specs.declared.CompareOperator.TheVariants.{Gt as Above};
 ghost use Rattle.vx_expr.specs.declared.Operator.TheVariants.{Add, Sub};
 ghost use Rattle.vx_expr.specs.declared.FieldSelection.TheVariants.{Include, Exclude};
 ghost use Rattle.vx_expr.specs.Trees.{like, merge, select, no_trees, tree, root, get_item, between, cast, list_contains, dynamic};
+ghost use Rattle.vx_semantics.specs.Merging.{last_giver, merged_names};
 ghost use Rattle.vx_semantics.specs.Typing.{typed_of};
 ghost use Rattle.vx_semantics.specs.Meaning.{mean, merged_value};
 ghost use Rattle.vx_semantics.specs.Breaks.{break_of, by_sum, by_cast, cause_where};
@@ -88,6 +89,18 @@ pub fn merges_three_structs()
 pub fn merges_no_field_that_none_has()
     ensures no_struct { merged_value (codes "a") [] ≡ fault }
     ensures no_field { merged_value (codes "a") (record { names = codes "b" ∷ []; whole = alone "b" (int_val I32 (pos 1)) } ∷ []) ≡ fault }
+{}
+
+/// Of lists of names the last one that has a name gives it; the names together stand in order of first appearance.
+pub fn finds_the_last_giver()
+    ensures last { last_giver (λ ns. ns) (codes "a") ((codes "a" ∷ []) ∷ (codes "b" ∷ []) ∷ (codes "a" ∷ codes "c" ∷ []) ∷ [])
+        ≡ Some (codes "a" ∷ codes "c" ∷ []) }
+    ensures one_between { last_giver (λ ns. ns) (codes "b") ((codes "a" ∷ []) ∷ (codes "b" ∷ []) ∷ (codes "a" ∷ codes "c" ∷ []) ∷ [])
+        ≡ Some (codes "b" ∷ []) }
+    ensures missing { last_giver (λ ns. ns) (codes "z") ((codes "a" ∷ []) ∷ (codes "b" ∷ []) ∷ []) ≡ None }
+    ensures of_none { last_giver (λ (ns : List Bytes). ns) (codes "a") [] ≡ None }
+    ensures names { merged_names (λ ns. ns) ((codes "b" ∷ codes "a" ∷ []) ∷ (codes "c" ∷ codes "b" ∷ []) ∷ (codes "d" ∷ []) ∷ [])
+        ≡ codes "b" ∷ codes "a" ∷ codes "c" ∷ codes "d" ∷ [] }
 {}
 
 /// A sum or a difference with a faulty operand on either side doesn't break itself.

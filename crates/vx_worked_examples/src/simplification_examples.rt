@@ -19,7 +19,8 @@ ghost use Rattle.vx_passes.specs.Simplifying.{simplified};
 ghost use Rattle.vx_passes.specs.Selecting.{without_select};
 ghost use Rattle.vx_passes.specs.Merging.{without_merge};
 ghost use Rattle.vx_passes.specs.TypedSimplifying.{simplified_typed};
-ghost use Rattle.vx_worked_examples.specs.PassSamples.{n, item, both, x_alone, nullable_x, x_and_y, two_giving, their_merge, their_type, nullable_giving, two_of_a, five_to_two, ten_to_five, column_compared, constant_compared, column_between};
+ghost use Rattle.vx_worked_examples.specs.PassSamples.{n, item, both, x_alone, nullable_x, x_and_y, two_giving, their_merge, their_type, nullable_giving};
+ghost use Rattle.vx_worked_examples.specs.PassSamples.{two_of_a, five_to_two, ten_to_five, column_compared, constant_compared, column_between};
 
 /// The field of a pack is its value of that name; the first one, where a name stands twice.
 pub fn takes_fields_of_packs()
