@@ -15,3 +15,5 @@ pub mod Equal
 pub mod EqualLaws
 pub mod Feeds
 pub mod SelectionTexts
+pub mod CompactTexts
+pub mod NodeTexts
