@@ -1,3 +1,4 @@
 pub mod TreeLemmas
 pub mod ChildrenLemmas
 mod TextLemmas
+mod CompactLemmas

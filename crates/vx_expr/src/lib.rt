@@ -2,6 +2,7 @@
 #![tactic(auto)]
 
 mod children;
+mod display;
 mod equality;
 mod errors;
 mod expressions;
