@@ -1,4 +1,4 @@
--- Which rows of raw values are those of fields.
+-- Which lists of raw values are those of fields.
 use Rattle.std.proofs.Common.{◌≡◌, ◌≢◌, ◌∙◌, ◌<◌, ℕ, suc, ◌+◌, Bool, true, false, ◌&&◌, refl, ap, length, map, drop, List, [], ◌∷◌, arith}
 use Rattle.std.proofs.Math.ListN.{get_or}
 use Rattle.std.proofs.lemmas.List.{drop_more}

@@ -1,4 +1,4 @@
--- When rows of raw values differ.
+-- When lists of raw values differ.
 use Rattle.std.proofs.Common.{◌≡◌, ◌≢◌, suc, Bool, true, false, ◌&&◌, refl, ap, ◌∙◌, length, map, List, [], ◌∷◌}
 use Rattle.vx_dtype.specs.Values.{Raw}
 use Rattle.vx_dtype.specs.Equal.{raw_eq, raws_eq}
@@ -9,7 +9,7 @@ and_false true = refl
 and_false false = refl
 
 module _ {A : Type 0} (see : A → Raw) where
-  -- rows of other lengths differ
+  -- lists of other lengths differ
   pub raws_eq_lengths : (xs ys : List A) → length xs ≢ length ys → raws_eq (raws_of (map see xs)) (raws_of (map see ys)) ≡ false
   unfolding raws_eq
   raws_eq_lengths [] [] h = absurd (h refl)

@@ -1,4 +1,4 @@
--- Fields that are read as a whole, and names in a row.
+-- Fields that are read as a whole, and lists of names.
 use Rattle.std.proofs.Common.{◌≡◌, ℕ, ◌+◌, ◌^◌, ◌<◌, ◌≤◌, List, [], ◌∷◌, ◌++◌, length, drop, Some, None, refl, sym, ap, subst, ◌∙◌, append_assoc, arith, length-append, length-drop}
 use Rattle.std.specs.List.{AllByRecursion}
 use Rattle.std.proofs.lemmas.List.{append-nil, drop_all}
@@ -53,7 +53,7 @@ pub none_behind : {A : Type 0} (spelling : A → Bytes) (HasSpelling : A → Typ
 none_behind spelling HasSpelling bytes found after h le =
     (h.0, h.1.stands ∙ ap (λ (r : Bytes). spelling found ++ r) (drop_all after bytes le) ∙ append-nil (spelling found))
 
--- ---- names in a row
+-- ---- lists of names
 
 pub texts_bytes-push : (names : List Bytes) (s : Bytes) → texts_bytes (names ++ s ∷ []) ≡ texts_bytes names ++ piece_bytes s
 texts_bytes-push [] s = append-nil (piece_bytes s)
@@ -63,7 +63,7 @@ pub texts-push : (names : List Bytes) (s : Bytes) → AllByRecursion IsText name
 texts-push [] s all one = (one, tt)
 texts-push (n ∷ names) s all one = (all.0, texts-push names s all.1 one)
 
--- the first names of a row, and what is left of it
+-- the first names of a list, and what is left of it
 pub record IsFront (names row : List Bytes) (rest : Bytes) : Type 0 where
   pub others : List Bytes
   pub fits : AllByRecursion IsText others

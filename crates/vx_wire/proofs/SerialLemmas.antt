@@ -25,7 +25,7 @@ use Rattle.vx_wire.proofs.FieldLemmas.{texts_bytes-push, texts-push}
 use Rattle.vx_wire.proofs.WireLemmas.{wire_of-children, everywhere}
 use Rattle.vx_wire.proofs.EverywhereLemmas.{both_everywhere, also_everywhere, in_child, left_step}
 
--- ---- names in a row
+-- ---- lists of names
 
 -- the number of the names and the first names stand behind what stood there
 pub record AreNamesWritten (old new : Bytes) (names : List Bytes) (i : ℕ) : Type 0 where

@@ -86,7 +86,7 @@ everywhere P (merge es n) p h = (p, subst (EverywhereIn P) (trees_of_listed es) 
 everywhere P (select s e) p h = (p, h.0)
 everywhere P (dynamic e op k t default) p h = (p, h.0)
 
--- each of the nodes in a row builds the expression at its place
+-- each node of a list builds the expression at its place
 abbrev pub AreBuiltTo : (ExprEncoding → Bool) → Wires → List Tree → Type 0
 AreBuiltTo holds no_wires [] = Unit {0}
 AreBuiltTo holds no_wires (e ∷ es) = ⊥

@@ -1,6 +1,6 @@
 pub mod NumberLemmas
 pub mod HeadLemmas
-pub mod RowLemmas
+pub mod ListLemmas
 pub mod PlaceLemmas
 pub mod OrderLemmas
 pub mod TreeLemmas

@@ -9,7 +9,7 @@ use Rattle.vx_wire_text.specs.Openings.{Open, IsOpen, open_bytes, opening_bytes,
 use Rattle.vx_wire_text.specs.Reading.{head_at, appended, Closed, still_open, all_whole, closed, Place, before, behind, nowhere, place_of, begins, place_after, next, place}
 use Rattle.vx_wire_text.proofs.NumberLemmas.{IsBytes}
 use Rattle.vx_wire_text.proofs.HeadLemmas.{head_takes, head_some}
-use Rattle.vx_wire_text.proofs.RowLemmas.{number_of-appended, sizes_of-appended, nodes_bytes-appended, AreSpellable-appended}
+use Rattle.vx_wire_text.proofs.ListLemmas.{number_of-appended, sizes_of-appended, nodes_bytes-appended, AreSpellable-appended}
 
 -- ---- what is read is spelled
 

@@ -7,7 +7,7 @@ use Rattle.vx_wire_text.specs.Wires.{Wire, node, Wires, no_wires, first, number_
 use Rattle.vx_wire_text.specs.Openings.{Open, IsOpen, open_bytes, opening_bytes, begun}
 use Rattle.vx_wire_text.specs.Reading.{appended, Closed, still_open, settled, closed, before, place_of, begins, place_after, next, place}
 use Rattle.vx_wire_text.proofs.HeadLemmas.{head_again}
-use Rattle.vx_wire_text.proofs.RowLemmas.{joined, joined-nil, joined-appended, joined-one, number_of-appended, number_of-none}
+use Rattle.vx_wire_text.proofs.ListLemmas.{joined, joined-nil, joined-appended, joined-one, number_of-appended, number_of-none}
 
 -- ---- what is spelled is read
 
@@ -57,7 +57,7 @@ mutual
             ap (λ i. place i bytes) count ∙ begun_here ∙ begun-whole outer h ns rest test e
       ]
 
-  -- a row of nodes in an open one, which has room for all of them
+  -- a list of nodes in an open one, which has room for all of them
   pub nodes_step : (ns : Wires) → AreSpellable ns → (k : ℕ) (bytes : Bytes) (h : Head) (whole : Wires) (outer : List Open) (rest : Bytes) → number_of whole + number_of ns ≤ h.children → number_of whole < h.children
       → place k bytes ≡ before (record { head = h; whole = whole } ∷ outer) (wires_bytes ns ++ rest)
       → place (k + sizes_of ns) bytes ≡ place_of (settled h (joined whole ns) outer (closed outer (node h.id h.metadata (joined whole ns)))) rest

@@ -11,7 +11,7 @@ use Rattle.vx_wire_text.specs.Reading.{◌>>=◌, number_at}
 use Rattle.vx_wire_text.specs.ValueReading.{elements_with, all_elements_with, members_at, value_at}
 use Rattle.vx_dtype.proofs.FieldsFrom.{fields_from, fields_from-past}
 
--- one row of values behind another
+-- one list of values behind another
 abbrev pub joined_raws : Raws → Raws → Raws
 joined_raws no_raws ys = ys
 joined_raws (raw x xs) ys = raw x (joined_raws xs ys)

@@ -11,7 +11,7 @@ use Rattle.vx_wire_text.specs.declared.errors.WireError.{WireError}
 use Rattle.vx_wire_text.specs.declared.errors.WireError.TheVariants as errors
 use Rattle.vx_wire_text.specs.declared.trees.WireTree.{WireTree}
 use Rattle.vx_wire_text.specs.declared.trees.WireTree.TheViews.{out-WireTree}
-use Rattle.vx_wire_text.proofs.RowLemmas.{nodes_bytes-appended, AreSpellable-appended}
+use Rattle.vx_wire_text.proofs.ListLemmas.{nodes_bytes-appended, AreSpellable-appended}
 use Rattle.vx_wire_text.proofs.TreeLemmas.{tree_view-out}
 use Rattle.vx_wire_text.proofs.StackLemmas.{trees_view-push}
 use Rattle.vx_wire_text.proofs.NumberLemmas.{sevens-large}

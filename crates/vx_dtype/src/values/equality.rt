@@ -20,15 +20,15 @@ fn same(left: &ScalarValue, right: &ScalarValue) -> bool
         (ScalarValue::Bool(b), ScalarValue::Bool(c)) => b == c,
         (ScalarValue::Int(i), ScalarValue::Int(j)) => i == j,
         (ScalarValue::Utf8(s), ScalarValue::Utf8(t)) => s == t,
-        (ScalarValue::List(xs), ScalarValue::List(ys)) => same_row(xs, ys),
-        (ScalarValue::Struct(xs), ScalarValue::Struct(ys)) => same_row(xs, ys),
+        (ScalarValue::List(xs), ScalarValue::List(ys)) => same_values(xs, ys),
+        (ScalarValue::Struct(xs), ScalarValue::Struct(ys)) => same_values(xs, ys),
         _ => false,
     }
 }
 
 #[cycle(same)]
 #[tactic(auto, using(crate::proofs::RawLemmas::raws_eq_lengths), unfolding(crate::specs::Equal::raws_eq))]
-fn same_row(left: &[ScalarValue], right: &[ScalarValue]) -> bool
+fn same_values(left: &[ScalarValue], right: &[ScalarValue]) -> bool
     ensures { result ≡ raws_eq (raws_of (map raw_view left.now)) (raws_of (map raw_view right.now)) }
 {
     if left.len() != right.len() {
@@ -81,18 +81,18 @@ fn feed<H: Hasher>(value: &ScalarValue, state: &mut H)
         }
         ScalarValue::List(items) => {
             state.write_u8(4);
-            feed_row(items, state);
+            feed_values(items, state);
         }
         ScalarValue::Struct(fields) => {
             state.write_u8(5);
-            feed_row(fields, state);
+            feed_values(fields, state);
         }
     }
 }
 
 #[cycle(feed)]
 #[tactic(auto, unfolding(crate::specs::Feeds::raws_feed))]
-fn feed_row<H: Hasher>(values: &[ScalarValue], state: &mut H)
+fn feed_values<H: Hasher>(values: &[ScalarValue], state: &mut H)
     ensures { state.new ≡ fold H.write state.old (raws_feed (raws_of (map raw_view values.now))) }
 {
     for i in 0..values.len() {

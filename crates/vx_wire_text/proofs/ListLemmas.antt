@@ -1,10 +1,10 @@
--- Nodes in a row, one put behind the others.
+-- Lists of nodes, one put behind the others.
 use Rattle.std.proofs.Common.{◌≡◌, ◌+◌, ◌++◌, refl, sym, ap, ◌∙◌, append_assoc, arith}
 use Rattle.std.proofs.lemmas.List.{append-nil}
 use Rattle.vx_wire_text.specs.Wires.{Wire, Wires, no_wires, first, number_of, size_of, sizes_of, wire_bytes, wires_bytes, IsSpellable, AreSpellable}
 use Rattle.vx_wire_text.specs.Reading.{appended}
 
--- one row behind another
+-- one list behind another
 abbrev pub joined : Wires → Wires → Wires
 joined no_wires ms = ms
 joined (first n ns) ms = first n (joined ns ms)
