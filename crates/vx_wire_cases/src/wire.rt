@@ -449,35 +449,56 @@ fn packed(alloc: Global) -> Result<ExprRef, ExprError> {
     PackExpr::try_new_expr(alloc, fields, columns(alloc)?, Nullability::Nullable)
 }
 
+/// `$`, `42i32`, `-42i32`, `"hello"`, `$.column_name`, and the selections.
+fn plain_forms(alloc: Global) -> Mem<Vec<ExprRef>> {
+    let mut made = Vec::new(alloc);
+    made.push(root(alloc)?)?;
+    made.push(number(alloc, 42)?)?;
+    made.push(number(alloc, -42)?)?;
+    made.push(text(alloc, "hello")?)?;
+    made.push(column(alloc, "column_name")?)?;
+    made.push(included(alloc)?)?;
+    made.push(excluded(alloc)?)?;
+    Ok(made)
+}
+
+/// `(!$.a)`, `is_null($.a)`, and `cast($.a, i64)`.
+fn forms_over_a(alloc: Global) -> Mem<Vec<ExprRef>> {
+    let wide = DType::Primitive(PType::I64, Nullability::NonNullable);
+    let mut made = Vec::new(alloc);
+    made.push(NotExpr::new_expr(alloc, column(alloc, "a")?)?)?;
+    made.push(IsNullExpr::new_expr(alloc, column(alloc, "a")?)?)?;
+    made.push(CastExpr::new_expr(alloc, column(alloc, "a")?, wide)?)?;
+    Ok(made)
+}
+
+/// A range, a match, a membership, a packed struct and a merge.
+fn wider_forms(alloc: Global) -> Result<Vec<ExprRef>, Fail> {
+    let mut made = Vec::new(alloc);
+    made.push(ranged(alloc)?)?;
+    made.push(matched(alloc)?)?;
+    made.push(contained(alloc)?)?;
+    made.push(packed(alloc)?)?;
+    made.push(MergeExpr::new_expr(alloc, columns(alloc)?, Nullability::NonNullable)?)?;
+    Ok(made)
+}
+
+/// Whether each of the expressions is the same once serialized, written, read and built again.
+fn all_return(alloc: Global, made: Vec<ExprRef>) -> Result<bool, Fail> {
+    for expr in &made {
+        if again(alloc, expr)? != *expr {
+            return Ok(false);
+        }
+    }
+    Ok(true)
+}
+
 #[test]
 fn round_trips(rt: HostRuntime) -> Result<(), Fail> {
     let alloc = rt.alloc();
-    let wide = DType::Primitive(PType::I64, Nullability::NonNullable);
-    assert!(rt; returns(alloc, root(alloc))?, "$");
-    assert!(rt; returns(alloc, included(alloc))?, "select");
-    assert!(rt; returns(alloc, excluded(alloc))?, "select without");
-    assert!(rt; returns(alloc, number(alloc, 42))?, "42i32");
-    assert!(rt; returns(alloc, number(alloc, -42))?, "-42i32");
-    assert!(rt; returns(alloc, text(alloc, "hello"))?, "hello");
-    assert!(rt; returns(alloc, column(alloc, "column_name"))?, "get_item");
-    assert!(rt;
-        returns(alloc, NotExpr::new_expr(alloc, column(alloc, "a")?))?,
-        "not"
-    );
-    assert!(rt;
-        returns(alloc, IsNullExpr::new_expr(alloc, column(alloc, "a")?))?,
-        "is_null"
-    );
-    assert!(rt;
-        returns(alloc, CastExpr::new_expr(alloc, column(alloc, "a")?, wide))?,
-        "cast"
-    );
-    assert!(rt; returns(alloc, ranged(alloc))?, "between");
-    assert!(rt; returns(alloc, matched(alloc))?, "like");
-    assert!(rt; returns(alloc, contained(alloc))?, "list_contains");
-    assert!(rt; returns(alloc, Ok(packed(alloc)?))?, "pack");
-    let merged = MergeExpr::new_expr(alloc, columns(alloc)?, Nullability::NonNullable);
-    assert!(rt; returns(alloc, merged)?, "merge");
+    assert!(rt; all_return(alloc, plain_forms(alloc)?)?);
+    assert!(rt; all_return(alloc, forms_over_a(alloc)?)?);
+    assert!(rt; all_return(alloc, wider_forms(alloc)?)?);
     Ok(())
 }
 

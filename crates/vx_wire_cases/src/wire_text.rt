@@ -1,7 +1,8 @@
 // Tests of vx_wire_text.
+use std::alloc::Global;
 use std::rc::Rc;
 use std::test::Fail;
-use vx_dtype::{DType, Nullability, PType, ScalarValue, Text};
+use vx_dtype::{DType, Mem, Nullability, PType, ScalarValue, Text};
 use vx_wire_text::{
     WireError, WireTree, has_short_names, has_short_texts, read_number, read_text, read_tree,
     read_type, read_value, write_number, write_text, write_tree, write_type, write_value,
@@ -31,31 +32,42 @@ fn ample(rt: HostRuntime) -> Result<(), Fail> {
     assert_eq!(rt; tree.children.len(), 2);
     let bytes = write_tree(rt.alloc(), &tree)?;
     assert_eq!(rt; bytes.as_slice(), FILTER.as_slice());
-    let mut out = Vec::new(rt.alloc());
-    write_number(&mut out, 300)?;
-    write_text(&mut out, &tree.id)?;
-    assert_eq!(rt;
-        out.as_slice(),
-        [0xac, 0x02, 0x06, 0x62, 0x69, 0x6e, 0x61, 0x72, 0x79].as_slice()
-    );
+    Ok(())
+}
+
+#[test]
+fn ample_texts(rt: HostRuntime) -> Result<(), Fail> {
     let (name, after) = read_text(rt.alloc(), &FILTER, 0)?.ok_or("a text stands there")?;
     assert_eq!(rt; name.as_str(), "binary");
     assert_eq!(rt; after, 7);
+    let mut out = Vec::new(rt.alloc());
+    write_number(&mut out, 300)?;
+    write_text(&mut out, &name)?;
+    let want = [0xac, 0x02, 0x06, 0x62, 0x69, 0x6e, 0x61, 0x72, 0x79];
+    assert_eq!(rt; out.as_slice(), want.as_slice());
+    Ok(())
+}
+
+#[test]
+fn ample_types(rt: HostRuntime) -> Result<(), Fail> {
     let (dtype, after) = read_type(rt.alloc(), &[3, 0, 2, 1], 0)?.ok_or("a type stands there")?;
-    assert!(rt; matches!(dtype, DType::List(_, Nullability::NonNullable)));
     assert_eq!(rt; after, 4);
-    let mut spelled = Vec::new(rt.alloc());
-    write_type(&mut spelled, &dtype)?;
-    assert_eq!(rt; spelled.as_slice(), [3, 0, 2, 1].as_slice());
+    let mut out = Vec::new(rt.alloc());
+    write_type(&mut out, &dtype)?;
+    assert_eq!(rt; out.as_slice(), [3, 0, 2, 1].as_slice());
     assert!(rt; has_short_names(&dtype));
-    let (value, after) = read_value(rt.alloc(), &NULL_AND_A, 0, &dtype)?.ok_or(
-        "a value stands there",
-    )?;
+    Ok(())
+}
+
+#[test]
+fn ample_values(rt: HostRuntime) -> Result<(), Fail> {
+    let (dtype, _) = read_type(rt.alloc(), &[3, 0, 2, 1], 0)?.ok_or("a type stands there")?;
+    let (value, after) = read_value(rt.alloc(), &NULL_AND_A, 0, &dtype)?.ok_or("a value")?;
     assert_eq!(rt; after, 6);
     assert!(rt; has_short_texts(&value));
-    let mut valued = Vec::new(rt.alloc());
-    write_value(&mut valued, &dtype, &value)?;
-    assert_eq!(rt; valued.as_slice(), NULL_AND_A.as_slice());
+    let mut out = Vec::new(rt.alloc());
+    write_value(&mut out, &dtype, &value)?;
+    assert_eq!(rt; out.as_slice(), NULL_AND_A.as_slice());
     Ok(())
 }
 
@@ -110,35 +122,34 @@ fn bad_wire(rt: HostRuntime) {
     }
 }
 
+/// So many copies of a piece behind a head.
+fn repeated(alloc: Global, head: &[u8], piece: &[u8], count: usize) -> Mem<Vec<u8>> {
+    let mut bytes = Vec::from_slice(alloc, head)?;
+    for _ in 0..count {
+        bytes.extend_from_slice(piece)?;
+    }
+    Ok(bytes)
+}
+
 #[test]
-fn limits(rt: HostRuntime) -> Result<(), Fail> {
-    let mut heads = Vec::new(rt.alloc());
-    for _ in 0..255 {
-        heads.extend_from_slice(&NOT)?;
-    }
-    assert!(rt;
-        matches!(read_tree(rt.alloc(), &heads), Err(WireError::BadWire)),
-        "255 open nodes"
-    );
-    heads.extend_from_slice(&NOT)?;
-    assert!(rt;
-        matches!(read_tree(rt.alloc(), &heads), Err(WireError::TooDeep)),
-        "256 open nodes"
-    );
-    let mut most = Vec::new(rt.alloc());
-    let mut more = Vec::new(rt.alloc());
-    // packs of 4,095 and 4,096 nodes
-    most.extend_from_slice(&[0x00, 0x00, 0xff, 0x1f])?;
-    more.extend_from_slice(&[0x00, 0x00, 0x80, 0x20])?;
-    for _ in 0..4095 {
-        most.extend_from_slice(&ROOT)?;
-        more.extend_from_slice(&ROOT)?;
-    }
+fn open_nodes_are_limited(rt: HostRuntime) -> Result<(), Fail> {
+    let most = repeated(rt.alloc(), &[], &NOT, 255)?;
+    let read = read_tree(rt.alloc(), &most);
+    assert!(rt; matches!(read, Err(WireError::BadWire)), "255 open nodes");
+    let more = repeated(rt.alloc(), &[], &NOT, 256)?;
+    let read = read_tree(rt.alloc(), &more);
+    assert!(rt; matches!(read, Err(WireError::TooDeep)), "256 open nodes");
+    Ok(())
+}
+
+// Nodes over 4,095 and 4,096 roots.
+#[test]
+fn nodes_are_limited(rt: HostRuntime) -> Result<(), Fail> {
+    let most = repeated(rt.alloc(), &[0x00, 0x00, 0xff, 0x1f], &ROOT, 4095)?;
     assert!(rt; read_tree(rt.alloc(), &most).is_ok(), "4,096 nodes");
-    assert!(rt;
-        matches!(read_tree(rt.alloc(), &more), Err(WireError::TooManyNodes)),
-        "4,097 nodes"
-    );
+    let more = repeated(rt.alloc(), &[0x00, 0x00, 0x80, 0x20], &ROOT, 4096)?;
+    let read = read_tree(rt.alloc(), &more);
+    assert!(rt; matches!(read, Err(WireError::TooManyNodes)), "4,097 nodes");
     Ok(())
 }
 
@@ -159,17 +170,30 @@ fn types(rt: HostRuntime) -> Result<(), Fail> {
         let read = read_type(rt.alloc(), bytes, 0)?;
         assert!(rt; read.map(|found| found.1) == *answer, "{bytes:?}");
     }
-    let mut deep = Vec::new(rt.alloc());
-    for _ in 0..63 {
-        deep.extend_from_slice(&[3, 0])?;
-    }
-    deep.extend_from_slice(&[0, 0])?;
-    assert!(rt; read_type(rt.alloc(), &deep, 0)?.is_some(), "64 deep");
-    let mut deeper = Vec::new(rt.alloc());
-    deeper.extend_from_slice(&[3, 0])?;
-    deeper.extend_from_slice(&deep)?;
-    assert!(rt; read_type(rt.alloc(), &deeper, 0)?.is_none(), "65 deep");
     Ok(())
+}
+
+/// Whether a type stands behind so many heads of lists.
+fn reads_nested(alloc: Global, lists: usize) -> Mem<bool> {
+    let mut bytes = repeated(alloc, &[], &[3, 0], lists)?;
+    bytes.extend_from_slice(&[0, 0])?;
+    Ok(read_type(alloc, &bytes, 0)?.is_some())
+}
+
+#[test]
+fn deep_types(rt: HostRuntime) -> Result<(), Fail> {
+    assert!(rt; reads_nested(rt.alloc(), 63)?, "64 deep");
+    assert!(rt; !reads_nested(rt.alloc(), 64)?, "65 deep");
+    Ok(())
+}
+
+/// The place after the value of a type, both spelled.
+fn after_value(alloc: Global, spelled: &[u8], bytes: &[u8]) -> Result<Option<usize>, Fail> {
+    let (dtype, _) = read_type(alloc, spelled, 0)?.ok_or("a type stands there")?;
+    match read_value(alloc, bytes, 0, &dtype)? {
+        Some((_, after)) => Ok(Some(after)),
+        None => Ok(None),
+    }
 }
 
 #[test]
@@ -218,14 +242,19 @@ fn values(rt: HostRuntime) -> Result<(), Fail> {
         (&[4, 0, 0], &[1], Some(1)),
     ];
     for (spelled, bytes, answer) in &table {
-        let (dtype, _) = read_type(rt.alloc(), spelled, 0)?.ok_or("a type stands there")?;
-        let read = read_value(rt.alloc(), bytes, 0, &dtype)?;
-        assert!(rt;
-            read.map(|found| found.1) == *answer,
-            "{spelled:?} {bytes:?}"
-        );
+        let after = after_value(rt.alloc(), spelled, bytes)?;
+        assert!(rt; after == *answer, "{spelled:?} {bytes:?}");
     }
     Ok(())
+}
+
+/// Whether the bytes are read as this number, and the number written as these bytes.
+fn integer_returns(alloc: Global, p: PType, number: i128, bytes: &[u8]) -> Result<bool, Fail> {
+    let dtype = DType::Primitive(p, Nullability::NonNullable);
+    let (value, _) = read_value(alloc, bytes, 0, &dtype)?.ok_or("a value stands there")?;
+    let mut out = Vec::new(alloc);
+    write_value(&mut out, &dtype, &value)?;
+    Ok(value == ScalarValue::Int(number) && out.as_slice() == bytes)
 }
 
 #[test]
@@ -270,33 +299,37 @@ fn integers(rt: HostRuntime) -> Result<(), Fail> {
         ),
     ];
     for (ptype, number, bytes) in &table {
-        let dtype = DType::Primitive(*ptype, Nullability::NonNullable);
-        let (value, _) = read_value(rt.alloc(), bytes, 0, &dtype)?.ok_or("a value stands there")?;
-        assert!(rt; value == ScalarValue::Int(*number), "{ptype:?} {number}");
-        let mut out = Vec::new(rt.alloc());
-        write_value(&mut out, &dtype, &value)?;
-        assert_eq!(rt; out.as_slice(), *bytes);
+        let returns = integer_returns(rt.alloc(), *ptype, *number, bytes)?;
+        assert!(rt; returns, "{ptype:?} {number}");
     }
     Ok(())
 }
 
+/// A text, a number and a list of booleans.
+fn parts(alloc: Global) -> Mem<ScalarValue> {
+    let mut elements = Vec::new(alloc);
+    elements.push(ScalarValue::Bool(true))?;
+    elements.push(ScalarValue::Null)?;
+    let list = ScalarValue::List(Rc::new(alloc, elements)?);
+    let mut values = Vec::new(alloc);
+    values.push(ScalarValue::Utf8(Text::new(alloc, "z")?))?;
+    values.push(ScalarValue::Int(-2))?;
+    values.push(list)?;
+    Ok(ScalarValue::Struct(Rc::new(alloc, values)?))
+}
+
+/// A struct type of a text `a`, a number `b` and a list `c` of booleans.
+const PARTS: [u8; 18] = [
+    4, 0, 3, 1, 0x61, 2, 0, 1, 0x62, 1, 0, 5, 1, 0x63, 3, 0, 0, 1,
+];
+
 #[test]
 fn struct_values(rt: HostRuntime) -> Result<(), Fail> {
-    // a text `a`, a number `b` and a list `c` of booleans, and one value of each
-    let spelled = [
-        4, 0, 3, 1, 0x61, 2, 0, 1, 0x62, 1, 0, 5, 1, 0x63, 3, 0, 0, 1,
-    ];
     let bytes = [1, 1, 1, 0x7a, 1, 0xfe, 0xff, 1, 2, 1, 1, 0];
-    let (dtype, _) = read_type(rt.alloc(), &spelled, 0)?.ok_or("a type stands there")?;
+    let (dtype, _) = read_type(rt.alloc(), &PARTS, 0)?.ok_or("a type stands there")?;
     let (value, after) = read_value(rt.alloc(), &bytes, 0, &dtype)?.ok_or("a value stands there")?;
     assert_eq!(rt; after, 12);
-    let elements = vec![in rt.alloc(); ScalarValue::Bool(true), ScalarValue::Null]?;
-    let values = vec![in rt.alloc();
-        ScalarValue::Utf8(Text::new(rt.alloc(), "z")?),
-        ScalarValue::Int(-2),
-        ScalarValue::List(Rc::new(rt.alloc(), elements)?),
-    ]?;
-    assert!(rt; value == ScalarValue::Struct(Rc::new(rt.alloc(), values)?));
+    assert!(rt; value == parts(rt.alloc())?);
     let mut out = Vec::new(rt.alloc());
     write_value(&mut out, &dtype, &value)?;
     assert_eq!(rt; out.as_slice(), bytes.as_slice());
