@@ -1,4 +1,4 @@
-//! The program `vx`: the words, the two ends and the status.
+//! The program `vx`: the arguments, the two ends and the exit status.
 #![tactic(auto)]
 
 use std::env;
@@ -6,12 +6,12 @@ use std::io::ErrorKind;
 use std::process::ExitCode;
 use vx_query::{StdinSource, StdoutSink, run};
 
-/// The status where there is no memory.
+/// The exit status where there is no memory.
 const NO_MEMORY: u8 = 8;
 
 /// Runs the program on standard input and standard output.
 fn main(rt: HostRuntime) -> ExitCode {
-    let Some(words) = words(&rt) else {
+    let Some(arguments) = arguments(&rt) else {
         return ExitCode::from(NO_MEMORY);
     };
     let mut input = StdinSource::new(rt.stdin());
@@ -19,7 +19,7 @@ fn main(rt: HostRuntime) -> ExitCode {
     let mut used = None;
     let status = run(
         rt.alloc(),
-        words.as_slice(),
+        arguments.as_slice(),
         &mut input,
         &mut output,
         &mut used,
@@ -27,18 +27,18 @@ fn main(rt: HostRuntime) -> ExitCode {
     ExitCode::from(status)
 }
 
-/// The words behind the program's name. Where one isn't UTF-8 the words are none, which has no form either. None where
+/// The arguments behind the program's name. Where one isn't UTF-8 there are none, which has no form either. None where
 /// there is no memory for them.
-fn words(rt: &HostRuntime) -> Option<Vec<String>> {
-    let mut words = Vec::new(rt.alloc());
+fn arguments(rt: &HostRuntime) -> Option<Vec<String>> {
+    let mut arguments = Vec::new(rt.alloc());
     match env::args(rt) {
         Ok(args) => {
-            for word in args.skip(1) {
-                words.push(word).ok()?;
+            for argument in args.skip(1) {
+                arguments.push(argument).ok()?;
             }
-            Some(words)
+            Some(arguments)
         }
         Err(error) if error.kind() == ErrorKind::OutOfMemory => None,
-        Err(_) => Some(words),
+        Err(_) => Some(arguments),
     }
 }

@@ -13,9 +13,10 @@ use Rattle.vx_scan.specs.Blocks.{table_of, table_refusal, have_lengths, have_typ
 use Rattle.vx_scan.specs.Scanning.{Seen, Report, ReadFirst, IsSameStore, IsReport}
 use Rattle.vx_scan.specs.Stores.{Read}
 use Rattle.vx_scan.specs.StoreViews.{StoreState}
+use Rattle.vx_scan.proofs.BlockScanLemmas.{some_same}
 use Rattle.vx_query.specs.Reports.{report_text}
-use Rattle.vx_query.specs.Requests.{Asked, asked_in}
-use Rattle.vx_query.specs.Running.{asked_table, asked_reads, asked_report, scanned_store, Spells, AsksScan, AsksNothing}
+use Rattle.vx_query.specs.Requests.{RequestedScan, scan_request_in}
+use Rattle.vx_query.specs.Running.{scan_table, scan_reads, scan_report, scanned_store, Spells, HoldsScan, HoldsNoScan}
 use Rattle.vx_query.specs.RunViews.{store_view}
 use Rattle.vx_query.proofs.ShapeLemmas.{and_left, and_right}
 
@@ -48,13 +49,10 @@ filter_left p xs found i x h is fails kept =
     kept ∙ ap (λ ys. found ++ filter p ys) next ∙ ap (λ ys. found ++ ys) (filter_rest p x (drop (i + 1) xs) fails)
 
 -- what a scan of a store that wasn't read yet finds
-abbrev pub fresh : Asked → Seen
-fresh a = record { zones = a.zones; held = Some (asked_table a); log = []; faults = 0; failed = None; faultless = true }
+abbrev pub fresh : RequestedScan → Seen
+fresh a = record { zones = a.zones; held = Some (scan_table a); log = []; faults = 0; failed = None; faultless = true }
 
 -- what is there is equal where both are there
-pub some_same : {X : Type 0} {x y : X} → Some x ≡ Some y → x ≡ y
-some_same e = cc
-
 -- two stores are seen alike
 abbrev same_seen : Seen → Seen → Type 0
 same_seen s t = s ≡ t
@@ -65,24 +63,24 @@ seen_same : (z z' : Zones) (h h' : Option Table) (l l' : List Read) (n n' : ℕ)
 seen_same z z' h h' l l' n n' o o' b b' e1 e2 e3 e4 e5 e6 = λ i. record { zones = e1 i; held = e2 i; log = e3 i; faults = e4 i; failed = e5 i; faultless = e6 i }
 
 -- the reads that a report leaves are all of them
-read_all : (a : Asked) (f p : Tree) (reads : List Read) → ReadFirst (Some (asked_table a)) a.zones f p [] reads [] → reads ≡ asked_reads a f p
+read_all : (a : RequestedScan) (f p : Tree) (reads : List Read) → ReadFirst (Some (scan_table a)) a.zones f p [] reads [] → reads ≡ scan_reads a f p
 read_all a f p reads (done, after, all) = after ∙ sym (all ∙ append-nil done)
 
 -- the text and the store of a scan that reports
-pub report_told : (a : Asked) (f p : Tree) (s : StoreState) (r : Report) (text : Bytes) → IsSameStore (fresh a) (store_view s) → IsReport f p (fresh a) (store_view s) r
+pub report_told : (a : RequestedScan) (f p : Tree) (s : StoreState) (r : Report) (text : Bytes) → IsSameStore (fresh a) (store_view s) → IsReport f p (fresh a) (store_view s) r
     → text ≡ report_text (map value_text r.rows) r.skipped (read_columns (table_of s.zones s.blocks) s.reads) (length s.reads)
-    → (text ≡ asked_report a f p) × (store_view s ≡ scanned_store a f p)
+    → (text ≡ scan_report a f p) × (store_view s ≡ scanned_store a f p)
 report_told a f p s r text same report told =
-    let held : table_of s.zones s.blocks ≡ asked_table a = some_same same.held in
-    let reads : s.reads ≡ asked_reads a f p = read_all a f p s.reads report.reads in (
+    let held : table_of s.zones s.blocks ≡ scan_table a = some_same same.held in
+    let reads : s.reads ≡ scan_reads a f p = read_all a f p s.reads report.reads in (
       told ∙ report_text_of_same _ _ _ _ _ _ _ _ (ap (map value_text) report.rows) report.skipped (λ i. read_columns (held i) (reads i)) (ap length reads),
       seen_same _ _ _ _ _ _ _ _ _ _ _ _ same.zones same.held reads (same.quiet refl) report.unfailed same.faultless,
     )
 
 -- the same of a store that is seen so
-pub scan_told : (a : Asked) (f p : Tree) (before : Seen) (s : StoreState) (r : Report) (text : Bytes) → before ≡ fresh a → IsSameStore before (store_view s)
+pub scan_told : (a : RequestedScan) (f p : Tree) (before : Seen) (s : StoreState) (r : Report) (text : Bytes) → before ≡ fresh a → IsSameStore before (store_view s)
     → IsReport f p before (store_view s) r → text ≡ report_text (map value_text r.rows) r.skipped (read_columns (table_of s.zones s.blocks) s.reads) (length s.reads)
-    → (text ≡ asked_report a f p) × (store_view s ≡ scanned_store a f p)
+    → (text ≡ scan_report a f p) × (store_view s ≡ scanned_store a f p)
 scan_told a f p before s r text e same report told =
     report_told a f p s r text (subst (λ b. IsSameStore b (store_view s)) e same) (subst (λ b. IsReport f p b (store_view s) r) e report) told
 
@@ -96,12 +94,12 @@ pub if_ok_then : {T E : Type 0} (P Q : T → Type 0) (r : Result T E) → ((x : 
 if_ok_then P Q (Ok x) f h = f x h
 if_ok_then P Q (Err e) f h = h
 
--- an input that asks a scan whose texts are spelled is answered by its report
-pub answered_by : (input : Bytes) (s : Asked) (text : Bytes) (seen : Seen) → asked_in input ≡ Some s
-    → (f : Tree) × (p : Tree) × Spells s f p × (text ≡ asked_report s f p) × (seen ≡ scanned_store s f p)
-    → (a : Asked) × (f : Tree) × (p : Tree) × AsksScan input a f p × (text ≡ asked_report a f p) × (seen ≡ scanned_store a f p)
+-- an input that holds a scan whose texts are spelled is answered by its report
+pub answered_by : (input : Bytes) (s : RequestedScan) (text : Bytes) (seen : Seen) → scan_request_in input ≡ Some s
+    → (f : Tree) × (p : Tree) × Spells s f p × (text ≡ scan_report s f p) × (seen ≡ scanned_store s f p)
+    → (a : RequestedScan) × (f : Tree) × (p : Tree) × HoldsScan input a f p × (text ≡ scan_report a f p) × (seen ≡ scanned_store a f p)
 answered_by input s text seen found (f, p, spelled, told, held) = (s, f, p, record { asked = found; spelled = spelled }, told, held)
 
--- an input that asks a scan whose texts are not spelled asks nothing
-pub nothing_by : (input : Bytes) (s : Asked) → asked_in input ≡ Some s → ((f p : Tree) → ¬ (Spells s f p)) → AsksNothing input
+-- an input that holds a scan whose texts are not spelled is answered by no report
+pub nothing_by : (input : Bytes) (s : RequestedScan) → scan_request_in input ≡ Some s → ((f p : Tree) → ¬ (Spells s f p)) → HoldsNoScan input
 nothing_by input s found none = λ a e f p spelled. none f p (subst (λ x. Spells x f p) (some_same (sym e ∙ found)) spelled)

@@ -13,10 +13,10 @@ use Rattle.std.specs.Str.{is_utf8}
 use Rattle.vx_dtype.specs.Types.{Bytes}
 use Rattle.vx_scan.specs.Scanning.{Seen}
 use Rattle.vx_query.specs.Ends.{TookUpTo, Added}
-use Rattle.vx_query.specs.Requests.{Asked, asked_in, most_bytes}
-use Rattle.vx_query.specs.Running.{End, Form, Spells, asked_report, scanned_store, scan_form, help_form, version_form, Outcome, misused, helped, versioned, out_of_memory, unread, unanswered, answered, Writing, whole, cut, IsOutcome, IsWriting, IsRun, status_of, text_of, used_by}
-use Rattle.vx_query.specs.Causes.{HasRisen, IsReported, IsUnasked, TellsScan}
-use Rattle.vx_query.proofs.AnswerLemmas.{some_same}
+use Rattle.vx_query.specs.Requests.{RequestedScan, scan_request_in, most_bytes}
+use Rattle.vx_query.specs.Running.{End, Form, Spells, scan_report, scanned_store, scan_form, help_form, version_form, Outcome, misused, helped, versioned, out_of_memory, unread, unanswered, answered, Writing, whole, cut, IsOutcome, IsWriting, IsRun, status_of, text_of, used_by}
+use Rattle.vx_query.specs.Causes.{HasRisen, IsReported, IsWithoutScan, TellsScan}
+use Rattle.vx_scan.proofs.BlockScanLemmas.{some_same}
 use Rattle.vx_query.proofs.ShapeLemmas.{and_left}
 
 not_none : {X : Type 0} {x : X} → Some x ≡ None → ⊥
@@ -45,7 +45,7 @@ reported i i' o o' used run = by run.outcome run.writing run.comes run.written r
     by (answered input a f p) whole comes written held =
         record { input = input; asked = a; filter = f; projection = p; taken = comes.1.0; asks = comes.1.1; written = written.1.0; held = held }
 
--- words of no form
+-- arguments of no form
 pub unformed : (form : Option Form) (i i' o o' : End) (used : Option Seen) → IsRun form i i' o o' used 2 → form ≡ None
 unformed form i i' o o' used run = by run.outcome run.writing run.comes run.written
   where
@@ -59,11 +59,11 @@ unformed form i i' o o' used run = by run.outcome run.writing run.comes run.writ
     by (unanswered input) whole comes written = absurd (omega (arith, written.0))
     by (answered input a f p) whole comes written = absurd (omega (arith, written.0))
 
--- an input that asks nothing
-pub unasked : (form : Option Form) (i i' o o' : End) (used : Option Seen) → IsRun form i i' o o' used 3 → IsUnasked i i'
+-- an input that holds no scan
+pub unasked : (form : Option Form) (i i' o o' : End) (used : Option Seen) → IsRun form i i' o o' used 3 → IsWithoutScan i i'
 unasked form i i' o o' used run = by run.outcome run.writing run.comes run.written
   where
-    by : (outcome : Outcome) (writing : Writing) → IsOutcome form i i' outcome → IsWriting o o' (text_of outcome) (status_of outcome) 3 writing → IsUnasked i i'
+    by : (outcome : Outcome) (writing : Writing) → IsOutcome form i i' outcome → IsWriting o o' (text_of outcome) (status_of outcome) 3 writing → IsWithoutScan i i'
     by outcome cut comes written = absurd (omega (arith, written.0))
     by misused whole comes written = absurd (omega (arith, written.0))
     by helped whole comes written = absurd (omega (arith, written.0))
@@ -102,13 +102,13 @@ sink_risen form i i' o o' used run = by run.outcome run.writing run.written
     by (answered input a f p) whole written = absurd (omega (arith, written.0))
 
 -- what is answered under a condition shows it
-asks_where : (b : Bool) (o : Option Asked) (a : Asked) → cond b o None ≡ Some a → b ≡ true
+asks_where : (b : Bool) (o : Option RequestedScan) (a : RequestedScan) → cond b o None ≡ Some a → b ≡ true
 asks_where true o a e = refl
 asks_where false o a e = absurd (not_none (sym e))
 
--- an input that asks a scan is no longer than the most
-asks_within : (input : Bytes) (a : Asked) → asked_in input ≡ Some a → length input ≤ most_bytes
-unfolding asked_in
+-- an input that holds a scan is no longer than the most
+asks_within : (input : Bytes) (a : RequestedScan) → scan_request_in input ≡ Some a → length input ≤ most_bytes
+unfolding scan_request_in
 asks_within input a e = leb-true (length input) most_bytes (and_left (nat_le (length input) most_bytes) (is_utf8 input) (asks_where _ _ a e))
 
 -- such an input is taken whole
@@ -130,7 +130,7 @@ completed i i' o o' used status tells run still quiet memory = by run.outcome ru
     by unread whole comes written = absurd (still comes.1)
     by (unanswered input) whole comes written =
         let same : input ≡ tells.input = taken_whole i i' tells.input input tells.told (asks_within tells.input tells.asked tells.asks.asked) comes.1.0.bytes in
-        absurd (comes.1.1 tells.asked (ap asked_in same ∙ tells.asks.asked) tells.filter tells.projection tells.asks.spelled)
+        absurd (comes.1.1 tells.asked (ap scan_request_in same ∙ tells.asks.asked) tells.filter tells.projection tells.asks.spelled)
     by (answered input a f p) whole comes written = written.0
 
 -- a wire text spells one tree at most, and a wire tree builds one expression at most
@@ -147,14 +147,14 @@ spelled_once spells builds holds bytes a b (m, x, made) (n, y, made') =
 
 -- the scan that a run reports is the one that the source's bytes ask
 pub reported_as_told : SpellsOnce → BuildsOnce → (i i' o o' : End) (used : Option Seen) (told : TellsScan i) → IsRun (Some scan_form) i i' o o' used 0
-    → Added o.bytes o'.bytes (asked_report told.asked told.filter told.projection) × (used ≡ Some (scanned_store told.asked told.filter told.projection))
+    → Added o.bytes o'.bytes (scan_report told.asked told.filter told.projection) × (used ≡ Some (scanned_store told.asked told.filter told.projection))
 reported_as_told spells builds i i' o o' used told run =
     let found = reported i i' o o' used run in
     let input : found.input ≡ told.input = taken_whole i i' told.input found.input told.told (asks_within told.input told.asked told.asks.asked) found.taken.bytes in
-    let asked : found.asked ≡ told.asked = some_same (sym found.asks.asked ∙ ap asked_in input ∙ told.asks.asked) in
+    let asked : found.asked ≡ told.asked = some_same (sym found.asks.asked ∙ ap scan_request_in input ∙ told.asks.asked) in
     let own : Spells told.asked found.filter found.projection = subst (λ a. Spells a found.filter found.projection) asked found.asks.spelled in
     let filter : found.filter ≡ told.filter = spelled_once spells builds is_default_kind told.asked.filter found.filter told.filter own.filter_spelled told.asks.spelled.filter_spelled in
     let projection : found.projection ≡ told.projection = spelled_once spells builds is_default_kind told.asked.projection found.projection told.projection own.projection_spelled told.asks.spelled.projection_spelled in (
-      subst (Added o.bytes o'.bytes) (λ j. asked_report (asked j) (filter j) (projection j)) found.written,
+      subst (Added o.bytes o'.bytes) (λ j. scan_report (asked j) (filter j) (projection j)) found.written,
       found.held ∙ (λ j. Some (scanned_store (asked j) (filter j) (projection j))),
     )

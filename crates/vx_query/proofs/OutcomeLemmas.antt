@@ -7,8 +7,8 @@ use Rattle.vx_expr.specs.Trees.{Tree}
 use Rattle.vx_scan.specs.Counts.{one_more}
 use Rattle.vx_scan.specs.Scanning.{Seen}
 use Rattle.vx_query.specs.Ends.{TookUpTo}
-use Rattle.vx_query.specs.Requests.{Asked, most_bytes}
-use Rattle.vx_query.specs.Running.{End, Form, scan_form, Outcome, out_of_memory, unread, unanswered, answered, Writing, IsOutcome, IsTaken, IsWriting, IsRun, AsksScan, AsksNothing, asked_report, scanned_store, status_of, text_of, used_by}
+use Rattle.vx_query.specs.Requests.{RequestedScan, most_bytes}
+use Rattle.vx_query.specs.Running.{End, Form, scan_form, Outcome, out_of_memory, unread, unanswered, answered, Writing, IsOutcome, IsTaken, IsWriting, IsRun, HoldsScan, HoldsNoScan, scan_report, scanned_store, status_of, text_of, used_by}
 use Rattle.vx_query.specs.RefusalViews.{refusal_status, refusal_text, input_refusal}
 use Rattle.vx_query.specs.declared.reading.InputError.{InputError}
 use Rattle.vx_query.specs.declared.reading.InputError.TheVariants as inputs
@@ -26,7 +26,7 @@ refused_unread before after inputs.NoMemory later cause = (out_of_memory, (refl,
 refused_unread before after inputs.ReadFault later cause = (unread, (refl, cause refl), refl, refl, refl)
 
 -- an input that is taken and has no report
-pub refused_taken : (before after : End) (input : Bytes) (r : Refusal) → IsTaken before after input → (r ≡ NotBuilt → AsksNothing input) → ¬ (r ≡ ReadFault) → IsRefused before after r
+pub refused_taken : (before after : End) (input : Bytes) (r : Refusal) → IsTaken before after input → (r ≡ NotBuilt → HoldsNoScan input) → ¬ (r ≡ ReadFault) → IsRefused before after r
 refused_taken before after input NoMemory taken nothing read = (out_of_memory, (refl, taken.later), refl, refl, refl)
 refused_taken before after input ReadFault taken nothing read = absurd (read refl)
 refused_taken before after input NotBuilt taken nothing read = (unanswered input, (refl, (taken, nothing refl)), refl, refl, refl)
@@ -43,7 +43,7 @@ taken_as before after bytes input e took later = record { bytes = subst (TookUpT
 
 -- an input that is answered by a report
 pub told_taken : (before after : End) (input text : Bytes) (seen : Seen) → IsTaken before after input
-    → (a : Asked) × (f : Tree) × (p : Tree) × AsksScan input a f p × (text ≡ asked_report a f p) × (seen ≡ scanned_store a f p)
+    → (a : RequestedScan) × (f : Tree) × (p : Tree) × HoldsScan input a f p × (text ≡ scan_report a f p) × (seen ≡ scanned_store a f p)
     → (o : Outcome) × IsOutcome (Some scan_form) before after o × (status_of o ≡ 0) × (text_of o ≡ text) × (Some seen ≡ used_by o)
 told_taken before after input text seen taken (a, f, p, asks, told, held) = (answered input a f p, (refl, (taken, asks)), refl, sym told, ap Some held)
 

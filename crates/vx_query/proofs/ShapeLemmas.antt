@@ -10,7 +10,8 @@ use Rattle.vx_dtype.specs.StructTypes.{field_types}
 use Rattle.vx_dtype.specs.TypeRules.{field_names}
 use Rattle.vx_dtype.specs.Types.{Bytes}
 use Rattle.vx_query.specs.Objects.{◌>>=◌}
-use Rattle.vx_query.specs.Requests.{Asked, Request, Block, i64_ty, i64_columns, column_of, block_columns, is_rectangle, is_sound, bytes_in, most_bytes, request_in, asked_by, asked_in}
+use Rattle.vx_query.specs.Requests.{RequestedScan, Request, Block, i64_columns, column_of, block_columns, is_rectangle, is_sound, bytes_in, most_bytes, request_in, scan_request_of, scan_request_in}
+use Rattle.vx_scan.specs.FirstForm.{i64_ty}
 use Rattle.vx_scan.specs.Blocks.{block_long, blocks_long, block_typed}
 use Rattle.vx_query.specs.Shapes.{agree}
 
@@ -60,23 +61,23 @@ blocks_are_typed names [] h = refl
 blocks_are_typed names (b ∷ bs) h =
     both_true _ _ (columns_typed names b.values (eqb-true _ _ (and_left _ _ (and_left _ _ h)))) (blocks_are_typed names bs (and_right _ _ h))
 
-agree_step : (A : Type 0) (o : Option A) (f : A → Option Asked) → ((x : A) → agree (f x) ≡ true) → agree (o >>= f) ≡ true
+agree_step : (A : Type 0) (o : Option A) (f : A → Option RequestedScan) → ((x : A) → agree (f x) ≡ true) → agree (o >>= f) ≡ true
 agree_step A None f h = refl
 agree_step A (Some x) f h = h x
 
-agree_where : (b : Bool) (o : Option Asked) → (b ≡ true → agree o ≡ true) → agree (cond b o None) ≡ true
+agree_where : (b : Bool) (o : Option RequestedScan) → (b ≡ true → agree o ≡ true) → agree (cond b o None) ≡ true
 agree_where true o h = h refl
 agree_where false o h = refl
 
--- what a request asks agrees
-pub agree_by : (r : Request) → agree (asked_by r) ≡ true
+-- what a request holds agrees
+pub agree_by : (r : Request) → agree (scan_request_of r) ≡ true
 agree_by r = agree_where (is_sound r) _ (λ sound.
     let shape = and_left _ _ sound in
     let rectangles = and_right _ _ (and_right _ _ shape) in
     agree_step _ (bytes_in r.filter) _ (λ f. agree_step _ (bytes_in r.projection) _ (λ p.
     both_true _ _ (blocks_are_long r.columns r.blocks rectangles) (blocks_are_typed r.columns r.blocks rectangles))))
 
--- what an input asks agrees
-pub agree_in : (input : Bytes) → agree (asked_in input) ≡ true
-unfolding asked_in
-agree_in input = agree_where (nat_le (length input) most_bytes && is_utf8 input) (read input >>= request_in >>= asked_by) (λ h. agree_step Request (read input >>= request_in) asked_by agree_by)
+-- what an input holds agrees
+pub agree_in : (input : Bytes) → agree (scan_request_in input) ≡ true
+unfolding scan_request_in
+agree_in input = agree_where (nat_le (length input) most_bytes && is_utf8 input) (read input >>= request_in >>= scan_request_of) (λ h. agree_step Request (read input >>= request_in) scan_request_of agree_by)

@@ -7,7 +7,8 @@ pub record HasCause {T E : Type 0} (before now : ℕ) (result : Result T E) : Ty
   pub later : before ≤ now
   pub risen : IsErr result → one_more before ≤ now
 
--- a read into a buffer: what it took are the first bytes to come, the rest is to come; nothing is taken into a buffer that is not empty only at the end; a failed read took nothing
+-- a read into a buffer: what it took are the first bytes to come, the rest is to come; nothing is taken into a buffer that is not empty only at the
+-- end; a failed read took nothing
 abbrev pub ReadsFrom : {E : Type 0} → Option (List ℕ) → Option (List ℕ) → List ℕ → Result ℕ E → Type 0
 ReadsFrom None after into result = after ≡ None
 ReadsFrom (Some bytes) after into (Ok n) =

@@ -1,4 +1,4 @@
--- The statuses and lines of refusals.
+-- For the checker: no public clause cites this. The exit statuses and lines of refusals.
 use Rattle.std.specs.Prelude.{ℕ, codes}
 use Rattle.vx_dtype.specs.Types.{Bytes}
 use Rattle.vx_query.specs.Running.{refusal_line}
@@ -7,7 +7,7 @@ use Rattle.vx_query.specs.declared.reading.InputError.TheVariants as inputs
 use Rattle.vx_query.specs.declared.refusals.Refusal.{Refusal}
 use Rattle.vx_query.specs.declared.refusals.Refusal.TheVariants.{NoMemory, ReadFault, NotBuilt}
 
--- the status of a refusal
+-- the exit status of a refusal
 abbrev pub refusal_status : Refusal → ℕ
 refusal_status NoMemory = 8
 refusal_status ReadFault = 6

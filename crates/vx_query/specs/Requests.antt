@@ -7,7 +7,7 @@ use Rattle.serde_json.specs.Read.{read}
 use Rattle.serde_json.specs.Find.{as_null, as_str}
 use Rattle.hex.specs.Hex.{decode_of}
 use Rattle.vx_dtype.specs.declared.PType.TheVariants.{I64}
-use Rattle.vx_dtype.specs.declared.Nullability.TheVariants.{NonNullable, Nullable}
+use Rattle.vx_dtype.specs.declared.Nullability.TheVariants.{Nullable}
 use Rattle.vx_dtype.specs.declared.Stat.{Stat}
 use Rattle.vx_dtype.specs.declared.Stat.TheVariants.{Min, Max}
 use Rattle.vx_dtype.specs.Types.{Bytes, Ty, int_ty, Fields, no_fields, field}
@@ -15,6 +15,7 @@ use Rattle.vx_dtype.specs.Values.{Raw, raw_null, raw_int, int_val, Typed}
 use Rattle.vx_column.specs.Columns.{Column, column}
 use Rattle.vx_semantics.specs.Tables.{ZoneStat, Zones}
 use Rattle.vx_prune.specs.Zoning.{broken_rule}
+use Rattle.vx_scan.specs.FirstForm.{i64_ty}
 use Rattle.vx_query.specs.Objects.{◌>>=◌, object_of, list_read, only_item, count_in, number_in}
 
 -- a block: how many rows it has, and of each column its values
@@ -30,22 +31,18 @@ pub record Request : Type 0 where
   pub filter : Bytes
   pub projection : Bytes
 
--- the type of each column
-abbrev pub i64_ty : Ty
-i64_ty = int_ty I64 NonNullable
-
 -- the columns of these names
 abbrev pub i64_columns : List Bytes → Fields
 i64_columns [] = no_fields
 i64_columns (f ∷ fs) = field f i64_ty (i64_columns fs)
 
 -- the name of a column of i64: an object of a name and the type's name
-abbrev pub column_named : List Data → Option Bytes
-column_named (name ∷ ty ∷ []) = as_str ty >>= λ t. cond (bytes_eq t (codes "i64")) (as_str name) None
-column_named _ = None
+abbrev pub column_name_of : List Data → Option Bytes
+column_name_of (name ∷ ty ∷ []) = as_str ty >>= λ t. cond (bytes_eq t (codes "i64")) (as_str name) None
+column_name_of _ = None
 
 abbrev pub column_in : Data → Option Bytes
-column_in d = object_of (codes "name" ∷ codes "type" ∷ []) d >>= column_named
+column_in d = object_of (codes "name" ∷ codes "type" ∷ []) d >>= column_name_of
 
 -- a block: an object of the number of its rows and the lists of its columns' values
 abbrev pub block_of : List Data → Option Block
@@ -69,7 +66,8 @@ stat_named s = cond (bytes_eq s (codes "min")) (Some Min) (cond (bytes_eq s (cod
 -- a statistic: an object of a path of one name, the statistic's name, and its values
 abbrev pub stat_of : List Data → Option ZoneStat
 stat_of (path ∷ stat ∷ values ∷ []) =
-    only_item path >>= as_str >>= λ f. as_str stat >>= stat_named >>= λ s. list_read bound_in values >>= λ vs. Some (record { path = f ∷ []; stat = s; values = vs })
+    only_item path >>= as_str >>= λ f. as_str stat >>= stat_named >>= λ s. list_read bound_in values >>=
+    λ vs. Some (record { path = f ∷ []; stat = s; values = vs })
 stat_of _ = None
 
 abbrev pub stat_in : Data → Option ZoneStat
@@ -78,7 +76,8 @@ stat_in d = object_of (codes "path" ∷ codes "stat" ∷ codes "values" ∷ []) 
 -- a request: an object of columns, blocks, statistics and two texts
 abbrev pub request_of : List Data → Option Request
 request_of (columns ∷ blocks ∷ stats ∷ filter ∷ projection ∷ []) =
-    list_read column_in columns >>= λ cs. list_read block_in blocks >>= λ bs. list_read stat_in stats >>= λ ss. as_str filter >>= λ f. as_str projection >>= λ p.
+    list_read column_in columns >>= λ cs. list_read block_in blocks >>= λ bs. list_read stat_in stats >>= λ ss. as_str filter >>=
+    λ f. as_str projection >>= λ p.
     Some (record { columns = cs; blocks = bs; stats = ss; filter = f; projection = p })
 request_of _ = None
 
@@ -128,8 +127,8 @@ has_shape r =
 abbrev pub is_sound : Request → Bool
 is_sound r = has_shape r && (nat_le (rows_number r.blocks) most_rows && not (is_some (broken_rule (zones_in r))))
 
--- a scan that is asked: the zones, each block's columns, and the bytes of the filter and of the projection
-pub record Asked : Type 0 where
+-- what a request holds, a scan: the zones, each block's columns, and the bytes of the filter and of the projection
+pub record RequestedScan : Type 0 where
   pub zones : Zones
   pub blocks : List (List Column)
   pub filter : Bytes
@@ -152,11 +151,12 @@ value_of_answer (Err e) = None
 abbrev pub bytes_in : Bytes → Option Bytes
 bytes_in text = value_of_answer (decode_of text)
 
--- the scan that a request asks, where it is sound and both texts are digits of bytes
-abbrev pub asked_by : Request → Option Asked
-asked_by r =
-    cond (is_sound r) (bytes_in r.filter >>= λ f. bytes_in r.projection >>= λ p. Some (record { zones = zones_in r; blocks = map block_columns r.blocks; filter = f; projection = p })) None
+-- the scan that a request holds, where it is sound and both texts are digits of bytes
+abbrev pub scan_request_of : Request → Option RequestedScan
+scan_request_of r =
+    cond (is_sound r) (bytes_in r.filter >>= λ f. bytes_in r.projection >>=
+    λ p. Some (record { zones = zones_in r; blocks = map block_columns r.blocks; filter = f; projection = p })) None
 
--- the scan that an input asks, where it is a text of JSON that is one of these requests
-unfoldable pub asked_in : Bytes → Option Asked
-asked_in input = cond (nat_le (length input) most_bytes && is_utf8 input) (read input >>= request_in >>= asked_by) None
+-- the scan that an input holds, where it is a text of JSON that is one of these requests
+unfoldable pub scan_request_in : Bytes → Option RequestedScan
+scan_request_in input = cond (nat_le (length input) most_bytes && is_utf8 input) (read input >>= request_in >>= scan_request_of) None

@@ -1,11 +1,11 @@
--- How forms of words and the store of a run are seen.
+-- How forms of arguments and the store of a run are seen.
 use Rattle.std.specs.Prelude.{Some}
 use Rattle.vx_scan.specs.Blocks.{table_of}
 use Rattle.vx_scan.specs.Counts.{is_nothing}
 use Rattle.vx_scan.specs.Scanning.{Seen}
 use Rattle.vx_scan.specs.StoreViews.{StoreState}
 use Rattle.vx_dtype.specs.Types.{Bytes}
-use Rattle.vx_query.specs.Requests.{Asked}
+use Rattle.vx_query.specs.Requests.{RequestedScan}
 use Rattle.vx_query.specs.Running as running
 use Rattle.vx_query.specs.declared.forms.Form.{Form}
 use Rattle.vx_query.specs.declared.forms.Form.TheVariants.{Scan, Help, Version}
@@ -21,6 +21,6 @@ abbrev pub store_view : StoreState → Seen
 store_view s =
     record { zones = s.zones; held = Some (table_of s.zones s.blocks); log = s.reads; faults = s.faults; failed = s.failed; faultless = is_nothing s.listed }
 
--- the scan of a store that two byte texts ask
-abbrev pub scan_of : StoreState → Bytes → Bytes → Asked
+-- the scan of a store and two byte texts
+abbrev pub scan_of : StoreState → Bytes → Bytes → RequestedScan
 scan_of store filter projection = record { zones = store.zones; blocks = store.blocks; filter = filter; projection = projection }

@@ -1,4 +1,4 @@
--- What the program does: the forms of its words, how it comes to an end, and what it writes then.
+-- What the program does: the forms of its arguments, how it comes to an end, and what it writes then.
 use Rattle.std.specs.Prelude.{◌≡◌, ℕ, ◌+◌, ◌≤◌, true, cond, List, [], ◌∷◌, ◌++◌, length, map, codes, Option, Some, None}
 use Rattle.std.specs.Str.{bytes_eq}
 use Rattle.vx_dtype.specs.Types.{Bytes}
@@ -14,24 +14,24 @@ use Rattle.vx_scan.specs.Scanning.{Seen}
 use Rattle.vx_scan.specs.Stores.{Read}
 use Rattle.vx_query.specs.Ends.{TookUpTo, Added, AddedPrefix}
 use Rattle.vx_query.specs.Reports.{report_text}
-use Rattle.vx_query.specs.Requests.{Asked, asked_in, most_bytes}
+use Rattle.vx_query.specs.Requests.{RequestedScan, scan_request_in, most_bytes}
 
--- the forms of words
+-- the forms of arguments
 pub data Form : Type 0 where
   scan_form : Form
   help_form : Form
   version_form : Form
 
--- the form of one word
+-- the form of one argument
 abbrev pub form_named : Bytes → Option Form
-form_named word =
-    cond (bytes_eq word (codes "scan")) (Some scan_form)
-    (cond (bytes_eq word (codes "--help")) (Some help_form)
-    (cond (bytes_eq word (codes "--version")) (Some version_form) None))
+form_named argument =
+    cond (bytes_eq argument (codes "scan")) (Some scan_form)
+    (cond (bytes_eq argument (codes "--help")) (Some help_form)
+    (cond (bytes_eq argument (codes "--version")) (Some version_form) None))
 
--- the form that words have
+-- the form that arguments have
 abbrev pub form_of : List Bytes → Option Form
-form_of (word ∷ []) = form_named word
+form_of (argument ∷ []) = form_named argument
 form_of _ = None
 
 -- an end of the program: its bytes, to come or written, where they are told, and how many of its faults were counted
@@ -43,39 +43,41 @@ pub record End : Type 0 where
 abbrev pub end_by : {E : Type 0} → (E → Option Bytes) → (E → ℕ) → E → End
 end_by bytes faults end = record { bytes = bytes end; faults = faults end }
 
--- the table of a scan that is asked
-abbrev pub asked_table : Asked → Table
-asked_table a = table_of a.zones a.blocks
+-- the table of a scan
+abbrev pub scan_table : RequestedScan → Table
+scan_table a = table_of a.zones a.blocks
 
 -- the reads of the scan of a filter and a projection
-abbrev pub asked_reads : Asked → Tree → Tree → List Read
-asked_reads a f p = reads_of (asked_table a) a.zones [] f p
+abbrev pub scan_reads : RequestedScan → Tree → Tree → List Read
+scan_reads a f p = reads_of (scan_table a) a.zones [] f p
 
--- the report of this scan: what the projection means at the rows of the kept blocks at which the filter means true, the blocks that the statistics rule out, and the reads
-abbrev pub asked_report : Asked → Tree → Tree → Bytes
-asked_report a f p =
-    report_text (map value_text (kept_rows_of (asked_table a) a.zones [] f p)) (skipped_blocks a.zones [] f)
-    (read_columns (asked_table a) (asked_reads a f p)) (length (asked_reads a f p))
+-- the report of this scan: what the projection means at the rows of the kept blocks at which the filter means true, the blocks that the statistics
+-- rule out, and the reads
+abbrev pub scan_report : RequestedScan → Tree → Tree → Bytes
+scan_report a f p =
+    report_text (map value_text (kept_rows_of (scan_table a) a.zones [] f p)) (skipped_blocks a.zones [] f)
+    (read_columns (scan_table a) (scan_reads a f p)) (length (scan_reads a f p))
 
 -- the store that was scanned: it holds the table, and its reads are those of the scan; no read failed, and none can
-abbrev pub scanned_store : Asked → Tree → Tree → Seen
+abbrev pub scanned_store : RequestedScan → Tree → Tree → Seen
 scanned_store a f p =
-    record { zones = a.zones; held = Some (asked_table a); log = asked_reads a f p; faults = 0; failed = None; faultless = true }
+    record { zones = a.zones; held = Some (scan_table a); log = scan_reads a f p; faults = 0; failed = None; faultless = true }
 
 -- the two byte texts of a scan spell this filter and this projection, of the form that is answered
-abbrev pub Spells : Asked → Tree → Tree → Type 0
+abbrev pub Spells : RequestedScan → Tree → Tree → Type 0
 Spells a f p = IsAsked is_default_kind a.zones a.filter a.projection f p
 
--- an input that asks no scan whose byte texts spell such a filter and projection
-abbrev pub AsksNothing : Bytes → Type 0
-AsksNothing input = (a : Asked) → asked_in input ≡ Some a → (f p : Tree) → ¬ (Spells a f p)
+-- an input that holds no scan whose byte texts spell such a filter and projection
+abbrev pub HoldsNoScan : Bytes → Type 0
+HoldsNoScan input = (a : RequestedScan) → scan_request_in input ≡ Some a → (f p : Tree) → ¬ (Spells a f p)
 
--- an input that asks this scan, of this filter and this projection
-pub record AsksScan (input : Bytes) (a : Asked) (f p : Tree) : Type 0 where
-  pub asked : asked_in input ≡ Some a
+-- an input that holds this scan, of this filter and this projection
+pub record HoldsScan (input : Bytes) (a : RequestedScan) (f p : Tree) : Type 0 where
+  pub asked : scan_request_in input ≡ Some a
   pub spelled : Spells a f p
 
--- how the program comes to an end: words of no form, help, the version, no memory, an input that can't be read, one that is answered by no report, and one that is
+-- how the program comes to an end: arguments of no form, help, the version, no memory, an input that can't be read, one that is answered by
+-- no report, and one that is
 pub data Outcome : Type 0 where
   misused : Outcome
   helped : Outcome
@@ -83,22 +85,22 @@ pub data Outcome : Type 0 where
   out_of_memory : Outcome
   unread : Outcome
   unanswered : Bytes → Outcome
-  answered : Bytes → Asked → Tree → Tree → Outcome
+  answered : Bytes → RequestedScan → Tree → Tree → Outcome
 
--- the input was taken to its end, or to one byte more than the most; that many bytes ask nothing
+-- the input was taken to its end, or to one byte more than the most; that many bytes hold no scan
 pub record IsTaken (before after : End) (input : Bytes) : Type 0 where
   pub bytes : TookUpTo (most_bytes + 1) before.bytes after.bytes input
   pub later : before.faults ≤ after.faults
 
--- what an outcome says of words and of the source: words of another form than `scan` take nothing
+-- what an outcome says of arguments and of the source: arguments of another form than `scan` take nothing
 abbrev pub IsOutcome : Option Form → End → End → Outcome → Type 0
 IsOutcome form before after misused = (form ≡ None) × (after ≡ before)
 IsOutcome form before after helped = (form ≡ Some help_form) × (after ≡ before)
 IsOutcome form before after versioned = (form ≡ Some version_form) × (after ≡ before)
 IsOutcome form before after out_of_memory = (form ≡ Some scan_form) × (before.faults ≤ after.faults)
 IsOutcome form before after unread = (form ≡ Some scan_form) × (one_more before.faults ≤ after.faults)
-IsOutcome form before after (unanswered input) = (form ≡ Some scan_form) × (IsTaken before after input × AsksNothing input)
-IsOutcome form before after (answered input a f p) = (form ≡ Some scan_form) × (IsTaken before after input × AsksScan input a f p)
+IsOutcome form before after (unanswered input) = (form ≡ Some scan_form) × (IsTaken before after input × HoldsNoScan input)
+IsOutcome form before after (answered input a f p) = (form ≡ Some scan_form) × (IsTaken before after input × HoldsScan input a f p)
 
 -- the line of a refusal
 abbrev pub refusal_line : Bytes → Bytes
@@ -111,9 +113,10 @@ version_text = codes "vx 0.1.0\n"
 -- the text of `--help`
 abbrev pub help_text : Bytes
 help_text =
-    codes "vx scan < REQUEST   prints the selected rows, the skipped blocks and the columns read, as in: vx scan < examples/first.json\nvx --help           prints this text\nvx --version        prints the version\n"
+    codes "vx scan < REQUEST   prints the selected rows, the skipped blocks and the columns read, as in: vx scan < examples/first.json\n"
+    ++ (codes "vx --help           prints this text\n" ++ codes "vx --version        prints the version\n")
 
--- the status of an outcome
+-- the exit status of an outcome
 abbrev pub status_of : Outcome → ℕ
 status_of misused = 2
 status_of helped = 0
@@ -131,7 +134,7 @@ text_of versioned = version_text
 text_of out_of_memory = refusal_line (codes "NoMemory")
 text_of unread = refusal_line (codes "ReadFault")
 text_of (unanswered input) = refusal_line (codes "NotBuilt")
-text_of (answered input a f p) = asked_report a f p
+text_of (answered input a f p) = scan_report a f p
 
 -- the store that is held after an outcome: the one that was scanned, where a report was made
 abbrev pub used_by : Outcome → Option Seen
@@ -143,7 +146,7 @@ pub data Writing : Type 0 where
   whole : Writing
   cut : Writing
 
--- a whole text leaves the status that it tells; one that is cut leaves 7, and the sink counted a fault
+-- a whole text leaves the exit status that goes with it; one that is cut leaves 7, and the sink counted a fault
 abbrev pub IsWriting : End → End → Bytes → ℕ → ℕ → Writing → Type 0
 IsWriting before after text told status whole = (status ≡ told) × (Added before.bytes after.bytes text × (before.faults ≤ after.faults))
 IsWriting before after text told status cut = (status ≡ 7) × (AddedPrefix before.bytes after.bytes text × (one_more before.faults ≤ after.faults))

@@ -1,4 +1,4 @@
-// The answer to an input: the report of the scan that it asks.
+// The answer to an input: the report of the scan that it holds.
 ghost use Rattle.std.specs.Prelude.{◌≡◌, true, [], length, map, None, IfOk, IsErrOf};
 ghost use Rattle.std.specs.List.{filter, list_any};
 ghost use Rattle.std.specs.Str.{bytes_eq};
@@ -14,13 +14,13 @@ ghost use Rattle.vx_scan.specs.StoreViews.{block_view, entry_view};
 ghost use Rattle.vx_semantics.specs.Scans.{read_columns};
 ghost use Rattle.vx_scan.specs.Blocks.{table_of, table_refusal};
 ghost use Rattle.vx_query.specs.Reports.{report_text};
-ghost use Rattle.vx_query.specs.Requests.{Asked, asked_in};
-ghost use Rattle.vx_query.specs.Running.{AsksNothing, AsksScan, Spells, asked_report, scanned_store};
+ghost use Rattle.vx_query.specs.Requests.{RequestedScan, scan_request_in};
+ghost use Rattle.vx_query.specs.Running.{HoldsNoScan, HoldsScan, Spells, scan_report, scanned_store};
 ghost use Rattle.vx_query.specs.RunViews.{scan_of, store_view};
 
-use crate::asked::{AskedScan, decode_request};
 use crate::refusals::Refusal;
 use crate::reports::report_text;
+use crate::requests::{ScanRequest, decode_request};
 use std::alloc::Global;
 use vx_column::ColumnRef;
 use vx_display::row_text;
@@ -36,21 +36,22 @@ pub(crate) struct Scanned {
     pub(crate) store: MemoryStore,
 }
 
-/// The report of the scan that an input asks. NotBuilt exactly where it asks none of the form that is answered.
+/// The report of the scan that an input holds. NotBuilt exactly where it holds none of the form that is answered.
 pub(crate) fn answer(alloc: Global, input: &[u8]) -> Result<Scanned, Refusal>
-    ensures answered { IfOk result (λ scanned. (a : Asked) × (f : Tree) × (p : Tree) × AsksScan input.now a f p × (string_bytes scanned.text ≡ asked_report a f p) × (store_view scanned.store ≡ scanned_store a f p)) }
-    ensures not_built { IsErrOf result Refusal.NotBuilt → AsksNothing input.now }
+    ensures answered { IfOk result (λ scanned. (a : RequestedScan) × (f : Tree) × (p : Tree) × HoldsScan input.now a f p
+        × (string_bytes scanned.text ≡ scan_report a f p) × (store_view scanned.store ≡ scanned_store a f p)) }
+    ensures not_built { IsErrOf result Refusal.NotBuilt → HoldsNoScan input.now }
     ensures read { ¬ (IsErrOf result Refusal.ReadFault) }
 {
-    let Some(asked) = decode_request(alloc, input)? else {
+    let Some(request) = decode_request(alloc, input)? else {
         return Err(Refusal::NotBuilt);
     };
-    let AskedScan {
+    let ScanRequest {
         zones,
         blocks,
         filter,
         projection,
-    } = asked;
+    } = request;
     let store = store_of(alloc, zones, blocks)?;
     scan_store(alloc, filter.as_slice(), projection.as_slice(), store)
 }
@@ -76,7 +77,9 @@ fn scan_store(
     mut store: MemoryStore,
 ) -> Result<Scanned, Refusal>
     requires { store ≡ new_store store.zones store.blocks [] }
-    ensures scanned { IfOk result (λ scanned. (f : Tree) × (p : Tree) × Spells (scan_of store filter.now projection.now) f p × (string_bytes scanned.text ≡ asked_report (scan_of store filter.now projection.now) f p) × (store_view scanned.store ≡ scanned_store (scan_of store filter.now projection.now) f p)) }
+    ensures scanned { IfOk result (λ scanned. (f : Tree) × (p : Tree) × Spells (scan_of store filter.now projection.now) f p
+        × (string_bytes scanned.text ≡ scan_report (scan_of store filter.now projection.now) f p)
+        × (store_view scanned.store ≡ scanned_store (scan_of store filter.now projection.now) f p)) }
     ensures not_built { IsErrOf result Refusal.NotBuilt → (f p : Tree) → ¬ (Spells (scan_of store filter.now projection.now) f p) }
     ensures read { ¬ (IsErrOf result Refusal.ReadFault) }
 {
@@ -95,7 +98,8 @@ fn scan_store(
 /// The text of the report of a scan of a store.
 fn text_of(alloc: Global, report: &ScanReport, store: &MemoryStore) -> Mem<String>
     requires { raws_fit (type_view report.now.dtype) report.now.rows ≡ true }
-    ensures { IfOk result (λ text. string_bytes text ≡ report_text (map value_text (report_view report.now).rows) report.now.skipped (read_columns (table_of store.now.zones store.now.blocks) store.now.reads) (length store.now.reads)) }
+    ensures { IfOk result (λ text. string_bytes text ≡ report_text (map value_text (report_view report.now).rows) report.now.skipped
+        (read_columns (table_of store.now.zones store.now.blocks) store.now.reads) (length store.now.reads)) }
 {
     let rows = row_texts(alloc, &report.dtype, report.rows.as_slice())?;
     let names = columns_read(alloc, store)?;

@@ -37,7 +37,8 @@ pub(crate) fn three_members<'v>(
     second: &str,
     third: &str,
 ) -> Option<(&'v Value, &'v Value, &'v Value)>
-    ensures { option_map (λ p. view p.0.now ∷ view p.1.now ∷ view p.2.now ∷ []) result ≡ object_of (first.now ∷ second.now ∷ third.now ∷ []) (view value.now) }
+    ensures { option_map (λ p. view p.0.now ∷ view p.1.now ∷ view p.2.now ∷ []) result
+        ≡ object_of (first.now ∷ second.now ∷ third.now ∷ []) (view value.now) }
 {
     if !has_members(value, 3) {
         return None;

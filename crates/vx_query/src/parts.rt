@@ -41,7 +41,8 @@ struct RequestMembers<'v> {
 
 /// The members of a request, where a value is an object of exactly these.
 fn request_members(value: &Value) -> Option<RequestMembers<'_>>
-    ensures { option_map (λ m. view m.columns.now ∷ view m.blocks.now ∷ view m.stats.now ∷ view m.filter.now ∷ view m.projection.now ∷ []) result ≡ object_of (codes "columns" ∷ codes "blocks" ∷ codes "stats" ∷ codes "filter" ∷ codes "projection" ∷ []) (view value.now) }
+    ensures { option_map (λ m. view m.columns.now ∷ view m.blocks.now ∷ view m.stats.now ∷ view m.filter.now ∷ view m.projection.now ∷ []) result
+        ≡ object_of (codes "columns" ∷ codes "blocks" ∷ codes "stats" ∷ codes "filter" ∷ codes "projection" ∷ []) (view value.now) }
 {
     if !has_members(value, 5) {
         return None;

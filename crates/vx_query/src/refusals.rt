@@ -12,12 +12,12 @@ pub(crate) enum Refusal {
     NoMemory,
     /// A read failed: only where the source counted a fault.
     ReadFault,
-    /// Exactly where the input asks no scan of the form that is answered.
+    /// Exactly where the input holds no scan of the form that is answered.
     NotBuilt,
 }
 
 impl Refusal {
-    /// The status that the program ends with.
+    /// The exit status of the program.
     pub(crate) fn status(&self) -> u8
         ensures { result ≡ refusal_status self.now }
     {

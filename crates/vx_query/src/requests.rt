@@ -1,19 +1,22 @@
-// The scan that an input asks.
+// The scan that an input holds: the request that it holds.
 ghost use Rattle.std.specs.Prelude.{◌≡◌, ℕ, List, true, ◌<◌, ◌^◌, nat_le, cond, length, map, option_map, Some, None, IfOk};
 ghost use Rattle.std.specs.Str.{is_utf8};
 ghost use Rattle.std.specs.List.{list_all};
 ghost use Rattle.serde_json.specs.Read.{read as read_text};
 ghost use Rattle.serde_json.specs.View.{view};
+ghost use Rattle.vx_dtype.specs.Fits.{fits};
+ghost use Rattle.vx_dtype.specs.Values.{raw_int};
 ghost use Rattle.vx_prune.specs.ZoneViews.{stat_view};
-ghost use Rattle.vx_query.specs.Requests.{i64_columns, zones_with, sound_zones, has_shape, is_rectangle, rows_number, most_rows, column_of, block_columns, bytes_in, asked_by, asked_in};
+ghost use Rattle.vx_scan.specs.FirstForm.{i64_ty};
+ghost use Rattle.vx_query.specs.Requests.{i64_columns, zones_with, sound_zones, has_shape, is_rectangle, rows_number, most_rows, column_of, block_columns, bytes_in, scan_request_of, scan_request_in};
 ghost use Rattle.vx_query.specs.Shapes.{agree};
-ghost use Rattle.vx_query.specs.RequestViews.{block_view, request_view, columns_view, asked_view};
+ghost use Rattle.vx_query.specs.RequestViews.{block_view, request_view, columns_view, scan_request_view};
 
 use crate::parts::{Block, Request, request_in};
 use hex::FromHexError;
 use serde_json::Value;
 use std::alloc::Global;
-use vx_column::ColumnRef;
+use vx_column::{ColumnError, ColumnRef};
 use vx_dtype::{DType, FieldName, FieldNames, Mem, NoMemory, Nullability, PType, StructFields};
 use vx_prune::{ZoneError, ZoneMap, ZoneStat};
 
@@ -26,51 +29,51 @@ const MOST_BLOCKS: usize = 16777216;
 
 const MOST_ROWS: u64 = 1048576;
 
-/// A scan that is asked: the zones of a table, the columns of its blocks, and the bytes of the filter and of the
-/// projection.
+/// What a request holds: a scan of the zones of a table and the columns of its blocks, with the bytes of the filter
+/// and of the projection.
 #[derive(Drop)]
-pub struct AskedScan {
+pub struct ScanRequest {
     pub(crate) zones: ZoneMap,
     pub(crate) blocks: Vec<Vec<ColumnRef>>,
     pub(crate) filter: Vec<u8>,
     pub(crate) projection: Vec<u8>,
 }
 
-impl AskedScan {
+impl ScanRequest {
     /// The zones of the table.
     pub fn zones(&self) -> &ZoneMap
-        ensures { result.now ≡ (asked_view self.now).zones }
+        ensures { result.now ≡ (scan_request_view self.now).zones }
     {
         &self.zones
     }
 
     /// The columns of each block.
     pub fn blocks(&self) -> &[Vec<ColumnRef>]
-        ensures { map columns_view result.now ≡ (asked_view self.now).blocks }
+        ensures { map columns_view result.now ≡ (scan_request_view self.now).blocks }
     {
         self.blocks.as_slice()
     }
 
     /// The bytes of the filter.
     pub fn filter(&self) -> &[u8]
-        ensures { result.now ≡ (asked_view self.now).filter }
+        ensures { result.now ≡ (scan_request_view self.now).filter }
     {
         self.filter.as_slice()
     }
 
     /// The bytes of the projection.
     pub fn projection(&self) -> &[u8]
-        ensures { result.now ≡ (asked_view self.now).projection }
+        ensures { result.now ≡ (scan_request_view self.now).projection }
     {
         self.projection.as_slice()
     }
 
     /// The zones and the columns of each block, for a store of them.
     pub fn into_table(self) -> (ZoneMap, Vec<Vec<ColumnRef>>)
-        ensures zones { result.0 ≡ (asked_view self).zones }
-        ensures blocks { map columns_view result.1.items ≡ (asked_view self).blocks }
+        ensures zones { result.0 ≡ (scan_request_view self).zones }
+        ensures blocks { map columns_view result.1.items ≡ (scan_request_view self).blocks }
     {
-        let AskedScan { zones, blocks, .. } = self;
+        let ScanRequest { zones, blocks, .. } = self;
         (zones, blocks)
     }
 }
@@ -129,7 +132,8 @@ fn has_shape(request: &Request) -> bool
 
 /// The numbers of rows of blocks, where they are not too many together.
 fn lengths_in(alloc: Global, blocks: &[Block]) -> Mem<Option<Vec<u32>>>
-    ensures { IfOk result (λ lengths. option_map (λ v. v.items) lengths ≡ cond (nat_le (rows_number (map block_view blocks.now)) most_rows) (Some (map (λ b. b.rows) (map block_view blocks.now))) None) }
+    ensures { IfOk result (λ lengths. option_map (λ v. v.items) lengths
+        ≡ cond (nat_le (rows_number (map block_view blocks.now)) most_rows) (Some (map (λ b. b.rows) (map block_view blocks.now))) None) }
 {
     let mut lengths = Vec::with_capacity(alloc, blocks.len())?;
     let mut total = 0;
@@ -167,8 +171,22 @@ fn zones_of(
     match ZoneMap::try_new(alloc, i64_columns(alloc, names)?, lengths, stats) {
         Ok(zones) => Ok(Some(zones)),
         Err(ZoneError::NoMemory) => Err(NoMemory),
-        Err(_) => Ok(None),
+        Err(ZoneError::DuplicateName) => Ok(None),
+        Err(ZoneError::DeepType) => Ok(None),
+        Err(ZoneError::BadStatPath) => Ok(None),
+        Err(ZoneError::DuplicateStat) => Ok(None),
+        Err(ZoneError::WrongStatCount) => Ok(None),
+        Err(ZoneError::WrongStatType) => Ok(None),
     }
+}
+
+/// The number as a value of a column of i64.
+#[tactic(auto, unfolding(vx_dtype::specs::Fits::fits))]
+fn i64_value(number: i64) -> Option<i128>
+    ensures number { result ≡ Some number }
+    ensures fit { fits (raw_int number) i64_ty ≡ true }
+{
+    Some(number as i128)
 }
 
 /// The column of these numbers.
@@ -177,12 +195,18 @@ fn column_of(alloc: Global, numbers: &[i64]) -> Mem<ColumnRef>
 {
     let mut values = Vec::with_capacity(alloc, numbers.len())?;
     for number in numbers {
-        values.push(Some(*number as i128))?;
+        values.push(i64_value(*number))?;
     }
-    // Each number is one of the type, so that a refusal is want of memory.
+    // Each number is one of the type, so nothing but memory can be wanting.
     match ColumnRef::primitive(alloc, PType::I64, values, Nullability::NonNullable) {
         Ok(column) => Ok(column),
-        Err(_) => Err(NoMemory),
+        Err(ColumnError::NoMemory) => Err(NoMemory),
+        Err(ColumnError::WrongLength) => unreachable!(),
+        Err(ColumnError::WrongValue) => unreachable!(),
+        Err(ColumnError::DuplicateField) => unreachable!(),
+        Err(ColumnError::UnknownField) => unreachable!(),
+        Err(ColumnError::Overflow) => unreachable!(),
+        Err(ColumnError::BadCast) => unreachable!(),
     }
 }
 
@@ -221,9 +245,9 @@ fn bytes_in(alloc: Global, text: &str) -> Mem<Option<Vec<u8>>>
     }
 }
 
-/// The scan that a request asks.
-fn asked_by(alloc: Global, request: Request) -> Mem<Option<AskedScan>>
-    ensures { IfOk result (λ found. option_map asked_view found ≡ asked_by (request_view request)) }
+/// The scan that a request holds.
+fn scan_request_of(alloc: Global, request: Request) -> Mem<Option<ScanRequest>>
+    ensures { IfOk result (λ found. option_map scan_request_view found ≡ scan_request_of (request_view request)) }
 {
     if !has_shape(&request) {
         return Ok(None);
@@ -248,7 +272,7 @@ fn asked_by(alloc: Global, request: Request) -> Mem<Option<AskedScan>>
         return Ok(None);
     };
     let blocks = blocks_columns(alloc, blocks.as_slice())?;
-    Ok(Some(AskedScan {
+    Ok(Some(ScanRequest {
         zones,
         blocks,
         filter,
@@ -256,13 +280,13 @@ fn asked_by(alloc: Global, request: Request) -> Mem<Option<AskedScan>>
     }))
 }
 
-/// The scan that an input asks: none where the input is longer than 16,777,216 bytes, is no JSON text, is no object of
+/// The scan that an input holds: none where the input is longer than 16,777,216 bytes, is no JSON text, is no object of
 /// the members of a request, has columns of another type than i64 or paths of more names than one, or where the request
 /// isn't sound or one of its two texts isn't hexadecimal digits of bytes. A member given twice counts once, with its
 /// last value.
-#[tactic(auto, unfolding(crate::specs::Requests::asked_in))]
-pub fn decode_request(alloc: Global, input: &[u8]) -> Mem<Option<AskedScan>>
-    ensures { IfOk result (λ found. option_map asked_view found ≡ asked_in input.now) }
+#[tactic(auto, unfolding(crate::specs::Requests::scan_request_in))]
+pub fn decode_request(alloc: Global, input: &[u8]) -> Mem<Option<ScanRequest>>
+    ensures { IfOk result (λ found. option_map scan_request_view found ≡ scan_request_in input.now) }
 {
     if input.len() > MOST_BYTES {
         return Ok(None);
@@ -273,10 +297,10 @@ pub fn decode_request(alloc: Global, input: &[u8]) -> Mem<Option<AskedScan>>
     let Some(request) = request_in(alloc, &value)? else {
         return Ok(None);
     };
-    asked_by(alloc, request)
+    scan_request_of(alloc, request)
 }
 
-/// The blocks of each scan that an input asks have the number, the columns, the rows and the types that its zones tell.
-pub fn asked_blocks_agree()
-    ensures { (input : List ℕ) → agree (asked_in input) ≡ true }
+/// The blocks of each scan that an input holds have the number, the columns, the rows and the types that its zones tell.
+pub fn requested_blocks_agree()
+    ensures { (input : List ℕ) → agree (scan_request_in input) ≡ true }
 {}

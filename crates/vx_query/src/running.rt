@@ -6,10 +6,10 @@ ghost use Rattle.vx_query.specs.RunViews.{store_view};
 ghost use Rattle.vx_query.specs.RefusalViews.{refusal_status, refusal_text};
 
 use crate::answers::answer;
-use crate::asked::MOST_BYTES;
 use crate::forms::{Form, form_of};
 use crate::reading::read_up_to;
 use crate::refusals::Refusal;
+use crate::requests::MOST_BYTES;
 use crate::sinks::Sink;
 use crate::sources::Source;
 use crate::writing::write_whole;
@@ -23,11 +23,12 @@ const HELP: &str =
 
 const VERSION: &str = "vx 0.1.0\n";
 
-/// Does all that the program does, and answers its status.
+/// Does all that the program does, and answers its exit status.
 ///
-/// The words `scan` take the input, at most 16,777,217 bytes of it, and write the report of the scan that it asks;
-/// `--help` and `--version` write their texts and take nothing. The status is 0 where the text was written whole; 2 where
-/// the words have none of these forms; 3 exactly where the input asks no scan of the form that is answered; 6 only where
+/// The argument `scan` takes the input, at most 16,777,217 bytes of it, and writes the report of the scan that the
+/// request in it holds; `--help` and `--version` write their texts and take nothing. The exit status is 0 where the text
+/// was written whole; 2 where the arguments have none of these forms; 3 exactly where the input holds no scan of the form
+/// that is answered; 6 only where
 /// the source counted a fault; 7 only where the sink did, and then the first bytes of the text or line were written; 8
 /// where there was no memory. A refusal writes a line `error: ` and its name: Usage, NotBuilt, ReadFault or NoMemory.
 ///
@@ -35,15 +36,16 @@ const VERSION: &str = "vx 0.1.0\n";
 /// are those of the scan. Else it is none.
 pub fn run<I: Source, O: Sink>(
     alloc: Global,
-    words: &[String],
+    arguments: &[String],
     input: &mut I,
     output: &mut O,
     used: &mut Option<MemoryStore>,
 ) -> u8
-    ensures { let source = end_by I.left I.faults in let sink = end_by O.written O.faults in IsRun (form_of (map string_bytes words.now)) (source input.old) (source input.new) (sink output.old) (sink output.new) (option_map store_view used.new) result }
+    ensures { let source = end_by I.left I.faults in let sink = end_by O.written O.faults in IsRun (form_of (map string_bytes arguments.now))
+        (source input.old) (source input.new) (sink output.old) (sink output.new) (option_map store_view used.new) result }
 {
     *used = None;
-    match form_of(words) {
+    match form_of(arguments) {
         None => write(output, USAGE, 2),
         Some(Form::Help) => write(output, HELP, 0),
         Some(Form::Version) => write(output, VERSION, 0),
@@ -54,14 +56,18 @@ pub fn run<I: Source, O: Sink>(
     }
 }
 
-/// Takes the input and makes the report of the scan that it asks.
+/// Takes the input and makes the report of the scan that it holds.
 fn scan_input<I: Source>(
     alloc: Global,
     input: &mut I,
     used: &mut Option<MemoryStore>,
 ) -> Result<String, Refusal>
-    ensures told { let source = end_by I.left I.faults in IfOk result (λ text. (outcome : Outcome) × IsOutcome (Some scan_form) (source input.old) (source input.new) outcome × (status_of outcome ≡ 0) × (text_of outcome ≡ string_bytes text) × (option_map store_view used.new ≡ used_by outcome)) }
-    ensures refused { let source = end_by I.left I.faults in IfErr result (λ refusal. (outcome : Outcome) × IsOutcome (Some scan_form) (source input.old) (source input.new) outcome × (status_of outcome ≡ refusal_status refusal) × (text_of outcome ≡ refusal_text refusal) × (used_by outcome ≡ None)) }
+    ensures told { let source = end_by I.left I.faults in IfOk result (λ text. (outcome : Outcome)
+        × IsOutcome (Some scan_form) (source input.old) (source input.new) outcome × (status_of outcome ≡ 0) × (text_of outcome ≡ string_bytes text)
+        × (option_map store_view used.new ≡ used_by outcome)) }
+    ensures refused { let source = end_by I.left I.faults in IfErr result
+        (λ refusal. (outcome : Outcome) × IsOutcome (Some scan_form) (source input.old) (source input.new) outcome
+        × (status_of outcome ≡ refusal_status refusal) × (text_of outcome ≡ refusal_text refusal) × (used_by outcome ≡ None)) }
     ensures unused { IsErr result → used.new ≡ used.old }
 {
     let bytes = read_up_to(alloc, MOST_BYTES + 1, input)?;
@@ -70,7 +76,7 @@ fn scan_input<I: Source>(
     Ok(scanned.text)
 }
 
-/// Writes a text, and answers the status that it tells, or 7 where it isn't written whole.
+/// Writes a text, and answers the exit status that goes with a whole one, or 7 where it isn't written whole.
 fn write<O: Sink>(output: &mut O, text: &str, told: u8) -> u8
     ensures { let sink = end_by O.written O.faults in (writing : Writing) × IsWriting (sink output.old) (sink output.new) text.now told result writing }
 {

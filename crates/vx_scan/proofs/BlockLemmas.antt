@@ -10,7 +10,7 @@ use Rattle.vx_dtype.specs.StructTypes.{field_types}
 use Rattle.vx_dtype.specs.Structs.{field_of}
 use Rattle.vx_column.specs.Columns.{Column, zip_rows}
 use Rattle.vx_semantics.specs.Tables.{Zones}
-use Rattle.vx_scan.specs.Blocks.{block_long, blocks_long, is_type, block_typed, have_lengths, have_types, block_rows, table_of, column_named}
+use Rattle.vx_scan.specs.Blocks.{block_long, blocks_long, is_type, block_typed, have_lengths, have_types, rows_of_columns, table_of, column_named}
 use Rattle.vx_scan.specs.StoreViews.{block_view}
 use Rattle.std.specs.declared.vec.Vec.{Vec}
 use Rattle.std.specs.declared.alloc.Global.{Global}
@@ -83,7 +83,7 @@ zip_at f (a ∷ xs) (b ∷ ys) zero x y h k =
 zip_at f (a ∷ xs) (b ∷ ys) (suc i) x y h k = zip_at f xs ys i x y h k
 
 -- the blocks of the table have as many rows as they have to
-pub table_lengths : (fs : Fields) (w : ℕ) (ns : List ℕ) (bs : List (List Column)) → blocks_long w ns bs ≡ true → map length (zip_rows (block_rows fs) ns bs) ≡ ns
+pub table_lengths : (fs : Fields) (w : ℕ) (ns : List ℕ) (bs : List (List Column)) → blocks_long w ns bs ≡ true → map length (zip_rows (rows_of_columns fs) ns bs) ≡ ns
 table_lengths fs w [] [] h = refl
 table_lengths fs w [] (cs ∷ bs) h = absurd cc
 table_lengths fs w (n ∷ ns) [] h = absurd cc
@@ -107,7 +107,7 @@ held zones bs i f cs c h k l e q =
     let long : block_long width n cs ≡ true = block_at width zones.lengths bs i n cs h at e in
     let all : list_all (λ c. nat_eq (length c.rows) n) cs ≡ true = second_so (nat_eq (length cs) width) (list_all (λ c. nat_eq (length c.rows) n) cs) long in
     let types : block_typed (field_types zones.columns) cs ≡ true = all_at (block_typed (field_types zones.columns)) bs i cs k e in
-    let there = zip_at (block_rows zones.columns) zones.lengths bs i n cs at e in
+    let there = zip_at (rows_of_columns zones.columns) zones.lengths bs i n cs at e in
     record {
       typed = named_typed f zones.columns cs c types q;
       counted = at ∙ ap (λ m. Some m) (sym (named_counted f zones.columns n cs c all q));

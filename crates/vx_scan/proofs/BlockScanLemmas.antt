@@ -162,7 +162,7 @@ planned_reads zones plan table i b h r e =
     let projected = subst (λ fs. has_name plan.projected (field_names fs) ≡ true) (sym e) h.over.projected in
     reads_planned table.columns plan i b distinct column projected
 
-some_same : {X : Type 0} {x y : X} → Some x ≡ Some y → x ≡ y
+pub some_same : {X : Type 0} {x y : X} → Some x ≡ Some y → x ≡ y
 some_same e = cc
 
 -- the values of a column that was read, where the table is told

@@ -15,7 +15,7 @@ use Rattle.vx_dtype.specs.EqualLaws.{ty_decides}
 use Rattle.vx_dtype.specs.Values.{Val, struct_val, Members, no_members, member}
 use Rattle.vx_dtype.specs.Fits.{val_fits, members_fit}
 use Rattle.vx_column.specs.Columns.{Column, zip_rows, rows_fit}
-use Rattle.vx_scan.specs.Blocks.{block_long, blocks_long, block_typed, block_fits, block_members, block_rows}
+use Rattle.vx_scan.specs.Blocks.{block_long, blocks_long, block_typed, block_fits, block_members, rows_of_columns}
 use Rattle.vx_scan.proofs.MemberLemmas.{equal_numbers}
 
 -- rows without members are of no fields
@@ -34,7 +34,7 @@ zip_fit f t fs (x ∷ xs) (m ∷ ms) h k =
     let rest = zip_fit f t fs xs ms (second_so (val_fits x t) (rows_fit t xs) h) (second_so (members_fit m fs) (rows_fit (struct_ty fs NonNullable) (map struct_val ms)) k) in
     both_true (both_true name (both_true (first_so (val_fits x t) (rows_fit t xs) h) (first_so (members_fit m fs) (rows_fit (struct_ty fs NonNullable) (map struct_val ms)) k))) rest
 
-pub rows_are_fit : (fs : Fields) (n : ℕ) (cs : List Column) → length cs ≡ length (field_names fs) → block_typed (field_types fs) cs ≡ true → block_fits cs ≡ true → rows_fit (struct_ty fs NonNullable) (block_rows fs n cs) ≡ true
+pub rows_are_fit : (fs : Fields) (n : ℕ) (cs : List Column) → length cs ≡ length (field_names fs) → block_typed (field_types fs) cs ≡ true → block_fits cs ≡ true → rows_fit (struct_ty fs NonNullable) (rows_of_columns fs n cs) ≡ true
 rows_are_fit no_fields n cs e h k = none_fit n
 rows_are_fit (field f t fs) n [] e h k = absurd (omega (arith, e))
 rows_are_fit (field f t fs) n (c ∷ cs) e h k =
@@ -50,7 +50,7 @@ fits_more cs i c h e k =
     ap block_fits (drop_more cs i c h) ∙ ap (λ b. b && block_fits (drop (i + 1) cs)) own
 
 -- and so are those of all blocks
-pub table_fit : (fs : Fields) (ns : List ℕ) (bs : List (List Column)) → blocks_long (length (field_names fs)) ns bs ≡ true → list_all (block_typed (field_types fs)) bs ≡ true → list_all block_fits bs ≡ true → list_all (rows_fit (struct_ty fs NonNullable)) (zip_rows (block_rows fs) ns bs) ≡ true
+pub table_fit : (fs : Fields) (ns : List ℕ) (bs : List (List Column)) → blocks_long (length (field_names fs)) ns bs ≡ true → list_all (block_typed (field_types fs)) bs ≡ true → list_all block_fits bs ≡ true → list_all (rows_fit (struct_ty fs NonNullable)) (zip_rows (rows_of_columns fs) ns bs) ≡ true
 table_fit fs [] [] l h k = refl
 table_fit fs [] (cs ∷ bs) l h k = absurd cc
 table_fit fs (n ∷ ns) [] l h k = absurd cc

@@ -8,7 +8,7 @@ use Rattle.vx_dtype.specs.Types.{Bytes, Fields, no_fields, field}
 use Rattle.vx_dtype.specs.Values.{Val, struct_val, fault, Members, no_members, member}
 use Rattle.vx_dtype.specs.Structs.{member_named, field_of}
 use Rattle.vx_column.specs.Columns.{Column, zip_rows}
-use Rattle.vx_scan.specs.Blocks.{block_members, block_rows}
+use Rattle.vx_scan.specs.Blocks.{block_members, rows_of_columns}
 
 pub equal_numbers : (a b : ℕ) → nat_eq a b ≡ true → a ≡ b
 equal_numbers a b h = grind (arith, nat_tests)
@@ -35,7 +35,7 @@ members_count (field f t fs) n [] h = length_replicate n no_members
 members_count (field f t fs) n (c ∷ cs) h =
     length_zip (member f) c.rows (block_members fs n cs) n (equal_numbers (length c.rows) n (first_so _ _ h)) (members_count fs n cs (second_so _ _ h))
 
-pub rows_count : (fs : Fields) (n : ℕ) (cs : List Column) → list_all (λ c. nat_eq (length c.rows) n) cs ≡ true → length (block_rows fs n cs) ≡ n
+pub rows_count : (fs : Fields) (n : ℕ) (cs : List Column) → list_all (λ c. nat_eq (length c.rows) n) cs ≡ true → length (rows_of_columns fs n cs) ≡ n
 rows_count fs n cs h = length_mapped struct_val (block_members fs n cs) ∙ members_count fs n cs h
 
 -- the field of the name of the first members is their value

@@ -12,7 +12,7 @@ use Rattle.vx_dtype.specs.EqualLaws.{ty_decides}
 use Rattle.vx_dtype.specs.Values.{struct_val, Members, member}
 use Rattle.vx_dtype.specs.Structs.{field_of}
 use Rattle.vx_column.specs.Columns.{Column, zip_rows}
-use Rattle.vx_scan.specs.Blocks.{block_typed, block_members, block_rows, column_named}
+use Rattle.vx_scan.specs.Blocks.{block_typed, block_members, rows_of_columns, column_named}
 use Rattle.vx_scan.proofs.MemberLemmas.{equal_numbers, members_count, first_of, rest_of}
 
 -- the column of a name stands at the place of the name
@@ -91,7 +91,7 @@ rows_step : (f g : Bytes) (b : Bool) → bytes_eq f g ≡ b → (d c : Column) (
 rows_step f g true e d c o ms h q k = let same : d ≡ c = cc in first_of f g e d.rows ms h ∙ ap (λ (x : Column). x.rows) same
 rows_step f g false e d c o ms h q k = rest_of f g e d.rows ms h ∙ k q
 
-pub named_rows : (f : Bytes) (fs : Fields) (n : ℕ) (cs : List Column) (c : Column) → list_all (λ c. nat_eq (length c.rows) n) cs ≡ true → column_named f fs cs ≡ Some c → map (field_of f) (block_rows fs n cs) ≡ c.rows
+pub named_rows : (f : Bytes) (fs : Fields) (n : ℕ) (cs : List Column) (c : Column) → list_all (λ c. nat_eq (length c.rows) n) cs ≡ true → column_named f fs cs ≡ Some c → map (field_of f) (rows_of_columns fs n cs) ≡ c.rows
 named_rows f no_fields n cs c h e = absurd cc
 named_rows f (field g t fs) n [] c h e = absurd cc
 named_rows f (field g t fs) n (d ∷ cs) c h e =

@@ -57,12 +57,12 @@ block_members (field f t fs) n (c ∷ cs) = zip_rows (member f) c.rows (block_me
 block_members _ n cs = replicate n no_members
 
 -- the rows of a block: structs of the columns
-abbrev pub block_rows : Fields → ℕ → List Column → List Val
-block_rows fs n cs = map struct_val (block_members fs n cs)
+abbrev pub rows_of_columns : Fields → ℕ → List Column → List Val
+rows_of_columns fs n cs = map struct_val (block_members fs n cs)
 
 -- the table of blocks of columns
 abbrev pub table_of : Zones → List (List Column) → Table
-table_of zones blocks = record { columns = zones.columns; blocks = zip_rows (block_rows zones.columns) zones.lengths blocks }
+table_of zones blocks = record { columns = zones.columns; blocks = zip_rows (rows_of_columns zones.columns) zones.lengths blocks }
 
 -- the column of the first field of this name
 abbrev pub column_named : Bytes → Fields → List Column → Option Column

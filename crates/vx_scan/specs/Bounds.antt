@@ -1,4 +1,4 @@
--- Numbers as bounds of i64 columns.
+-- For the checker: no public clause cites this. Numbers as bounds of i64 columns.
 use Rattle.std.specs.Prelude.{ℤ, Option, Some, None, option_map}
 use Rattle.vx_dtype.specs.declared.PType.TheVariants.{I64}
 use Rattle.vx_dtype.specs.declared.Stat.{Stat}

@@ -1,4 +1,4 @@
--- Plans of scans: a column that is compared with a constant, and a column whose values are given.
+-- For the checker: no public clause cites this. Plans of scans: a column that is compared with a constant, and a column whose values are given.
 use Rattle.std.specs.Prelude.{◌≡◌, Bool, true, false, ◌&&◌, List, Option, Some, None}
 use Rattle.vx_dtype.specs.Types.{Bytes}
 use Rattle.vx_dtype.specs.TypeRules.{field_names, has_name}

@@ -1,4 +1,5 @@
--- How far a scan has come: what it has read, given, kept and skipped before a block, and what is left from there on.
+-- For the checker: no public clause cites this. How far a scan has come: what it has read, given, kept and skipped before a block, and what is left
+-- from there on.
 use Rattle.std.specs.Prelude.{◌≡◌, ℕ, ◌≤◌, not, List, [], ◌∷◌, ◌++◌, map, drop, Option, Some, None, Result, Ok, Err}
 use Rattle.std.specs.List.{filter, flat_map}
 use Rattle.vx_dtype.specs.Types.{Bytes}
@@ -23,10 +24,12 @@ skipped_left zones f i = map (λ b. b.0) (filter (λ b. rules_out zones [] b.0 f
 
 -- the reads, and the rows, of the kept blocks from a block on
 abbrev pub reads_left : Table → Zones → Tree → Tree → ℕ → List Read
-reads_left table zones f p i = flat_map (block_reads (row_type table.columns) [] f p) (filter (λ b. not (rules_out zones [] b.0 f)) (numbered_from i (drop i table.blocks)))
+reads_left table zones f p i = flat_map (block_reads (row_type table.columns) [] f p)
+    (filter (λ b. not (rules_out zones [] b.0 f)) (numbered_from i (drop i table.blocks)))
 
 abbrev pub rows_left : Table → Zones → Tree → Tree → ℕ → List Val
-rows_left table zones f p i = flat_map (λ b. block_rows (row_type table.columns) [] f p b.1) (filter (λ b. not (rules_out zones [] b.0 f)) (numbered_from i (drop i table.blocks)))
+rows_left table zones f p i = flat_map (λ b. block_rows (row_type table.columns) [] f p b.1)
+    (filter (λ b. not (rules_out zones [] b.0 f)) (numbered_from i (drop i table.blocks)))
 
 -- the reads and the rows before a block, where the table is told
 abbrev pub AreReadTo : Option Table → Zones → Tree → Tree → ℕ → List Read → List Read → List Val → Type 0
@@ -58,7 +61,8 @@ Leaves f p i before after rows keeps skips (Err errors.NoMemory) = IsBrokenOff f
 abbrev pub ReadsOf : ℕ → List Read → List Read → List Read → Option Read → Result (Unit {0}) StoreError → Type 0
 ReadsOf block reads before after failed (Ok _) = after ≡ before ++ reads
 ReadsOf block reads before after failed (Err errors.Failed) =
-    (name : Bytes) × (done : List Read) × (left : List Read) × (failed ≡ Some (block, name)) × (after ≡ before ++ done) × (reads ≡ done ++ ((block, name) ∷ left))
+    (name : Bytes) × (done : List Read) × (left : List Read) × (failed ≡ Some (block, name)) × (after ≡ before ++ done)
+    × (reads ≡ done ++ ((block, name) ∷ left))
 ReadsOf block reads before after failed (Err errors.NoMemory) =
     (done : List Read) × (left : List Read) × (after ≡ before ++ done) × (reads ≡ done ++ left)
 

@@ -1,4 +1,4 @@
--- A code of rows: by it the checker tells those that are seen apart.
+-- For the checker: no public clause cites this. A code of rows: by it the checker tells those that are seen apart.
 use Rattle.std.proofs.Common.{List, refl}
 use Rattle.std.specs.Coded.{Coded, code_by, coded_list}
 use Rattle.vx_dtype.specs.Values.{Raw, Typed}

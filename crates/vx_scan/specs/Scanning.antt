@@ -19,7 +19,8 @@ pub record Report : Type 0 where
   pub filter_columns : List Bytes
   pub projection_columns : List Bytes
 
--- a store as a scan sees it: its zones, its table where it tells it, its reads, its faults, the last read that failed, and whether it is known to count no fault
+-- a store as a scan sees it: its zones, its table where it tells it, its reads, its faults, the last read that failed, and whether it is known to
+-- count no fault
 pub record Seen : Type 0 where
   pub zones : Zones
   pub held : Option Table

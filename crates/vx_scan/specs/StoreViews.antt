@@ -15,7 +15,8 @@ entry_view e = (e.block, e.name)
 abbrev pub block_view : Vec Column Global → List Column
 block_view block = block.items
 
--- a store in memory: its zones and columns, the numbers of the calls that fail, how many calls there were, the reads, the last read that failed, and how many failed
+-- a store in memory: its zones and columns, the numbers of the calls that fail, how many calls there were, the reads, the last read that failed, and
+-- how many failed
 pub record StoreState : Type 0 where
   pub zones : Zones
   pub blocks : List (List Column)

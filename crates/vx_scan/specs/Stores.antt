@@ -14,7 +14,8 @@ Read = ℕ × Bytes
 -- where the table is told, its columns are the zones', its blocks have as many rows as the zones say, and each row is one of the row type
 abbrev pub AgreesWith : Zones → Option Table → Type 0
 AgreesWith zones None = Unit {0}
-AgreesWith zones (Some table) = (table.columns ≡ zones.columns) × (map length table.blocks ≡ zones.lengths) × (list_all (rows_fit (row_type zones.columns)) table.blocks ≡ true)
+AgreesWith zones (Some table) = (table.columns ≡ zones.columns) × (map length table.blocks ≡ zones.lengths)
+    × (list_all (rows_fit (row_type zones.columns)) table.blocks ≡ true)
 
 -- where the table is told, the values are those of the column at the rows of the block
 abbrev pub AreHeld : Option Table → ℕ → Bytes → List Val → Type 0

@@ -36,8 +36,12 @@ pub(crate) fn scan_block<S: ColumnStore>(
     requires fit { values_fit i64_ty rows.old.items ≡ true }
     ensures same { let seen = seen_by S.zoned S.held S.log S.faults S.failed S.faultless in IsSameStore (seen store.old) (seen store.new) }
     ensures faults { let seen = seen_by S.zoned S.held S.log S.faults S.failed S.faultless in IsToldFault block (seen store.old) (seen store.new) result }
-    ensures reads { (table : Table) → S.held store.old ≡ Some table → table.columns ≡ (S.zoned store.old).columns → (b : List Val) → slice_get table.blocks block ≡ Some b → ReadsOf block (block_reads (row_type table.columns) [] (filter_of plan.now) (projection_of plan.now) (block, b)) (S.log store.old) (S.log store.new) (S.failed store.new) result }
-    ensures rows { (table : Table) → S.held store.old ≡ Some table → table.columns ≡ (S.zoned store.old).columns → (b : List Val) → slice_get table.blocks block ≡ Some b → IfOk result (λ _. seen_rows i64_ty rows.new.items ≡ seen_rows i64_ty rows.old.items ++ block_rows (row_type table.columns) [] (filter_of plan.now) (projection_of plan.now) b) }
+    ensures reads { (table : Table) → S.held store.old ≡ Some table → table.columns ≡ (S.zoned store.old).columns → (b : List Val) →
+        slice_get table.blocks block ≡ Some b → ReadsOf block (block_reads (row_type table.columns) [] (filter_of plan.now) (projection_of plan.now)
+        (block, b)) (S.log store.old) (S.log store.new) (S.failed store.new) result }
+    ensures rows { (table : Table) → S.held store.old ≡ Some table → table.columns ≡ (S.zoned store.old).columns → (b : List Val) →
+        slice_get table.blocks block ≡ Some b → IfOk result (λ _. seen_rows i64_ty rows.new.items ≡ seen_rows i64_ty rows.old.items
+        ++ block_rows (row_type table.columns) [] (filter_of plan.now) (projection_of plan.now) b) }
     ensures fit { IfOk result (λ _. values_fit i64_ty rows.new.items ≡ true) }
 {
     let column = store.read(block, &plan.column)?;
@@ -66,8 +70,10 @@ fn project<S: ColumnStore>(
     requires lengths { slice_get (S.zoned store.old).lengths block ≡ Some (length matches.now.keep.rows) }
     ensures same { let seen = seen_by S.zoned S.held S.log S.faults S.failed S.faultless in IsSameStore (seen store.old) (seen store.new) }
     ensures faults { let seen = seen_by S.zoned S.held S.log S.faults S.failed S.faultless in IsToldFault block (seen store.old) (seen store.new) result }
-    ensures reads { ReadsOf block (cond (bytes_eq plan.now.projected plan.now.column) [] ((block, plan.now.projected) ∷ [])) (S.log store.old) (S.log store.new) (S.failed store.new) result }
-    ensures rows { IfOk result (λ _. (vs : List Val) × KeptOf (S.held store.old) block plan.now.projected matches.now.keep.rows vs × (seen_rows i64_ty rows.new.items ≡ seen_rows i64_ty rows.old.items ++ vs)) }
+    ensures reads { ReadsOf block (cond (bytes_eq plan.now.projected plan.now.column) [] ((block, plan.now.projected) ∷ [])) (S.log store.old)
+        (S.log store.new) (S.failed store.new) result }
+    ensures rows { IfOk result (λ _. (vs : List Val) × KeptOf (S.held store.old) block plan.now.projected matches.now.keep.rows vs
+        × (seen_rows i64_ty rows.new.items ≡ seen_rows i64_ty rows.old.items ++ vs)) }
     ensures fit { IfOk result (λ _. values_fit i64_ty rows.new.items ≡ true) }
 {
     if plan.projected == plan.column {

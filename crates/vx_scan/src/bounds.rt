@@ -4,7 +4,6 @@ ghost use Rattle.std.specs.List.{list_all, find, slice_get};
 ghost use Rattle.vx_dtype.specs.declared.Nullability.TheVariants.{NonNullable, Nullable};
 ghost use Rattle.vx_dtype.specs.declared.Stat.TheVariants.{Min, Max};
 ghost use Rattle.vx_dtype.specs.Equal.{ty_eq};
-ghost use Rattle.vx_dtype.specs.Order.{meets};
 ghost use Rattle.vx_dtype.specs.RawViews.{raw_view};
 ghost use Rattle.vx_dtype.specs.TypeRules.{with_nullability};
 ghost use Rattle.vx_dtype.specs.Values.{value_of};
@@ -17,7 +16,6 @@ ghost use Rattle.vx_scan.specs.FirstForm.{i64_ty, are_plain_zones};
 ghost use Rattle.vx_scan.specs.Planning.{filter_of, IsPlan};
 
 use crate::plans::Plan;
-use std::cmp::Ordering;
 use vx_dtype::{CompareOperator, Field, FieldName, Scalar, ScalarValue, Stat};
 use vx_prune::{ZoneMap, ZoneStat};
 
@@ -67,21 +65,7 @@ fn known_compare(operator: CompareOperator, left: Option<i128>, right: Option<i1
     let Some(right) = right else {
         return false;
     };
-    holds(operator, left.cmp(&right))
-}
-
-/// Whether a comparison holds of numbers that stand so.
-fn holds(operator: CompareOperator, order: Ordering) -> bool
-    ensures { result ≡ meets operator order }
-{
-    match operator {
-        CompareOperator::Eq => order.is_eq(),
-        CompareOperator::NotEq => order.is_ne(),
-        CompareOperator::Gt => order.is_gt(),
-        CompareOperator::Gte => order.is_ge(),
-        CompareOperator::Lt => order.is_lt(),
-        CompareOperator::Lte => order.is_le(),
-    }
+    operator.holds(left.cmp(&right))
 }
 
 /// The known bound of a column in a block.

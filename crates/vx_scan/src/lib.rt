@@ -8,13 +8,9 @@ mod matches;
 mod memory_store;
 mod plans;
 mod reports;
-#[cfg(test)]
-mod scan_tests;
 mod scans;
 mod stores;
 mod tables;
-#[cfg(test)]
-mod tests;
 
 pub use errors::{ScanError, StoreError, TableError};
 pub use memory_store::MemoryStore;

@@ -53,7 +53,13 @@ fn repeated(alloc: Global, constant: &Scalar, len: usize) -> Mem<ColumnRef>
 {
     match ColumnRef::constant(alloc, constant, len) {
         Ok(column) => Ok(column),
-        Err(_) => Err(NoMemory),
+        Err(ColumnError::NoMemory) => Err(NoMemory),
+        Err(ColumnError::WrongLength) => unreachable!(),
+        Err(ColumnError::WrongValue) => unreachable!(),
+        Err(ColumnError::DuplicateField) => unreachable!(),
+        Err(ColumnError::UnknownField) => unreachable!(),
+        Err(ColumnError::Overflow) => unreachable!(),
+        Err(ColumnError::BadCast) => unreachable!(),
     }
 }
 

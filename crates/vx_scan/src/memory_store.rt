@@ -42,9 +42,19 @@ impl Model for MemoryStore {
     ghost use Rattle.vx_scan.specs.StoreViews.{block_view, entry_view};
     ghost use Rattle.vx_scan.specs.Blocks.{have_lengths, have_types, block_fits};
 
-    ghost view = { λ s. record { zones = s.zones; blocks = map block_view s.blocks.items; listed = s.fail.items; calls = s.calls; reads = map entry_view s.log.items; failed = option_map entry_view s.failed; faults = s.faults } };
+    ghost view = { λ s. record {
+      zones = s.zones;
+      blocks = map block_view s.blocks.items;
+      listed = s.fail.items;
+      calls = s.calls;
+      reads =
+          map entry_view s.log.items;
+      failed = option_map entry_view s.failed;
+      faults = s.faults;
+    } };
 
-    ghost invariant = { λ s. (have_lengths s.zones (map block_view s.blocks.items) ≡ true) × (have_types s.zones (map block_view s.blocks.items) ≡ true) × (list_all block_fits (map block_view s.blocks.items) ≡ true) };
+    ghost invariant = { λ s. (have_lengths s.zones (map block_view s.blocks.items) ≡ true) × (have_types s.zones (map block_view s.blocks.items) ≡ true)
+        × (list_all block_fits (map block_view s.blocks.items) ≡ true) };
 }
 
 impl MemoryStore {

@@ -114,7 +114,11 @@ fn expression(alloc: Global, registry: &ExprRegistry, bytes: &[u8]) -> Mem<Optio
     match read_tree(alloc, bytes) {
         Ok(tree) => built(alloc, registry, &tree),
         Err(WireError::NoMemory) => Err(NoMemory),
-        Err(_) => Ok(None),
+        Err(WireError::BadWire) => Ok(None),
+        Err(WireError::TooDeep) => Ok(None),
+        Err(WireError::TooManyNodes) => Ok(None),
+        Err(WireError::TooLong) => Ok(None),
+        Err(WireError::NotSerializable) => Ok(None),
     }
 }
 

@@ -46,12 +46,18 @@ pub fn scan<S: ColumnStore>(
     store: &mut S,
 ) -> Result<ScanReport, ScanError>
     ensures same { let seen = seen_by S.zoned S.held S.log S.faults S.failed S.faultless in IsSameStore (seen store.old) (seen store.new) }
-    ensures report { let seen = seen_by S.zoned S.held S.log S.faults S.failed S.faultless in IfOk result (λ report. (f : Tree) × (p : Tree) × IsAsked (registered registry.now) (S.zoned store.old) filter.now projection.now f p × IsReport f p (seen store.old) (seen store.new) (report_view report)) }
+    ensures report { let seen = seen_by S.zoned S.held S.log S.faults S.failed S.faultless in IfOk result
+        (λ report. (f : Tree) × (p : Tree) × IsAsked (registered registry.now) (S.zoned store.old) filter.now projection.now f p
+        × IsReport f p (seen store.old) (seen store.new) (report_view report)) }
     ensures fit { IfOk result (λ report. raws_fit (type_view report.dtype) report.rows ≡ true) }
-    ensures not_built { IsErrOf result ScanError.NotBuilt → (f p : Tree) → ¬ (IsAsked (registered registry.now) (S.zoned store.old) filter.now projection.now f p) }
+    ensures not_built { IsErrOf result ScanError.NotBuilt → (f p : Tree) →
+        ¬ (IsAsked (registered registry.now) (S.zoned store.old) filter.now projection.now f p) }
     ensures unread { IsErrOf result ScanError.NotBuilt → (S.log store.new ≡ S.log store.old) × (S.failed store.new ≡ S.failed store.old) }
-    ensures store_fault { let seen = seen_by S.zoned S.held S.log S.faults S.failed S.faultless in IsErrOf result ScanError.StoreFault → (f : Tree) × (p : Tree) × IsAsked (registered registry.now) (S.zoned store.old) filter.now projection.now f p × IsStoreFault f p (seen store.old) (seen store.new) }
-    ensures no_memory { let seen = seen_by S.zoned S.held S.log S.faults S.failed S.faultless in IsErrOf result ScanError.NoMemory → IsOutOfMemory (seen store.old) (seen store.new) (IsAsked (registered registry.now) (S.zoned store.old) filter.now projection.now) }
+    ensures store_fault { let seen = seen_by S.zoned S.held S.log S.faults S.failed S.faultless in IsErrOf result ScanError.StoreFault → (f : Tree)
+        × (p : Tree) × IsAsked (registered registry.now) (S.zoned store.old) filter.now projection.now f p
+        × IsStoreFault f p (seen store.old) (seen store.new) }
+    ensures no_memory { let seen = seen_by S.zoned S.held S.log S.faults S.failed S.faultless in IsErrOf result ScanError.NoMemory →
+        IsOutOfMemory (seen store.old) (seen store.new) (IsAsked (registered registry.now) (S.zoned store.old) filter.now projection.now) }
 {
     let zones = store.zones();
     let Some(plan) = asked_plan(alloc, registry, zones, filter, projection)? else {
@@ -73,10 +79,14 @@ fn scan_blocks<S: ColumnStore>(
     requires planned { IsPlan (S.zoned store.old) plan.now }
     ensures rules { broken_rule (S.zoned store.old) ≡ None }
     ensures same { let seen = seen_by S.zoned S.held S.log S.faults S.failed S.faultless in IsSameStore (seen store.old) (seen store.new) }
-    ensures scanned { let seen = seen_by S.zoned S.held S.log S.faults S.failed S.faultless in IfOk result (λ found. IsScannedTo (filter_of plan.now) (projection_of plan.now) (length (S.zoned store.old).lengths) (seen store.old) (seen store.new) (seen_rows i64_ty found.rows.items) found.kept.items found.skipped.items) }
+    ensures scanned { let seen = seen_by S.zoned S.held S.log S.faults S.failed S.faultless in IfOk result
+        (λ found. IsScannedTo (filter_of plan.now) (projection_of plan.now) (length (S.zoned store.old).lengths) (seen store.old) (seen store.new)
+        (seen_rows i64_ty found.rows.items) found.kept.items found.skipped.items) }
     ensures fit { IfOk result (λ found. values_fit i64_ty found.rows.items ≡ true) }
-    ensures fault { let seen = seen_by S.zoned S.held S.log S.faults S.failed S.faultless in IsErrOf result StoreError.Failed → IsStoreFault (filter_of plan.now) (projection_of plan.now) (seen store.old) (seen store.new) }
-    ensures broken { let seen = seen_by S.zoned S.held S.log S.faults S.failed S.faultless in IsErrOf result StoreError.NoMemory → IsBrokenOff (filter_of plan.now) (projection_of plan.now) (seen store.old) (seen store.new) }
+    ensures fault { let seen = seen_by S.zoned S.held S.log S.faults S.failed S.faultless in IsErrOf result StoreError.Failed →
+        IsStoreFault (filter_of plan.now) (projection_of plan.now) (seen store.old) (seen store.new) }
+    ensures broken { let seen = seen_by S.zoned S.held S.log S.faults S.failed S.faultless in IsErrOf result StoreError.NoMemory →
+        IsBrokenOff (filter_of plan.now) (projection_of plan.now) (seen store.old) (seen store.new) }
 {
     let mut found = Found {
         rows: Vec::new(alloc),
@@ -103,7 +113,11 @@ fn scan_next<S: ColumnStore>(
     requires fit { values_fit i64_ty found.old.rows.items ≡ true }
     ensures same { let seen = seen_by S.zoned S.held S.log S.faults S.failed S.faultless in IsSameStore (seen store.old) (seen store.new) }
     ensures fit { IfOk result (λ _. values_fit i64_ty found.new.rows.items ≡ true) }
-    ensures leaves { let seen = seen_by S.zoned S.held S.log S.faults S.failed S.faultless in (start : Seen) → IsScannedTo (filter_of plan.now) (projection_of plan.now) block start (seen store.old) (seen_rows i64_ty found.old.rows.items) found.old.kept.items found.old.skipped.items → Leaves (filter_of plan.now) (projection_of plan.now) (block + 1) start (seen store.new) (seen_rows i64_ty found.new.rows.items) found.new.kept.items found.new.skipped.items result }
+    ensures leaves { let seen = seen_by S.zoned S.held S.log S.faults S.failed S.faultless in (start : Seen) →
+        IsScannedTo (filter_of plan.now) (projection_of plan.now) block start (seen store.old)
+        (seen_rows i64_ty found.old.rows.items) found.old.kept.items found.old.skipped.items →
+        Leaves (filter_of plan.now) (projection_of plan.now) (block + 1) start (seen store.new)
+        (seen_rows i64_ty found.new.rows.items) found.new.kept.items found.new.skipped.items result }
 {
     if is_ruled_out(store.zones(), block, plan) {
         found.skipped.push(block)?;

@@ -2,7 +2,7 @@ use Rattle.std.proofs.Common.{◌≡◌, map, drop}
 use Rattle.std.specs.List.{list_all}
 use Rattle.vx_query.specs.Requests.{is_rectangle}
 use Rattle.vx_query.specs.RequestViews.{block_view}
-use Rattle.vx_query.proofs.asked.are_rectangles.Given as goal
+use Rattle.vx_query.proofs.requests.are_rectangles.Given as goal
 
 -- what is left to test
 abbrev pub invariant-loop-block : goal.invariant-loop-block

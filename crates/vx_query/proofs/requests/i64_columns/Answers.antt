@@ -1,9 +1,10 @@
 -- The fields of the names beside as many types of i64 are the columns of i64.
 use Rattle.std.proofs.Common.{◌≡◌, length, replicate, ap, ◌∙◌, arith}
 use Rattle.std.proofs.lemmas.Result.{IfOk-weaker}
-use Rattle.vx_query.specs.Requests.{i64_ty}
+use Rattle.vx_query.specs.Requests.{}
+use Rattle.vx_scan.specs.FirstForm.{i64_ty}
 use Rattle.vx_query.proofs.ColumnLemmas.{i64_columns_made}
-use Rattle.vx_query.proofs.asked.i64_columns.Goals as goal
+use Rattle.vx_query.proofs.requests.i64_columns.Goals as goal
 
 pub returns : goal.returns
 returns c =

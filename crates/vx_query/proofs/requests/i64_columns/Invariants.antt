@@ -1,7 +1,8 @@
 use Rattle.std.proofs.Common.{◌≡◌, map, replicate, length}
 use Rattle.vx_dtype.specs.TypeViews.{type_view}
-use Rattle.vx_query.specs.Requests.{i64_ty}
-use Rattle.vx_query.proofs.asked.i64_columns.Given as goal
+use Rattle.vx_query.specs.Requests.{}
+use Rattle.vx_scan.specs.FirstForm.{i64_ty}
+use Rattle.vx_query.proofs.requests.i64_columns.Given as goal
 
 -- the types so far are that of i64, as many as were counted
 abbrev pub invariant-loop : goal.invariant-loop

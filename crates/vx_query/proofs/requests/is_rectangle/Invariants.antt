@@ -1,7 +1,7 @@
 use Rattle.std.proofs.Common.{◌≡◌, ◌==◌, map, drop, length}
 use Rattle.std.specs.List.{list_all}
 use Rattle.vx_query.specs.RequestViews.{numbers_view}
-use Rattle.vx_query.proofs.asked.is_rectangle.Given as goal
+use Rattle.vx_query.proofs.requests.is_rectangle.Given as goal
 
 -- what is left to test
 abbrev pub invariant-loop-values : goal.invariant-loop-values

@@ -1,7 +1,7 @@
 use Rattle.std.proofs.Common.{◌≡◌, ◌+◌, ◌≤◌, map, take, drop}
 use Rattle.vx_query.specs.Requests.{rows_number, most_rows}
 use Rattle.vx_query.specs.RequestViews.{block_view}
-use Rattle.vx_query.proofs.asked.lengths_in.Given as goal
+use Rattle.vx_query.proofs.requests.lengths_in.Given as goal
 
 -- the rows so far aren't too many, those left come beside them, and the numbers so far are those of the blocks
 abbrev pub invariant-loop-block : goal.invariant-loop-block

@@ -2,7 +2,7 @@
 use Rattle.std.proofs.Common.{◌∙◌, sym}
 use Rattle.serde_json.specs.Read.{read}
 use Rattle.vx_query.proofs.TextLemmas.{read_of_text, none_of_text}
-use Rattle.vx_query.proofs.asked.value_in.Goals as goal
+use Rattle.vx_query.proofs.requests.value_in.Goals as goal
 
 pub returns-in-Ok : goal.returns-in-Ok
 returns-in-Ok c = sym (read_of_text c.args.input.now (read c.args.input.now) c.in-Ok.ensures.ok.0 ∙ c.in-Ok.ensures.ok.1)
