@@ -1,6 +1,6 @@
 // Whether a type has the null.
 ghost use Rattle.std.specs.Prelude.{◌≡◌, Some};
-ghost use Rattle.vx_dtype.specs.TypeRules.{null_number, null_numbered, union};
+ghost use Rattle.vx_dtype.specs.TypeRules.{is_nullable, null_number, null_numbered, union};
 ghost use Rattle.vx_dtype.specs.Texts.{nullability_text};
 
 use std::fmt;
@@ -10,6 +10,18 @@ use std::fmt;
 pub enum Nullability {
     NonNullable,
     Nullable,
+}
+
+impl From<bool> for Nullability {
+    ghost from_gives = { λ nullable n. is_nullable n ≡ nullable };
+
+    fn from(nullable: bool) -> Nullability {
+        if nullable {
+            Nullability::Nullable
+        } else {
+            Nullability::NonNullable
+        }
+    }
 }
 
 impl Nullability {

@@ -12,3 +12,8 @@ AnswersBy view refusal value (Err e) = (e ≡ refusal) × (value ≡ None)
 -- the same of a value that is seen as it is
 abbrev pub Answers : {A : Type 0} → ExprError → Option A → Result A ExprError → Type 0
 Answers refusal value answer = AnswersBy (λ x. x) refusal value answer
+
+-- the answer of a call that takes no memory: the value, or the refusal where there is no value
+abbrev pub Exactly : {A : Type 0} → ExprError → Option A → Result A ExprError → Type 0
+Exactly refusal (Some x) answer = answer ≡ Ok x
+Exactly refusal None answer = answer ≡ Err refusal

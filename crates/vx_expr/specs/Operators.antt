@@ -1,5 +1,5 @@
 -- The tables of the operators.
-use Rattle.std.specs.Prelude.{ℕ, zero, suc, Option, Some, None, option_map}
+use Rattle.std.specs.Prelude.{ℕ, zero, suc, Option, Some, None, option_map, ℤ, pos, negsuc}
 use Rattle.vx_dtype.specs.declared.CompareOperator.{CompareOperator}
 use Rattle.vx_dtype.specs.declared.BetweenOptions.{BetweenOptions}
 use Rattle.vx_dtype.specs.Order.{bound_operator}
@@ -32,6 +32,11 @@ operator_numbered (suc (suc (suc (suc (suc (suc (suc zero))))))) = Some Operator
 operator_numbered (suc (suc (suc (suc (suc (suc (suc (suc zero)))))))) = Some Operator.Add
 operator_numbered (suc (suc (suc (suc (suc (suc (suc (suc (suc zero))))))))) = Some Operator.Sub
 operator_numbered (suc (suc (suc (suc (suc (suc (suc (suc (suc (suc n)))))))))) = None
+
+-- the operator of an integer, none below 0 and from 10 on
+abbrev pub operator_of_integer : ℤ → Option Operator
+operator_of_integer (pos n) = operator_numbered n
+operator_of_integer (negsuc n) = None
 
 -- the comparison that an operator is, none for the last four
 abbrev pub comparison_of : Operator → Option CompareOperator

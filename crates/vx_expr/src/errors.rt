@@ -20,6 +20,12 @@ pub enum ExprError {
     /// Exactly where a name isn't among the names.
     #[error("UnknownField")]
     UnknownField,
+    /// Exactly where a number is none of an operator.
+    #[error("UnknownOperator")]
+    UnknownOperator,
+    /// Exactly where an operator is no comparison.
+    #[error("NotComparison")]
+    NotComparison,
 }
 
 impl From<AllocError> for ExprError {

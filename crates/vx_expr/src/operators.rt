@@ -1,9 +1,13 @@
 // The operators of a binary expression.
-ghost use Rattle.std.specs.Prelude.{◌≡◌, Some};
+ghost use Rattle.std.specs.Prelude.{◌≡◌, Some, pos};
 ghost use Rattle.std.specs.Ordering.{nat_cmp};
-ghost use Rattle.vx_expr.specs.Operators.{operator_number, operator_numbered, operator_of, comparison_of, inverse_of, logical_inverse_of, swapped};
+ghost use Rattle.vx_expr.specs.Operators.{operator_number, operator_numbered, operator_of_integer, operator_of, comparison_of, inverse_of, logical_inverse_of, swapped};
 ghost use Rattle.vx_expr.specs.OperatorTexts.{operator_text};
 
+ghost use Rattle.vx_expr.specs.Answers.{Exactly};
+ghost use Rattle.vx_expr.specs.declared.errors.ExprError.TheVariants.{UnknownOperator, NotComparison};
+
+use crate::errors::ExprError;
 use std::fmt;
 use vx_dtype::CompareOperator;
 
@@ -122,6 +126,39 @@ impl Operator {
 pub fn operators_order_by_number(left: Operator, right: Operator)
     ensures { ⟦<Operator as PartialOrd>⟧.partial_cmp left right ≡ Some (nat_cmp (operator_number left) (operator_number right)) }
 {}
+
+impl From<Operator> for i32 {
+    ghost from_gives = { λ operator number. number ≡ pos (operator_number operator) };
+
+    fn from(operator: Operator) -> i32 {
+        i32::from(operator.number())
+    }
+}
+
+impl TryFrom<i32> for Operator {
+    type Error = ExprError;
+
+    ghost try_from_gives = { λ number answer. Exactly UnknownOperator (operator_of_integer number) answer };
+
+    fn try_from(number: i32) -> Result<Operator, ExprError> {
+        match u8::try_from(number) {
+            Ok(number) => Operator::from_number(number).ok_or(ExprError::UnknownOperator),
+            Err(_) => Err(ExprError::UnknownOperator),
+        }
+    }
+}
+
+impl TryFrom<Operator> for CompareOperator {
+    type Error = ExprError;
+
+    ghost try_from_gives = { λ operator answer. Exactly NotComparison (comparison_of operator) answer };
+
+    fn try_from(operator: Operator) -> Result<CompareOperator, ExprError> {
+        operator
+            .maybe_cmp_operator()
+            .ok_or(ExprError::NotComparison)
+    }
+}
 
 impl From<CompareOperator> for Operator {
     ghost from_gives = { λ comparison operator. operator ≡ operator_of comparison };
