@@ -1,5 +1,6 @@
 -- The compact text of an expression, one line for each kind.
 use Rattle.std.specs.Prelude.{[], ◌++◌, List, ◌∷◌, codes}
+use Rattle.vx_dtype.specs.declared.StrictComparison.{StrictComparison}
 use Rattle.vx_dtype.specs.Types.{Bytes}
 use Rattle.vx_dtype.specs.Order.{bound_operator}
 use Rattle.vx_dtype.specs.ScalarTexts.{scalar_text}
@@ -7,7 +8,12 @@ use Rattle.vx_dtype.specs.Texts.{ty_text, nullability_text}
 use Rattle.vx_dtype.specs.Texts as comparisons
 use Rattle.vx_expr.specs.OperatorTexts.{operator_text}
 use Rattle.vx_expr.specs.SelectionTexts.{selection_text}
-use Rattle.vx_expr.specs.Trees.{Tree, root, literal, get_item, binary, not_of, is_null_of, like, between, cast, list_contains, pack, merge, select, dynamic, Trees, no_trees, tree}
+use Rattle.vx_expr.specs.Trees.{Tree, root, literal, get_item, binary, not_of, is_null_of, like, between, cast}
+use Rattle.vx_expr.specs.Trees.{list_contains, pack, merge, select, dynamic, Trees, no_trees, tree}
+
+-- the comparison between a bound and the value, with a space on each side
+abbrev pub bound_text : StrictComparison → Bytes
+bound_text strictness = codes " " ++ (comparisons.operator_text (bound_operator strictness) ++ codes " ")
 
 unfoldable mutual
   -- the text that Display writes
@@ -21,9 +27,7 @@ unfoldable mutual
   compact_text (is_null_of e) = codes "is_null(" ++ (compact_text e ++ codes ")")
   compact_text (like e p negated fold_case) = compact_text e ++ (codes " LIKE " ++ compact_text p)
   compact_text (between e lower upper options) =
-      codes "(" ++ (compact_text lower ++ (codes " " ++ (comparisons.operator_text (bound_operator options.lower_strict) ++ (codes " "
-      ++ (compact_text e ++ (codes " " ++ (comparisons.operator_text (bound_operator options.upper_strict) ++ (codes " "
-      ++ (compact_text upper ++ codes ")")))))))))
+      codes "(" ++ (compact_text lower ++ (bound_text options.lower_strict ++ (compact_text e ++ (bound_text options.upper_strict ++ (compact_text upper ++ codes ")")))))
   compact_text (cast e t) = codes "cast(" ++ (compact_text e ++ (codes ", " ++ (ty_text t ++ codes ")")))
   compact_text (list_contains l v) = codes "contains(" ++ (compact_text l ++ (codes ", " ++ (compact_text v ++ codes ")")))
   compact_text (pack names es n) = codes "pack(" ++ (named_texts [] names es ++ (codes ")" ++ nullability_text n))

@@ -45,7 +45,8 @@ strictness_text StrictComparison.NonStrict = codes " (NonStrict)"
 
 -- the names of a range's children: the value, and each bound with its own strictness
 abbrev pub bound_names : BetweenOptions → List Bytes
-bound_names options = codes "array" ∷ (codes "lower" ++ strictness_text options.lower_strict) ∷ (codes "upper" ++ strictness_text options.upper_strict) ∷ []
+bound_names options =
+    codes "array" ∷ (codes "lower" ++ strictness_text options.lower_strict) ∷ (codes "upper" ++ strictness_text options.upper_strict) ∷ []
 
 -- the names of the children in order, where the kind has some
 abbrev pub child_names_of : Tree → Option (List Bytes)

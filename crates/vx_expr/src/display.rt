@@ -2,12 +2,11 @@
 ghost use Rattle.std.specs.Prelude.{◌≡◌, Some, [], ◌++◌, codes, IfOk};
 ghost use Rattle.std.specs.Fmt.{WritesOnOk};
 ghost use Rattle.std.specs.String.{string_bytes};
-ghost use Rattle.vx_dtype.specs.Order.{bound_operator};
-ghost use Rattle.vx_dtype.specs.Texts.{operator_text};
 ghost use Rattle.vx_expr.specs.Trees.{trees_of};
-ghost use Rattle.vx_expr.specs.Nodes.{node_tree, between_tree, binary_tree, cast_tree, contains_tree, dynamic_tree, item_tree, like_tree, merge_tree, select_tree};
+ghost use Rattle.vx_expr.specs.Nodes.{node_tree, between_tree, binary_tree, cast_tree, contains_tree};
+ghost use Rattle.vx_expr.specs.Nodes.{dynamic_tree, item_tree, like_tree, merge_tree, select_tree};
 ghost use Rattle.vx_expr.specs.Packed.{pack_tree};
-ghost use Rattle.vx_expr.specs.CompactTexts.{compact_text, listed_texts, named_texts};
+ghost use Rattle.vx_expr.specs.CompactTexts.{compact_text, bound_text, listed_texts, named_texts};
 
 use crate::expressions::{Expr, ExprRef};
 use crate::exprs::between::BetweenExpr;
@@ -144,7 +143,7 @@ fn write_before<W: fmt::Write>(
     strictness: StrictComparison,
     f: &mut fmt::Formatter<W>,
 ) -> fmt::Result
-    ensures { WritesOnOk W.write_str_gives f.old result (compact_text expr.now ++ (codes " " ++ (operator_text (bound_operator strictness) ++ codes " "))) f.new }
+    ensures { WritesOnOk W.write_str_gives f.old result (compact_text expr.now ++ bound_text strictness) f.new }
 {
     write_expr(expr, f)?;
     write!(f, " {} ", strictness.to_operator())

@@ -1,5 +1,5 @@
 // The text of a node alone, as a tree shows it, and the names of its children.
-ghost use Rattle.std.specs.Prelude.{◌≡◌, [], ◌∷◌, ◌++◌, codes, map, option_map, List, Option, IfOk};
+ghost use Rattle.std.specs.Prelude.{◌≡◌, [], ◌∷◌, map, option_map, IfOk};
 ghost use Rattle.std.specs.Fmt.{WritesOnOk};
 ghost use Rattle.std.specs.String.{string_bytes};
 ghost use Rattle.vx_expr.specs.Trees as trees;
@@ -30,8 +30,8 @@ pub trait DisplayAs {
     fn fmt_as<W: fmt::Write>(&self, df: DisplayFormat, f: &mut fmt::Formatter<W>) -> fmt::Result
         ensures { WritesOnOk W.write_str_gives f.old result (text_as df (tree self.now)) f.new };
 
-    /// The names of the children in order, and None exactly where the kind names none: for all kinds but binary, like, between,
-    /// list_contains and pack.
+    /// The names of the children in order, and None exactly where the kind names none: binary, like, between, list_contains and pack
+    /// name their children, the others do not.
     fn child_names(&self, alloc: Global) -> Mem<Option<Vec<String>>>
         ensures { IfOk result (λ names. option_map (λ list. map string_bytes list.items) names ≡ child_names_of (tree self.now)) };
 }
