@@ -1,2 +1,5 @@
 pub mod RowLemmas
 pub mod ValueLemmas
+pub mod TreeLemmas
+mod NameLemmas
+mod PrefixLemmas

@@ -1,3 +1,4 @@
 pub mod RowTexts
 pub mod ValueTexts
 pub mod TreeTexts
+pub mod TreeLines

@@ -1,8 +1,9 @@
 -- The text of an expression as a tree: a line for each node, its children below it, each behind a branch.
-use Rattle.std.specs.Prelude.{ℕ, [], ◌++◌, List, ◌∷◌, Option, Some, None, codes}
+use Rattle.std.specs.Prelude.{[], ◌++◌, List, ◌∷◌, Option, Some, None, codes}
 use Rattle.vx_dtype.specs.Types.{Bytes}
 use Rattle.vx_expr.specs.NodeTexts.{node_text, child_names_of}
-use Rattle.vx_expr.specs.Trees.{Tree, root, literal, get_item, binary, not_of, is_null_of, like, between, cast, list_contains, pack, merge, select, dynamic, Trees, no_trees, tree}
+use Rattle.vx_expr.specs.Trees.{Tree, root, literal, get_item, binary, not_of, is_null_of, like, between, cast}
+use Rattle.vx_expr.specs.Trees.{list_contains, pack, merge, select, dynamic, Trees, no_trees, tree}
 
 -- the bytes of `├── `, of `└── ` and of `│   `
 abbrev pub middle_branch : Bytes

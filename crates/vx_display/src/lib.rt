@@ -1,6 +1,10 @@
 //! Expressions and rows as texts.
 #![tactic(auto)]
 
+mod field_names;
 mod rows;
+mod trees;
 
-pub use rows::row_text;
+pub use field_names::DisplayFieldNames;
+pub use rows::{push_row, row_text};
+pub use trees::{DisplayTreeExpr, display_tree, tree_text};

@@ -15,14 +15,22 @@ use vx_dtype::{DType, Mem, Quoted, ScalarValue, StructFields};
 
 /// A value of a type as a text in the form of JSON, without spaces: `null`, `true`, a decimal number, a text within quotes, `[v,v]`,
 /// `{"name":v,"name":v}` in the order of the type's fields.
-#[tactic(auto, using(crate::proofs::ValueLemmas::row_text_of_valued))]
 pub fn row_text(alloc: Global, dtype: &DType, value: &ScalarValue) -> Mem<String>
     requires { fits (raw_view value.now) (type_view dtype.now) ≡ true }
     ensures { IfOk result (λ text. string_bytes text ≡ value_text (valued (raw_view value.now) (type_view dtype.now))) }
 {
     let mut text = String::new(alloc);
-    push_value(&mut text, value, dtype)?;
+    push_row(&mut text, dtype, value)?;
     Ok(text)
+}
+
+/// The same text behind what stands in the buffer, so that many rows are written into one.
+#[tactic(auto, using(crate::proofs::ValueLemmas::row_text_of_valued))]
+pub fn push_row(out: &mut String, dtype: &DType, value: &ScalarValue) -> Mem<()>
+    requires { fits (raw_view value.now) (type_view dtype.now) ≡ true }
+    ensures { OnOk result (string_bytes out.new ≡ string_bytes out.old ++ value_text (valued (raw_view value.now) (type_view dtype.now))) }
+{
+    push_value(out, value, dtype)
 }
 
 /// Writes the text of a value at the end, as far as there is memory.
