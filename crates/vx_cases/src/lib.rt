@@ -2,5 +2,7 @@
 #![tactic(auto)]
 
 mod prune;
+#[cfg(test)]
 mod query;
+#[cfg(test)]
 mod scan;
