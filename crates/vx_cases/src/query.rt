@@ -6,7 +6,8 @@ use std::process::Abort;
 use std::test::Fail;
 use vx_dtype::FieldName;
 use vx_query::{
-    MemorySink, MemorySource, Source, StdinSource, StdoutSink, decode_request, read_up_to, report_text, run, write_whole,
+    MemorySink, MemorySource, Source, StdinSource, StdoutSink, decode_request, read_up_to,
+    report_text, run, write_whole,
 };
 use vx_scan::MemoryStore;
 
@@ -67,7 +68,13 @@ fn run_over(
     let mut source = MemorySource::new(input, 65536, reads.to_vec(alloc)?);
     let mut sink = MemorySink::new(alloc, 1000, most, writes.to_vec(alloc)?)?;
     let mut used = None;
-    let status = run(alloc, arguments.as_slice(), &mut source, &mut sink, &mut used);
+    let status = run(
+        alloc,
+        arguments.as_slice(),
+        &mut source,
+        &mut sink,
+        &mut used,
+    );
     Ok(Ended {
         status,
         source,
@@ -196,20 +203,10 @@ fn members_of_other_forms_hold_no_scan(rt: HostRuntime) -> Result<(), Fail> {
     for (columns, blocks, stats, held) in [
         (COLUMNS, BLOCKS, "[]", true),
         (COLUMNS, BLOCKS, BOUNDS, true),
-        (
-            "[{\"name\":\"x\",\"type\":\"i32\"}]",
-            BLOCKS,
-            "[]",
-            false,
-        ),
+        ("[{\"name\":\"x\",\"type\":\"i32\"}]", BLOCKS, "[]", false),
         ("[{\"type\":\"i64\"}]", BLOCKS, "[]", false),
         (two, "[{\"rows\":1,\"values\":[[1],[2]]}]", "[]", false),
-        (
-            COLUMNS,
-            "[{\"rows\":1,\"values\":[[\"1\"]]}]",
-            "[]",
-            false,
-        ),
+        (COLUMNS, "[{\"rows\":1,\"values\":[[\"1\"]]}]", "[]", false),
         (
             COLUMNS,
             "[{\"rows\":1,\"values\":[[9223372036854775808]]}]",
@@ -223,12 +220,7 @@ fn members_of_other_forms_hold_no_scan(rt: HostRuntime) -> Result<(), Fail> {
             true,
         ),
         (COLUMNS, "[{\"rows\":2,\"values\":[[1]]}]", "[]", false),
-        (
-            COLUMNS,
-            "[{\"rows\":1,\"values\":[[1],[2]]}]",
-            "[]",
-            false,
-        ),
+        (COLUMNS, "[{\"rows\":1,\"values\":[[1],[2]]}]", "[]", false),
         ("[]", "[{\"rows\":1048577,\"values\":[]}]", "[]", false),
         (
             COLUMNS,

@@ -30,7 +30,8 @@ mutual
   pub members_eq-same : (ms ns : Members) → members_eq ms ns ≡ true → ms ≡ ns
   members_eq-same no_members no_members e = refl
   members_eq-same (member f x ms) (member g y ns) e =
-      λ i. member ((bytes_eq-Decides f g).0 (first_so _ _ e) i) (val_eq-same x y (first_so _ _ (second_so _ _ e)) i) (members_eq-same ms ns (second_so _ _ (second_so _ _ e)) i)
+      λ i. member ((bytes_eq-Decides f g).0 (first_so _ _ e) i) (val_eq-same x y (first_so _ _ (second_so _ _ e)) i)
+      (members_eq-same ms ns (second_so _ _ (second_so _ _ e)) i)
   members_eq-same _ _ e = cc
 
 mutual

@@ -49,7 +49,8 @@ fn cast_rows(
 ) -> Mem<Option<Vec<ScalarValue>>>
     requires pair { takes_cast (type_view source.now) (type_view target.now) ≡ true }
     requires fit { values_fit (type_view source.now) values.now ≡ true }
-    ensures { IfOk result (λ made. GivesUnlessFaulty (type_view target.now) (map (cast3 (type_view target.now)) (seen_rows (type_view source.now) values.now)) (option_map (λ vs. vs.items) made)) }
+    ensures { IfOk result (λ made. GivesUnlessFaulty (type_view target.now)
+        (map (cast3 (type_view target.now)) (seen_rows (type_view source.now) values.now)) (option_map (λ vs. vs.items) made)) }
 {
     let mut made = Vec::with_capacity(alloc, values.len())?;
     for i in 0..values.len() {

@@ -91,7 +91,8 @@ pub fn between(
     requires upper { alike c.now.ty upper.now.ty ≡ true }
     requires lower_length { length c.now.rows ≡ length lower.now.rows }
     requires upper_length { length c.now.rows ≡ length upper.now.rows }
-    ensures dtype { IfOk result (λ made. made.ty ≡ bool_ty (union (nullability_of c.now.ty) (union (nullability_of lower.now.ty) (nullability_of upper.now.ty)))) }
+    ensures dtype { IfOk result (λ made. made.ty ≡ bool_ty (union (nullability_of c.now.ty)
+        (union (nullability_of lower.now.ty) (nullability_of upper.now.ty)))) }
     ensures rows { IfOk result (λ made. made.rows ≡ zip_rows3 (between3 options) c.now.rows lower.now.rows upper.now.rows) }
 {
     let above = compare(alloc, lower, c, options.lower_strict.to_operator())?;

@@ -71,7 +71,8 @@ impl ColumnRef {
 /// The values of a struct's fields, and none of null.
 #[tactic(auto, unfolding(vx_dtype::specs::Fits::fits, vx_dtype::specs::Values::valued))]
 pub(crate) fn parts_of(value: &ScalarValue) -> Option<&[ScalarValue]>
-    ensures { (fs : Fields) (n : Nullability) → fits (raw_view value.now) (struct_ty fs n) ≡ true → PartsOf fs n (seen (struct_ty fs n) value.now) (option_copied result) }
+    ensures { (fs : Fields) (n : Nullability) → fits (raw_view value.now) (struct_ty fs n) ≡ true →
+        PartsOf fs n (seen (struct_ty fs n) value.now) (option_copied result) }
 {
     match value {
         ScalarValue::Struct(values) => Some(values.as_slice()),

@@ -37,8 +37,10 @@ fn like_truth(
     negated: bool,
     case_insensitive: bool,
 ) -> Mem<Option<bool>>
-    ensures value { IfOk result (λ t. truth_val t ≡ like3 negated case_insensitive (text_or_null (option_copied text.entry)) (text_or_null (option_copied pattern.entry))) }
-    ensures fit { (n m : Nullability) → text_or_null_fits n (option_copied text.entry) ≡ true → text_or_null_fits m (option_copied pattern.entry) ≡ true → IfOk result (λ t. truth_fits (union n m) t ≡ true) }
+    ensures value { IfOk result (λ t. truth_val t ≡ like3 negated case_insensitive (text_or_null (option_copied text.entry))
+        (text_or_null (option_copied pattern.entry))) }
+    ensures fit { (n m : Nullability) → text_or_null_fits n (option_copied text.entry) ≡ true → text_or_null_fits m (option_copied pattern.entry) ≡ true →
+        IfOk result (λ t. truth_fits (union n m) t ≡ true) }
 {
     match (text, pattern) {
         (Some(text), Some(pattern)) => {

@@ -100,7 +100,8 @@ fn filter_values(
     requires values { values_fit (type_view dtype.now) values.now ≡ true }
     requires keep { values_fit (bool_ty keeps) keep.now ≡ true }
     ensures fit { IfOk result (λ vs. values_fit (type_view dtype.now) vs.items ≡ true) }
-    ensures values { IfOk result (λ vs. seen_rows (type_view dtype.now) vs.items ≡ kept_rows (seen_rows (type_view dtype.now) values.now) (seen_rows (bool_ty keeps) keep.now)) }
+    ensures values { IfOk result (λ vs. seen_rows (type_view dtype.now) vs.items
+        ≡ kept_rows (seen_rows (type_view dtype.now) values.now) (seen_rows (bool_ty keeps) keep.now)) }
 {
     let mut kept = Vec::new(alloc);
     for i in 0..values.len() {

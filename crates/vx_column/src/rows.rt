@@ -44,7 +44,8 @@ pub(crate) fn zip_values<R: PairRule>(
     requires left { values_fit (R.left rule.now) l.now ≡ true }
     requires right { values_fit (R.right rule.now) r.now ≡ true }
     ensures fit { IfOk result (λ vs. values_fit (R.made rule.now) vs.items ≡ true) }
-    ensures values { IfOk result (λ vs. seen_rows (R.made rule.now) vs.items ≡ zip_rows (R.rule rule.now) (seen_rows (R.left rule.now) l.now) (seen_rows (R.right rule.now) r.now)) }
+    ensures values { IfOk result (λ vs. seen_rows (R.made rule.now) vs.items
+        ≡ zip_rows (R.rule rule.now) (seen_rows (R.left rule.now) l.now) (seen_rows (R.right rule.now) r.now)) }
 {
     let mut made = Vec::with_capacity(alloc, l.len())?;
     for i in 0..l.len() {

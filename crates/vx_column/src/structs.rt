@@ -137,8 +137,10 @@ fn struct_at(
 ) -> Mem<ScalarValue>
     requires rows { All (λ c. i < length c.rows) fields.now }
     requires truths { IfSome (option_copied valid) (λ bs. i < length bs) }
-    ensures fit { (fs : List Bytes) → length fs ≡ length fields.now → IfOk result (λ x. fits (raw_view x) (struct_type fs fields.now (option_copied valid.entry)) ≡ true) }
-    ensures value { (fs : List Bytes) → length fs ≡ length fields.now → IfOk result (λ x. seen (struct_type fs fields.now (option_copied valid.entry)) x ≡ struct_row fs fields.now (option_copied valid.entry) i) }
+    ensures fit { (fs : List Bytes) → length fs ≡ length fields.now → IfOk result
+        (λ x. fits (raw_view x) (struct_type fs fields.now (option_copied valid.entry)) ≡ true) }
+    ensures value { (fs : List Bytes) → length fs ≡ length fields.now →
+        IfOk result (λ x. seen (struct_type fs fields.now (option_copied valid.entry)) x ≡ struct_row fs fields.now (option_copied valid.entry) i) }
 {
     if !is_valid_row(valid, i) {
         return Ok(null());
@@ -162,8 +164,11 @@ fn struct_rows(
 ) -> Mem<Vec<ScalarValue>>
     requires rows { all_have_rows len fields.now ≡ true }
     requires truths { truths_number len (option_copied valid) ≡ true }
-    ensures fit { (fs : List Bytes) → length fs ≡ length fields.now → IfOk result (λ xs. values_fit (struct_type fs fields.now (option_copied valid.entry)) xs.items ≡ true) }
-    ensures values { (fs : List Bytes) → length fs ≡ length fields.now → IfOk result (λ xs. seen_rows (struct_type fs fields.now (option_copied valid.entry)) xs.items ≡ map (struct_row fs fields.now (option_copied valid.entry)) (range_with_len 0 len)) }
+    ensures fit { (fs : List Bytes) → length fs ≡ length fields.now → IfOk result
+        (λ xs. values_fit (struct_type fs fields.now (option_copied valid.entry)) xs.items ≡ true) }
+    ensures values { (fs : List Bytes) → length fs ≡ length fields.now →
+        IfOk result (λ xs. seen_rows (struct_type fs fields.now (option_copied valid.entry)) xs.items
+        ≡ map (struct_row fs fields.now (option_copied valid.entry)) (range_with_len 0 len)) }
 {
     let mut rows = Vec::with_capacity(alloc, len)?;
     for i in 0..len {

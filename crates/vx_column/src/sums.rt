@@ -87,9 +87,11 @@ impl Totals {
     fn at(&self, l: &ScalarValue, r: &ScalarValue) -> Option<ScalarValue>
         requires left { fits (raw_view l.now) (int_ty self.now.ptype self.now.left) ≡ true }
         requires right { fits (raw_view r.now) (int_ty self.now.ptype self.now.right) ≡ true }
-        ensures none { result ≡ None → total3 self.now.total (seen (int_ty self.now.ptype self.now.left) l.now) (seen (int_ty self.now.ptype self.now.right) r.now) ≡ fault }
+        ensures none { result ≡ None → total3 self.now.total (seen (int_ty self.now.ptype self.now.left) l.now)
+            (seen (int_ty self.now.ptype self.now.right) r.now) ≡ fault }
         ensures fit { IfSome result (λ v. fits (raw_view v) (int_ty self.now.ptype (union self.now.left self.now.right)) ≡ true) }
-        ensures value { IfSome result (λ v. seen (int_ty self.now.ptype (union self.now.left self.now.right)) v ≡ total3 self.now.total (seen (int_ty self.now.ptype self.now.left) l.now) (seen (int_ty self.now.ptype self.now.right) r.now)) }
+        ensures value { IfSome result (λ v. seen (int_ty self.now.ptype (union self.now.left self.now.right)) v
+            ≡ total3 self.now.total (seen (int_ty self.now.ptype self.now.left) l.now) (seen (int_ty self.now.ptype self.now.right) r.now)) }
     {
         match (number_of(l), number_of(r)) {
             (Some(a), Some(b)) => within(self.ptype, reckoned(self.total, self.ptype, a, b)),
@@ -108,7 +110,9 @@ fn reckoned_rows(
     requires lengths { length l.now ≡ length r.now }
     requires left { values_fit (int_ty rule.now.ptype rule.now.left) l.now ≡ true }
     requires right { values_fit (int_ty rule.now.ptype rule.now.right) r.now ≡ true }
-    ensures { IfOk result (λ made. GivesUnlessFaulty (int_ty rule.now.ptype (union rule.now.left rule.now.right)) (zip_rows (total3 rule.now.total) (seen_rows (int_ty rule.now.ptype rule.now.left) l.now) (seen_rows (int_ty rule.now.ptype rule.now.right) r.now)) (option_map (λ vs. vs.items) made)) }
+    ensures { IfOk result (λ made. GivesUnlessFaulty (int_ty rule.now.ptype (union rule.now.left rule.now.right))
+        (zip_rows (total3 rule.now.total) (seen_rows (int_ty rule.now.ptype rule.now.left) l.now) (seen_rows (int_ty rule.now.ptype rule.now.right) r.now))
+        (option_map (λ vs. vs.items) made)) }
 {
     let mut made = Vec::with_capacity(alloc, l.len())?;
     for i in 0..l.len() {
@@ -131,7 +135,8 @@ fn reckoned_column(
     requires integers { is_int_ty l.now.ty ≡ true }
     requires same { alike l.now.ty r.now.ty ≡ true }
     requires lengths { length l.now.rows ≡ length r.now.rows }
-    ensures { Answers result (unless_faulty Overflow (column (with_nullability l.now.ty (union (nullability_of l.now.ty) (nullability_of r.now.ty))) (zip_rows (total3 total) l.now.rows r.now.rows))) }
+    ensures { Answers result (unless_faulty Overflow (column (with_nullability l.now.ty (union (nullability_of l.now.ty) (nullability_of r.now.ty)))
+        (zip_rows (total3 total) l.now.rows r.now.rows))) }
 {
     let left = l.dtype().nullability();
     let right = r.dtype().nullability();
@@ -170,7 +175,8 @@ pub fn checked_add(alloc: Global, l: &ColumnRef, r: &ColumnRef) -> Result<Column
     requires integers { is_int_ty l.now.ty ≡ true }
     requires same { alike l.now.ty r.now.ty ≡ true }
     requires lengths { length l.now.rows ≡ length r.now.rows }
-    ensures { Answers result (unless_faulty Overflow (column (with_nullability l.now.ty (union (nullability_of l.now.ty) (nullability_of r.now.ty))) (zip_rows add3 l.now.rows r.now.rows))) }
+    ensures { Answers result (unless_faulty Overflow (column (with_nullability l.now.ty (union (nullability_of l.now.ty) (nullability_of r.now.ty)))
+        (zip_rows add3 l.now.rows r.now.rows))) }
 {
     reckoned_column(alloc, Total::Sum, l, r)
 }
@@ -180,7 +186,8 @@ pub fn checked_sub(alloc: Global, l: &ColumnRef, r: &ColumnRef) -> Result<Column
     requires integers { is_int_ty l.now.ty ≡ true }
     requires same { alike l.now.ty r.now.ty ≡ true }
     requires lengths { length l.now.rows ≡ length r.now.rows }
-    ensures { Answers result (unless_faulty Overflow (column (with_nullability l.now.ty (union (nullability_of l.now.ty) (nullability_of r.now.ty))) (zip_rows sub3 l.now.rows r.now.rows))) }
+    ensures { Answers result (unless_faulty Overflow (column (with_nullability l.now.ty (union (nullability_of l.now.ty) (nullability_of r.now.ty)))
+        (zip_rows sub3 l.now.rows r.now.rows))) }
 {
     reckoned_column(alloc, Total::Difference, l, r)
 }

@@ -26,7 +26,8 @@ Refills {C} elements (Ok m) r = (refilled : C) × (elements refilled ≡ m.value
 
 -- the elements take their step in turn after a value with this order, and the container is refilled
 abbrev pub MapsElements : {S C T E : Type 0} → (C → List T) → RewriteStep S T E → TraversalOrder → RewriteStep S C E
-MapsElements {S} {C} {T} {E} elements Each last s c r t = (q : Walk (Transformed (List T)) E) × MapsInTurn Each (none_after last) s (elements c) q t × Refills elements q r
+MapsElements {S} {C} {T} {E} elements Each last s c r t = (q : Walk (Transformed (List T)) E) × MapsInTurn Each (none_after last) s (elements c) q t
+    × Refills elements q r
 
 -- what is left of a container that is its one element
 abbrev pub left_of_one : {T : Type 0} → Bool → T → List T

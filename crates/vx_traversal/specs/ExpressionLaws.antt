@@ -70,8 +70,17 @@ rebuilt (like e p negated fold_case) cs h = from_two cs h (Rebuilt (like e p neg
 rebuilt (between e lower upper options) cs h = from_three cs h (Rebuilt (between e lower upper options)) (λ b c d. (between b c d options, refl, refl))
 rebuilt (cast e t) cs h = from_one cs h (Rebuilt (cast e t)) (λ c. (cast c t, refl, refl))
 rebuilt (list_contains l v) cs h = from_two cs h (Rebuilt (list_contains l v)) (λ c d. (list_contains c d, refl, refl))
-rebuilt (pack names es n) cs h = (pack names (trees_of cs) n, ap (λ b. where_so b (pack names (trees_of cs) n)) ((unsigned_Decides (length cs) (length (listed es))).1 h), listed_trees_of cs)
-rebuilt (merge es n) cs h = (merge (trees_of cs) n, ap (λ b. where_so b (merge (trees_of cs) n)) ((unsigned_Decides (length cs) (length (listed es))).1 h), listed_trees_of cs)
+rebuilt (pack names es n) cs h = (
+  pack names (trees_of cs) n,
+  ap (λ b. where_so b (pack names (trees_of cs) n))
+      ((unsigned_Decides (length cs) (length (listed es))).1 h),
+  listed_trees_of cs,
+)
+rebuilt (merge es n) cs h = (
+  merge (trees_of cs) n,
+  ap (λ b. where_so b (merge (trees_of cs) n)) ((unsigned_Decides (length cs) (length (listed es))).1 h),
+  listed_trees_of cs,
+)
 rebuilt (select s e) cs h = from_one cs h (Rebuilt (select s e)) (λ c. (select s c, refl, refl))
 rebuilt (dynamic e op k t default) cs h = from_one cs h (Rebuilt (dynamic e op k t default)) (λ c. (dynamic c op k t default, refl, refl))
 

@@ -36,10 +36,12 @@ module _ {S N C R E : Type 0} where
   -- the nodes are folded in turn under one context until one answers Stop or an error; then all results go up in their order
   abbrev pub FoldsInTurn : FoldStep S N C R E → C → (S → List R → Walk (FoldUp R) E → S → Type 0) → List R → S → List N → Walk (FoldUp R) E → S → Type 0
   FoldsInTurn Each c GoesUp results s [] r t = GoesUp s results r t
-  FoldsInTurn Each c GoesUp results s (n ∷ ns) r t = (q : Walk (FoldUp R) E) × (u : S) × Each s c n q u × WithResult (λ x. FoldsInTurn Each c GoesUp (results ++ x ∷ []) u ns r t) q u r t
+  FoldsInTurn Each c GoesUp results s (n ∷ ns) r t = (q : Walk (FoldUp R) E) × (u : S) × Each s c n q u
+      × WithResult (λ x. FoldsInTurn Each c GoesUp (results ++ x ∷ []) u ns r t) q u r t
 
   module _ (children : N → List N) (down : DownStep S N C R E) (up : UpStep S N C R E) where
-    -- after down under a context: Skip gives the node's result, Stop ends the whole fold, Continue folds the children under the context that it holds, and then up gets down's own
+    -- after down under a context: Skip gives the node's result, Stop ends the whole fold, Continue folds the children under the context that it
+    -- holds, and then up gets down's own
     abbrev pub AfterDown : FoldStep S N C R E → C → N → Walk (FoldDownContext C R) E → S → Walk (FoldUp R) E → S → Type 0
     AfterDown Child c n (Err e) s r t = (r ≡ Err e) × (t ≡ s)
     AfterDown Child c n (Ok (deep.Skip x)) s r t = (r ≡ Ok (Continue x)) × (t ≡ s)
@@ -71,5 +73,6 @@ module _ {S N R E : Type 0} where
   UpAlone up s n c results r t = up s n results r t
 
   -- the fold of a node without a context
-  abbrev pub Folds : (N → List N) → (S → N → Walk (FoldDown R) E → S → Type 0) → (S → N → List R → Walk (FoldUp R) E → S → Type 0) → (N → ℕ) → S → N → Walk (FoldUp R) E → S → Type 0
+  abbrev pub Folds : (N → List N) → (S → N → Walk (FoldDown R) E → S → Type 0) → (S → N → List R → Walk (FoldUp R) E → S → Type 0) → (N → ℕ) → S → N →
+      Walk (FoldUp R) E → S → Type 0
   Folds children down up height s n r t = FoldsUnder children (DownAlone down) (UpAlone up) height s tt n r t

@@ -41,7 +41,8 @@ marked changed (Ok d) = Ok (record { value = d.value; order = d.order; changed =
 -- the node with its mapped children where one changed, else the node; the order is theirs
 abbrev pub Rebuilds : {N E : Type 0} → (N → List N → N → Type 0) → N → Walk (Transformed (List N)) E → Walk (Transformed N) E → Type 0
 Rebuilds is_with n (Err e) r = r ≡ Err e
-Rebuilds {N} is_with n (Ok m) r = (rebuilt : N) × MatchBool m.changed (is_with n m.value rebuilt) (rebuilt ≡ n) × (r ≡ Ok (record { value = rebuilt; order = m.order; changed = m.changed }))
+Rebuilds {N} is_with n (Ok m) r = (rebuilt : N) × MatchBool m.changed (is_with n m.value rebuilt) (rebuilt ≡ n)
+    × (r ≡ Ok (record { value = rebuilt; order = m.order; changed = m.changed }))
 
 module _ {S N E : Type 0} where
   -- the step, save that after a Stop the value stays as it is
@@ -60,7 +61,8 @@ module _ {S N E : Type 0} where
   -- the values take their step in turn until one answers Stop or an error; those after a Stop stay as they are
   abbrev pub MapsInTurn : RewriteStep S N E → Transformed (List N) → S → List N → Walk (Transformed (List N)) E → S → Type 0
   MapsInTurn Each so_far s [] r t = (r ≡ Ok so_far) × (t ≡ s)
-  MapsInTurn Each so_far s (n ∷ ns) r t = (q : Walk (Transformed N) E) × (u : S) × UnlessStopped Each so_far.order s n q u × WithValue (λ y. MapsInTurn Each (with_one so_far y) u ns r t) q u r t
+  MapsInTurn Each so_far s (n ∷ ns) r t = (q : Walk (Transformed N) E) × (u : S) × UnlessStopped Each so_far.order s n q u
+      × WithValue (λ y. MapsInTurn Each (with_one so_far y) u ns r t) q u r t
 
   -- up on the value, and changed also where a value before it was
   abbrev pub GoesUp : RewriteStep S N E → Bool → RewriteStep S N E
@@ -82,12 +84,14 @@ module _ {S N E : Type 0} where
       abbrev pub FromOrder : RewriteStep S N E → TraversalOrder → Transformed N → S → Walk (Transformed N) E → S → Type 0
       FromOrder Child Stop d s r t = (r ≡ Ok d) × (t ≡ s)
       FromOrder Child Skip d s r t = GoesUp up d.changed s d.value r t
-      FromOrder Child Continue d s r t = (q : Walk (Transformed N) E) × (u : S) × MapsChildren Child s d.value q u × WithValue (λ m. AfterOrder m.order d.changed m u r t) q u r t
+      FromOrder Child Continue d s r t = (q : Walk (Transformed N) E) × (u : S) × MapsChildren Child s d.value q u
+          × WithValue (λ m. AfterOrder m.order d.changed m u r t) q u r t
 
       -- the rewrite of a node whose height is below the number
       abbrev pub RewritesBelow : ℕ → RewriteStep S N E
       RewritesBelow zero s n r t = ⊥
-      RewritesBelow (suc k) s n r t = (q : Walk (Transformed N) E) × (u : S) × down s n q u × WithValue (λ d. FromOrder (RewritesBelow k) d.order d u r t) q u r t
+      RewritesBelow (suc k) s n r t = (q : Walk (Transformed N) E) × (u : S) × down s n q u
+          × WithValue (λ d. FromOrder (RewritesBelow k) d.order d u r t) q u r t
 
       -- the rewrite of a node: down, the children of the value that down gave in turn, up
       abbrev pub Rewrites : (N → ℕ) → RewriteStep S N E

@@ -72,7 +72,8 @@ pub trait NodeContainer<'a, T: 'a>: Holds<T> + Sized + Drop {
 
     /// The element at the place, which moves past it; none at the end.
     fn next_element(&'a self, cursor: &mut Self::Cursor) -> Option<&'a T>
-        ensures { MatchOption result (left self.entry.now cursor.old ≡ []) (λ element. left self.entry.now cursor.old ≡ element.now ∷ left self.entry.now cursor.new) };
+        ensures { MatchOption result (left self.entry.now cursor.old ≡ [])
+            (λ element. left self.entry.now cursor.old ≡ element.now ∷ left self.entry.now cursor.new) };
 
     /// The container with what `f` gives for its elements: they are handed over in order until `f`
     /// answers Stop or an error, and those after a Stop stay as they are, also where `last`, the

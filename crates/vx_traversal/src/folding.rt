@@ -139,7 +139,8 @@ fn fold_after_down<M, F: Folding<M>>(
     answer: FoldDownContext<F::Context, F::Result>,
     folder: &mut F,
 ) -> Walk<FoldUp<F::Result>, F::Error>
-    ensures { UnlessNoMemory result (AfterDown F.NodeTy.children F.goes_down F.goes_up (FoldsUnder F.NodeTy.children F.goes_down F.goes_up F.NodeTy.height) ctx.now node (Ok answer) folder.old result folder.new) }
+    ensures { UnlessNoMemory result (AfterDown F.NodeTy.children F.goes_down F.goes_up
+        (FoldsUnder F.NodeTy.children F.goes_down F.goes_up F.NodeTy.height) ctx.now node (Ok answer) folder.old result folder.new) }
 {
     match answer {
         FoldDownContext::Continue(inner) => fold_children(node, alloc, ctx, &inner, folder),
@@ -156,7 +157,8 @@ fn fold_children<M, F: Folding<M>>(
     inner: &F::Context,
     folder: &mut F,
 ) -> Walk<FoldUp<F::Result>, F::Error>
-    ensures { UnlessNoMemory result (FoldsInTurn (FoldsUnder F.NodeTy.children F.goes_down F.goes_up F.NodeTy.height) inner.now (λ state results. F.goes_up state node ctx.now results) [] folder.old (F.NodeTy.children node) result folder.new) }
+    ensures { UnlessNoMemory result (FoldsInTurn (FoldsUnder F.NodeTy.children F.goes_down F.goes_up F.NodeTy.height) inner.now
+        (λ state results. F.goes_up state node ctx.now results) [] folder.old (F.NodeTy.children node) result folder.new) }
 {
     let mut results = Vec::new(alloc);
     for i in 0..node.children_count() {

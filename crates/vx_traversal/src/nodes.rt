@@ -41,7 +41,8 @@ pub trait Node: Sized + Clone {
     ghost child_is_lower: { (node child : Self) → Contains (children node) child → height child < height node };
 
     /// A rebuilt node has the children that it was given.
-    ghost has_given: { (node rebuilt : Self) (given : List Self) → length given ≡ length (children node) → is_with node given rebuilt → children rebuilt ≡ given };
+    ghost has_given: { (node rebuilt : Self) (given : List Self) → length given ≡ length (children node) → is_with node given rebuilt →
+        children rebuilt ≡ given };
 
     /// A clone equals its original.
     ghost clone_is_equal: { (node copy : Self) → Self.is_clone node copy → copy ≡ node };

@@ -146,7 +146,8 @@ pub(crate) fn rewrite_children<M, N: Node, R: Rewriting<M, N>>(
     rewriter: &mut R,
 ) -> Walk<Transformed<N>, R::Error>
     requires { R.ready rewriter.old }
-    ensures rewrites { UnlessNoMemory result (MapsChildren N.children N.is_with (reaching reach R.goes_up (Rewrites N.children N.is_with R.goes_down R.goes_up N.height)) rewriter.old node result rewriter.new) }
+    ensures rewrites { UnlessNoMemory result (MapsChildren N.children N.is_with
+        (reaching reach R.goes_up (Rewrites N.children N.is_with R.goes_down R.goes_up N.height)) rewriter.old node result rewriter.new) }
     ensures again { R.ready rewriter.new }
 {
     let mut values = Vec::new(alloc);
@@ -175,7 +176,8 @@ fn rewrite_child<M, N: Node, R: Rewriting<M, N>>(
     rewriter: &mut R,
 ) -> Walk<Transformed<N>, R::Error>
     requires { R.ready rewriter.old }
-    ensures rewrites { UnlessNoMemory result (reaching reach R.goes_up (Rewrites N.children N.is_with R.goes_down R.goes_up N.height) rewriter.old child result rewriter.new) }
+    ensures rewrites { UnlessNoMemory result (reaching reach R.goes_up (Rewrites N.children N.is_with R.goes_down R.goes_up N.height) rewriter.old child
+        result rewriter.new) }
     ensures again { R.ready rewriter.new }
 {
     match reach {

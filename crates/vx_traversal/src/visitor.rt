@@ -37,7 +37,8 @@ pub fn pre_order_visit_down<'a, T: Node, E, F: FnMut(&'a T) -> Result<TraversalO
 where
     F: Drop,
     requires { F.IsAlwaysCallable f }
-    ensures { (order : Result TraversalOrder E) × (last : F) × Visits T.children (CalledAt F.FnMut) NoStep T.height f tree.entry.now order last × (result ≡ without_order order) }
+    ensures { (order : Result TraversalOrder E) × (last : F) × Visits T.children (CalledAt F.FnMut) NoStep T.height f tree.entry.now order last
+        × (result ≡ without_order order) }
 {
     walk_node::<ByClosureDown, &'a T, F>(tree, &mut f)?;
     Ok(())
@@ -51,7 +52,8 @@ pub fn pre_order_visit_up<'a, T: Node, E, F: FnMut(&'a T) -> Result<TraversalOrd
 where
     F: Drop,
     requires { F.IsAlwaysCallable f }
-    ensures { (order : Result TraversalOrder E) × (last : F) × Visits T.children NoStep (CalledAt F.FnMut) T.height f tree.entry.now order last × (result ≡ without_order order) }
+    ensures { (order : Result TraversalOrder E) × (last : F) × Visits T.children NoStep (CalledAt F.FnMut) T.height f tree.entry.now order last
+        × (result ≡ without_order order) }
 {
     walk_node::<ByClosureUp, &'a T, F>(tree, &mut f)?;
     Ok(())

@@ -150,7 +150,8 @@ fn walk_children<M, H: NodeRef, W: Walker<M, H>>(
     walker: &mut W,
 ) -> Result<TraversalOrder, W::Error>
     requires { W.ready walker.old }
-    ensures visits { InTurn (Visits H.Target.children W.goes_down W.goes_up H.Target.height) TraversalOrder.Continue walker.old (H.Target.children (H.target node)) result walker.new }
+    ensures visits { InTurn (Visits H.Target.children W.goes_down W.goes_up H.Target.height) TraversalOrder.Continue walker.old
+        (H.Target.children (H.target node)) result walker.new }
     ensures again { W.ready walker.new }
 {
     let mut last = TraversalOrder::Continue;

@@ -84,7 +84,8 @@ fn push_node(out: &mut Vec<u8>, tree: &WireTree) -> Result<(), WireError>
 
 /// Writes the head of a node at the end.
 fn push_head(out: &mut Vec<u8>, tree: &WireTree) -> Result<(), WireError>
-    ensures ok { OnOk result (IsHead (head_of_tree (tree_view tree.now)) × (out.new.items ≡ out.old.items ++ head_bytes (head_of_tree (tree_view tree.now)))) }
+    ensures ok { OnOk result (IsHead (head_of_tree (tree_view tree.now))
+        × (out.new.items ≡ out.old.items ++ head_bytes (head_of_tree (tree_view tree.now)))) }
     ensures err { IfErr result (IsUnwritten (tree_view tree.now)) }
 {
     let id = tree.id.as_str().as_bytes();
