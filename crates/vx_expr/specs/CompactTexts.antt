@@ -28,7 +28,7 @@ unfoldable mutual
   compact_text (like e p negated fold_case) = compact_text e ++ (codes " LIKE " ++ compact_text p)
   compact_text (between e lower upper options) =
       codes "(" ++ (compact_text lower ++ (bound_text options.lower_strict
-          ++ (compact_text e ++ (bound_text options.upper_strict ++ (compact_text upper ++ codes ")")))))
+      ++ (compact_text e ++ (bound_text options.upper_strict ++ (compact_text upper ++ codes ")")))))
   compact_text (cast e t) = codes "cast(" ++ (compact_text e ++ (codes ", " ++ (ty_text t ++ codes ")")))
   compact_text (list_contains l v) = codes "contains(" ++ (compact_text l ++ (codes ", " ++ (compact_text v ++ codes ")")))
   compact_text (pack names es n) = codes "pack(" ++ (named_texts [] names es ++ (codes ")" ++ nullability_text n))

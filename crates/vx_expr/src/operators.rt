@@ -3,7 +3,6 @@ ghost use Rattle.std.specs.Prelude.{◌≡◌, Some, pos};
 ghost use Rattle.std.specs.Ordering.{nat_cmp};
 ghost use Rattle.vx_expr.specs.Operators.{operator_number, operator_numbered, operator_of_integer, operator_of, comparison_of, inverse_of, logical_inverse_of, swapped};
 ghost use Rattle.vx_expr.specs.OperatorTexts.{operator_text};
-
 ghost use Rattle.vx_expr.specs.Answers.{Exactly};
 ghost use Rattle.vx_expr.specs.declared.errors.ExprError.TheVariants.{UnknownOperator, NotComparison};
 

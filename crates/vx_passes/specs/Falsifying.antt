@@ -103,10 +103,10 @@ abbrev pub equality_falsified : Catalog → Tree → Tree → Found
 equality_falsified catalog l r =
     record {
       tree =
-        joined_known or_of
-        (compared_where CompareOperator.Gt (bound_of catalog Min l).tree (bound_of catalog Max r).tree)
-        (compared_where CompareOperator.Gt (bound_of catalog Min r).tree (bound_of catalog Max l).tree);
-      asked = four_asked catalog l r
+          joined_known or_of
+          (compared_where CompareOperator.Gt (bound_of catalog Min l).tree (bound_of catalog Max r).tree)
+          (compared_where CompareOperator.Gt (bound_of catalog Min r).tree (bound_of catalog Max l).tree);
+      asked = four_asked catalog l r;
     }
 
 -- inequality: both sides are one and the same value; each bound is asked where those before it are found
