@@ -1,3 +1,3 @@
 // Tests of vx_dtype.
-mod scalars;
+pub mod scalars;
 mod types;

@@ -6,3 +6,4 @@ mod display;
 mod dtype;
 mod expr;
 mod readme;
+mod texts;

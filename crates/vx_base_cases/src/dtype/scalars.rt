@@ -65,7 +65,7 @@ fn one_and_two(alloc: Global) -> Result<Vec<Scalar>, Fail> {
     Ok(items)
 }
 
-fn pet_type(alloc: Global) -> Result<DType, Fail> {
+pub fn pet_type(alloc: Global) -> Result<DType, Fail> {
     let mut names = Vec::new(alloc);
     names.push(FieldName::new(alloc, "dog")?)?;
     names.push(FieldName::new(alloc, "cat")?)?;
