@@ -1,9 +1,7 @@
-//! Tests of types, expressions, constructors and texts, a module for each crate.
+//! Tests of types and of printed texts, a module for each crate or subject.
 #![tactic(auto)]
 
-mod build;
 mod display;
 mod dtype;
-mod expr;
 mod readme;
 mod texts;
