@@ -231,9 +231,7 @@ fn build_pack(alloc: Global, metadata: &[u8], children: Vec<ExprRef>) -> Result<
     match PackExpr::try_new_expr(alloc, names, children, nullability) {
         Ok(made) => Ok(made),
         Err(ExprError::NoMemory) => Err(BuildError::NoMemory),
-        Err(ExprError::WrongLength | ExprError::WrongChildren | ExprError::UnknownField) => {
-            unreachable!()
-        }
+        Err(_) => unreachable!(),
     }
 }
 
