@@ -1,0 +1,5 @@
+pub mod Under
+pub mod Narrows
+pub mod Kept
+pub mod Passes
+pub mod PackedFields
