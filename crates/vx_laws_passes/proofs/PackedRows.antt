@@ -67,11 +67,11 @@ columns-typed fs (field g w gs) d h =
     let rest = columns-typed fs gs d h.1 in
     rw (d, h.0, widened-NonNullable w, rest) refl
 
-zipped-own : (fs : Fields) → zipped (field_names fs) (field_types fs) ≡ fs
+pub zipped-own : (fs : Fields) → zipped (field_names fs) (field_types fs) ≡ fs
 zipped-own no_fields = refl
 zipped-own (field f t fs) = ap (field f t) (zipped-own fs)
 
-as_many : (fs : Fields) → length (field_names fs) ≡ length (field_types fs)
+pub as_many : (fs : Fields) → length (field_names fs) ≡ length (field_types fs)
 as_many no_fields = refl
 as_many (field f t fs) = ap suc (as_many fs)
 

@@ -1,0 +1,3 @@
+pub mod Loosened
+pub mod PackedItems
+pub mod Removed

@@ -1,0 +1,8 @@
+//! Laws of the passes that remove selects and merges, and of all passes in their order: each is the contract of a function that does nothing.
+#![tactic(auto)]
+
+mod removing;
+
+pub use removing::{
+    strict_types_are_loose, without_merge_keeps, without_select_keeps,
+};
