@@ -1,5 +1,5 @@
 -- The looser typing gives a strictly typed expression its strict type.
-use Rattle.std.proofs.Common.{◌≡◌, refl, ap, sym, ◌∙◌, Bool, true, false, ◌&&◌, subst, List, [], ◌∷◌, Result, Ok}
+use Rattle.std.proofs.Common.{◌≡◌, refl, ap, sym, ◌∙◌, Bool, true, false, ◌&&◌, subst, List, ◌∷◌, Result, Ok}
 use Rattle.std.specs.Prelude.{nat_eq, length}
 use Rattle.std.proofs.lemmas.Bool.{and_parts, and_from}
 use Rattle.vx_dtype.specs.declared.Nullability.{Nullability}
@@ -16,7 +16,7 @@ use Rattle.vx_expr.specs.Selections.{listed_names}
 use Rattle.vx_expr.specs.Trees.{Tree, root, literal, get_item, binary, not_of, is_null_of, like, between, cast, list_contains, pack, merge, select, dynamic, Trees, no_trees, tree}
 use Rattle.vx_semantics.specs.Typing.{Refusal, unknown_field, duplicate_field, type_mismatch, and_then, unless, item_type, selected_fields, select_type, pack_type, merge_type, union_of, equal_plain, binary_type, not_type, like_type, between_type, contains_type, cast_type, dynamic_type, typed_of, all_typed}
 use Rattle.vx_semantics.specs.LooseTyping.{included_known, loose_select_type, loose_pack_type, loose_binary_type, loose_between_type, loose_dynamic_type, loosely_typed, all_loosely_typed}
-use Rattle.vx_laws.proofs.Inverting.{and_then-ok, unless-ok, Ok-same}
+use Rattle.vx_laws.proofs.Inverting.{and_then-ok, unless-ok}
 use Rattle.vx_laws.proofs.Preserving.{distinct_type-ok, literal_type-ok, one_test}
 use Rattle.vx_laws.proofs.Structs.{select_type-ok}
 use Rattle.vx_laws_removing.specs.LooseTypes.{StrictTypesAreLoose}

@@ -1,21 +1,20 @@
 -- A pack of one item per field of a struct's type stands for the struct.
-use Rattle.std.proofs.Common.{◌≡◌, refl, ap, sym, ◌∙◌, Bool, true, false, cond, ◌&&◌, Option, Some, None, subst, List, [], ◌∷◌, ◌++◌, Result, Ok}
-use Rattle.std.specs.Prelude.{nat_eq, length, map}
+use Rattle.std.proofs.Common.{◌≡◌, refl, ap, sym, ◌∙◌, Bool, true, false, cond, Some, subst, List, [], ◌∷◌, Result, Ok}
+use Rattle.std.specs.Prelude.{length, map}
 use Rattle.std.specs.Str.{bytes_eq}
 use Rattle.std.specs.List.{list_any}
 use Rattle.std.proofs.lemmas.Bool.{eq-eqb, and_from}
 use Rattle.vx_dtype.specs.declared.Nullability.{Nullability}
 use Rattle.vx_dtype.specs.Types.{Bytes, Ty, struct_ty, Fields, no_fields, field}
-use Rattle.vx_dtype.specs.TypeRules.{field_names, field_type, distinct_names, no_name_twice}
+use Rattle.vx_dtype.specs.TypeRules.{field_names, field_type, distinct_names}
 use Rattle.vx_dtype.specs.StructTypes.{field_types}
-use Rattle.vx_dtype.specs.Zipped.{zipped}
-use Rattle.vx_dtype.specs.Values.{Val, struct_val, member, Members}
+use Rattle.vx_dtype.specs.Values.{Val, struct_val, member}
 use Rattle.vx_dtype.specs.Structs.{field_of, members_at}
-use Rattle.vx_expr.specs.Trees.{Tree, root, literal, get_item, binary, not_of, is_null_of, like, between, cast, list_contains, pack, merge, select, dynamic, Trees, no_trees, tree, trees_of}
+use Rattle.vx_expr.specs.Trees.{Tree, pack, trees_of}
 use Rattle.vx_semantics.specs.Typing.{Refusal, and_then, pack_type, typed_of, all_typed}
 use Rattle.vx_semantics.specs.Meaning.{Slots, zip_members, mean, meanings}
 use Rattle.vx_semantics.specs.Slots.{slots_fit, all_slots_fit}
-use Rattle.vx_semantics.specs.Asked.{Asking, asks_node, each_asked, path_or_each, asked, asked_in_pack}
+use Rattle.vx_semantics.specs.Asked.{Asking, each_asked, path_or_each, asked, asked_in_pack}
 use Rattle.vx_laws.proofs.Inverting.{bytes_same}
 use Rattle.vx_laws.proofs.Structs.{IsStructOf}
 use Rattle.vx_laws.proofs.Distinct.{struct-distinct, typed-distinct, members_at-own}

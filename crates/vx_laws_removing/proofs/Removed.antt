@@ -1,23 +1,23 @@
 -- The packs that stand for a select and for a merge.
-use Rattle.std.proofs.Common.{◌≡◌, refl, ap, sym, ◌∙◌, Bool, true, false, cond, not, ◌&&◌, Option, Some, None, subst, List, [], ◌∷◌, ◌++◌, Result, Ok}
+use Rattle.std.proofs.Common.{◌≡◌, refl, ap, sym, ◌∙◌, Bool, true, false, cond, Option, Some, None, subst, List, [], ◌∷◌, ◌++◌, Result, Ok}
 use Rattle.std.specs.Prelude.{map, is_some, option_map, ok_or, unwrap_or}
 use Rattle.std.specs.Option.{option_or}
-use Rattle.std.specs.List.{list_any, list_all, filter, flat_map}
+use Rattle.std.specs.List.{list_any, list_all, flat_map}
 use Rattle.std.proofs.lemmas.Bool.{and_parts}
 use Rattle.vx_dtype.specs.declared.Nullability.{Nullability}
 use Rattle.vx_dtype.specs.declared.Nullability.TheVariants.{NonNullable}
 use Rattle.vx_dtype.specs.Types.{Bytes, Ty, bool_ty, int_ty, text_ty, list_ty, struct_ty, Fields}
-use Rattle.vx_dtype.specs.TypeRules.{is_nullable, nullability_of, widened, fields_of, field_names, field_type, has_name, distinct_names, no_name_twice}
-use Rattle.vx_dtype.specs.StructTypes.{is_struct_ty, all_named, all_known}
+use Rattle.vx_dtype.specs.TypeRules.{widened, field_names, field_type, has_name}
+use Rattle.vx_dtype.specs.StructTypes.{is_struct_ty, all_known}
 use Rattle.vx_dtype.specs.Values.{Val, fault}
 use Rattle.vx_dtype.specs.Fits.{fits_but_for_faults}
 use Rattle.vx_dtype.specs.Structs.{field_of, first_names}
 use Rattle.vx_expr.specs.declared.FieldSelection.{FieldSelection}
 use Rattle.vx_expr.specs.declared.FieldSelection.TheVariants.{Include, Exclude}
 use Rattle.vx_expr.specs.Children.{where_so}
-use Rattle.vx_expr.specs.Selections.{listed_names, taken_names, names_where_known}
-use Rattle.vx_expr.specs.Trees.{Tree, root, literal, get_item, binary, not_of, is_null_of, like, between, cast, list_contains, pack, merge, select, dynamic, Trees, no_trees, tree, trees_of}
-use Rattle.vx_semantics.specs.Typing.{Refusal, not_struct, unknown_field, and_then, unless, item_type, selected_fields, select_type, names_in, type_in, merged_type_at, merged_fields_at, merge_type, typed_of, all_typed, type_or_empty, given_names}
+use Rattle.vx_expr.specs.Selections.{listed_names, taken_names}
+use Rattle.vx_expr.specs.Trees.{Tree, root, get_item, pack, merge, select, Trees, no_trees, tree, trees_of}
+use Rattle.vx_semantics.specs.Typing.{Refusal, not_struct, unknown_field, and_then, item_type, selected_fields, select_type, names_in, type_in, merged_type_at, merged_fields_at, merge_type, typed_of, all_typed, type_or_empty, given_names}
 use Rattle.vx_semantics.specs.LooseTyping.{loosely_typed}
 use Rattle.vx_semantics.specs.Meaning.{Slots, Source, source_names, select3, merged_value, merged_members, merged, mean, sources}
 use Rattle.vx_semantics.specs.Merging.{merged_names, last_giver}
@@ -27,7 +27,7 @@ use Rattle.vx_passes.specs.Selecting.{fields_pack, select_as_pack, select_remove
 use Rattle.vx_passes.specs.Merging.{Giving, giving_names, giving_of, givings, given_field, givings_pack, merge_removed, without_merge}
 use Rattle.vx_laws.proofs.Inverting.{and_then-ok, unless-ok, Ok-same}
 use Rattle.vx_laws.proofs.Merging.{some_gives, some_gives-step, merged_type_at-step, merged_value-step, asked_of_giver-step, givers-same, giver_names-same}
-use Rattle.vx_laws.proofs.Structs.{IsStructOf, struct-value, select_type-ok, select3-fits, AllSourcesFit, merged-fits, source_names-same, some_gives-same}
+use Rattle.vx_laws.proofs.Structs.{IsStructOf, struct-value, select_type-ok, AllSourcesFit, merged-fits, source_names-same, some_gives-same}
 use Rattle.vx_laws.proofs.Preserving.{FitsButFaults, mean-fits, sources-fit}
 use Rattle.vx_laws.proofs.Distinct.{field_names-fields_at, field_names-without, field_names-merged}
 use Rattle.vx_laws.proofs.Lookups.{merged_fields-type, merged_members-value, select-chosen}

@@ -1,1 +1,2 @@
 pub mod LooseTypes
+pub mod Simplest
