@@ -1,0 +1,3 @@
+pub mod JoinedFields
+pub mod MergeLemmas
+pub mod TypeLists

@@ -1,0 +1,5 @@
+pub mod Scopes
+pub mod TypingAnswers
+pub use Rattle.vx_dtype.specs.TypeViews
+pub use Rattle.vx_semantics.specs.Typing
+pub use Rattle.vx_semantics.specs.LooseTyping
