@@ -1,0 +1,5 @@
+//! Tests of typing and evaluation.
+#![tactic(auto)]
+
+mod samples;
+mod typing;
