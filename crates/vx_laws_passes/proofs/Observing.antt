@@ -88,6 +88,12 @@ is_column-any c [] = refl
 is_column-any c (asks_node e ∷ asks) = is_column-any c asks
 is_column-any c (asks_column d ∷ asks) = ap (λ (b : Bool). bytes_eq c d || b) (is_column-any c asks)
 
+pub breaking-along : (cause : Cause) (t : Ty) (slots : Slots) (row : Val) (e : Tree) (path : List Bytes) → breaks_along cause t slots row e path ≡ seen (breaking cause t slots row) t e path
+breaking-along cause t slots row e path = breaking-any cause t slots row (asked t e path)
+
+pub column-along : (t : Ty) (e : Tree) (path : List Bytes) (c : Bytes) → asks_along t e path c ≡ seen (is_column c) t e path
+column-along t e path c = is_column-any c (asked t e path)
+
 -- what is seen alike of two expressions breaks alike, and is of the same columns
 pub breaks-kept : (cause : Cause) (t : Ty) (slots : Slots) (row : Val) (e d : Tree) (path : List Bytes) → seen (breaking cause t slots row) t d path ≡ seen (breaking cause t slots row) t e path
     → breaks_along cause t slots row d path ≡ breaks_along cause t slots row e path

@@ -45,7 +45,7 @@ taken-selected (Include names) fs h = sym (field_names-fields_at names fs h)
 taken-selected (Exclude names) fs h = sym (field_names-without names fs)
 
 -- a type's field as an item
-item-found : (f : Bytes) (fs : Fields) (w : Ty) → field_type f fs ≡ Some w → item_type f (struct_ty fs NonNullable) ≡ Ok w
+pub item-found : (f : Bytes) (fs : Fields) (w : Ty) → field_type f fs ≡ Some w → item_type f (struct_ty fs NonNullable) ≡ Ok w
 item-found f fs w h = ap (λ (x : Option Ty). ok_or (option_map (λ (u : Ty). widened u NonNullable) x) unknown_field) h ∙ ap (λ (z : Ty). Ok z) (widened-NonNullable w)
 
 item-in : (f : Bytes) (a w : Ty) → type_in f a ≡ Some w → item_type f a ≡ Ok w

@@ -32,7 +32,7 @@ path_in-has (f ∷ path) u = by-type (field_type f (fields_of u)) (λ w. path_in
 
 mutual
   -- some row of a type, but for faults
-  some_row : Ty → Val
+  pub some_row : Ty → Val
   some_row (list_ty e n) = list_val no_vals
   some_row (struct_ty fs n) = struct_val (some_members fs)
   some_row _ = fault
@@ -44,7 +44,7 @@ mutual
 mutual
   unfolding fits_but_for_faults some_row
 
-  some_row-fits : (t : Ty) → FitsButFaults (some_row t) t
+  pub some_row-fits : (t : Ty) → FitsButFaults (some_row t) t
   some_row-fits (list_ty e n) = refl
   some_row-fits (struct_ty fs n) = struct-fits (some_members fs) fs n (some_members-fit fs)
   some_row-fits (bool_ty n) = refl
@@ -62,7 +62,7 @@ mutual
   unfolding slots_fit
 
   -- no slots fit any expression
-  no_slots-fit : (e : Tree) → slots_fit [] e ≡ true
+  pub no_slots-fit : (e : Tree) → slots_fit [] e ≡ true
   no_slots-fit root = refl
   no_slots-fit (literal s) = refl
   no_slots-fit (get_item f d) = no_slots-fit d

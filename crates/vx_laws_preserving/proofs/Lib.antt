@@ -1,0 +1,4 @@
+pub mod RootKept
+pub mod Shown
+pub mod Rowless
+pub mod Outcomes
