@@ -1,4 +1,4 @@
-// Replacing the row, and other expressions, in an expression.
+// Packs of its fields in the place of the row.
 
 ghost use Rattle.vx_laws_passes.specs.Replaced.{PackedRowsKeepMeaning, PackedRowsKeepType};
 

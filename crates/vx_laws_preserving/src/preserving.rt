@@ -1,6 +1,7 @@
 // Packs of the columns for the row, then simplifying by types, over the type of a table's rows.
 
-ghost use Rattle.vx_laws_preserving.specs.Preserved.{PreservedIsRowless, PreservesAskedColumns, PreservesBreaks, PreservesColumns, PreservesMeaning, PreservesType};
+ghost use Rattle.vx_laws_preserving.specs.Preserved.{PreservedIsRowless, PreservesAskedColumns, PreservesBreaks};
+ghost use Rattle.vx_laws_preserving.specs.Preserved.{PreservesColumns, PreservesMeaning, PreservesType};
 
 /// A strictly typed expression is not refused, and keeps its type, but perhaps less nullable.
 pub fn preserves_type()
