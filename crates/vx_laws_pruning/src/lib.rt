@@ -1,0 +1,6 @@
+//! Laws of pruning expressions over the definitions of vx_passes: each is the contract of a function that does nothing.
+#![tactic(auto)]
+
+mod trees;
+
+pub use trees::pruning_tree_rules_out;
