@@ -32,8 +32,9 @@ cond-none : (b : Bool) (e : ZoneError) (o : Option ZoneError) → cond (not b) (
 cond-none true e o h = (refl, h)
 cond-none false e o h = let no : ⊥ = cc in absurd no
 
--- each statistic is of a plain field, and each of its values has its type
+-- no struct of the table has a name twice, each statistic is of a plain field, and each of its values has its type
 pub record FollowsRules (zones : Zones) : Type 0 where
+  pub distinct : no_name_twice (row_type zones.columns) ≡ true
   pub leads : list_all (λ s. is_some (type_of_statistic zones.columns s)) zones.stats ≡ true
   pub have : list_all (has_its_type zones.columns) zones.stats ≡ true
 
@@ -46,7 +47,7 @@ follows_rules zones h =
     let d = cond-none (distinct_statistics zones.stats) errors.DuplicateStat _ c.1 in
     let e = cond-none (list_all (counts_blocks zones.lengths) zones.stats) errors.WrongStatCount _ d.1 in
     let f = cond-none (list_all (has_its_type zones.columns) zones.stats) errors.WrongStatType _ e.1 in
-    record { leads = c.0; have = f.0 }
+    record { distinct = a.0; leads = c.0; have = f.0 }
 
 -- what holds of all holds at a place
 list-at : {X : Type 0} (holds : X → Bool) (xs : List X) (i : ℕ) (x : X) → slice_get xs i ≡ Some x → list_all holds xs ≡ true → holds x ≡ true
@@ -90,7 +91,7 @@ typed-kind s w h p =
     ∙ subst (λ (t : Ty). is_kind t (value_of s) ≡ true) h.is (kind-valued s.value s.ty (ap is_plain h.is ∙ (plain-nullability w Nullable ∙ p)) h.fitting)
 
 -- the type of a statistic of zones
-statistic-leads : (zones : Zones) → AreAccepted zones → (path : List Bytes) (stat : Stat) (z : ZoneStat) → available zones path stat ≡ Some z
+pub statistic-leads : (zones : Zones) → AreAccepted zones → (path : List Bytes) (stat : Stat) (z : ZoneStat) → available zones path stat ≡ Some z
     → is_some (option_and_then (statistic_type stat) (leaf_type zones.columns path)) ≡ true
 statistic-leads zones a path stat z h =
     let found = (available-is zones path stat z h).found in
@@ -127,7 +128,7 @@ pub record PathType (columns : Fields) (path : List Bytes) (t : Ty) : Type 0 whe
   pub null : Nullability
   pub is : t ≡ with_nullability own null
 
-type_at-behind : (p q : List Bytes) (t : Ty) → type_at (p ++ q) t ≡ option_and_then (type_at q) (type_at p t)
+pub type_at-behind : (p q : List Bytes) (t : Ty) → type_at (p ++ q) t ≡ option_and_then (type_at q) (type_at p t)
 type_at-behind [] q t = refl
 type_at-behind (f ∷ p) q (struct_ty fs n) = by-type (field_type f fs) (type_at-behind p q)
   where

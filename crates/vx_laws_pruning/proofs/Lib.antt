@@ -4,3 +4,4 @@ pub mod Accepted
 pub mod Telling
 pub mod Bounding
 pub mod Ruling
+pub mod Bounded

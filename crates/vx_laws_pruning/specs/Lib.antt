@@ -1,1 +1,2 @@
 pub mod PruningLaws
+pub mod KnownBounds

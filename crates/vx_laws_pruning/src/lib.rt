@@ -1,6 +1,8 @@
 //! Laws of pruning expressions over the definitions of vx_passes: each is the contract of a function that does nothing.
 #![tactic(auto)]
 
+mod bounds;
 mod trees;
 
+pub use bounds::known_bounds_are_bounds;
 pub use trees::pruning_tree_rules_out;
