@@ -1,0 +1,73 @@
+-- Cells: the values of a type as JSON values.
+use Rattle.std.specs.Prelude.{ℕ, cond, List, [], ◌∷◌, length, Option, Some, None, is_some, option_map, unwrap_or}
+use Rattle.std.specs.Option.{option_or}
+use Rattle.serde_json.specs.Data.{Data, Items, no_items, item}
+use Rattle.serde_json.specs.Find.{get, as_null, as_bool, as_str, as_array}
+use Rattle.vx_dtype.specs.declared.nulls.Nullability.TheVariants.{Nullable}
+use Rattle.vx_dtype.specs.Types.{Bytes, Ty, bool_ty, int_ty, text_ty, list_ty, struct_ty, Fields, no_fields, field}
+use Rattle.vx_dtype.specs.TypeRules.{field_names, with_nullability}
+use Rattle.vx_dtype.specs.Values.{Raw, raw_null, raw_bool, raw_int, raw_text, raw_list, raw_struct, Typed}
+use Rattle.vx_dtype.specs.RawViews.{raws_of}
+use Rattle.vx_dtype.specs.Fits.{fits}
+use Rattle.vx_column.specs.Columns.{Column, column, raws_fit, raw_rows}
+use Rattle.vx_request.specs.Objects.{◌>>=◌, has_members, each_item, integer_in}
+
+-- null
+abbrev pub null_in : Data → Option Raw
+null_in d = cond (is_some (as_null d)) (Some raw_null) None
+
+unfoldable mutual
+  -- null, or what stands for values of a type's kind: true and false, whole numbers, texts, lists of elements, objects with exactly the
+  -- type's names as members; whether null or a number is one of the type isn't asked here
+  pub raw_in : Ty → Data → Option Raw
+  raw_in (bool_ty n) d = option_or (null_in d) (option_map raw_bool (as_bool d))
+  raw_in (int_ty p n) d = option_or (null_in d) (option_map raw_int (integer_in d))
+  raw_in (text_ty n) d = option_or (null_in d) (option_map raw_text (as_str d))
+  raw_in (list_ty e n) d = option_or (null_in d) (as_array d >>= each_item (raw_in e) >>= λ xs. Some (raw_list (raws_of xs)))
+  raw_in (struct_ty fs n) d =
+      option_or (null_in d) (cond (has_members (length (field_names fs)) d) (members_in fs d >>= λ xs. Some (raw_struct (raws_of xs))) None)
+
+  -- what the members of the fields' names stand for, where none is missing
+  pub members_in : Fields → Data → Option (List Raw)
+  members_in no_fields d = Some []
+  members_in (field f t fs) d = get f d >>= raw_in t >>= λ x. members_in fs d >>= λ xs. Some (x ∷ xs)
+
+-- a value beside a type, where it is one of the type
+abbrev pub typed_where : Ty → Raw → Option Typed
+typed_where t x = cond (fits x t) (Some (record { ty = t; value = x })) None
+
+-- the value of a type that a cell is
+abbrev pub typed_in : Ty → Data → Option Typed
+typed_in t d = raw_in t d >>= typed_where t
+
+-- what stands for a statistic's cell that is no value of its type: no statistic has structs, so zones with this value are refused
+abbrev pub no_value : Typed
+no_value = record { ty = struct_ty no_fields Nullable; value = raw_null }
+
+-- what a cell of a statistic stands for: a value of the statistic's type, made nullable
+abbrev pub stat_cell : Option Ty → Data → Typed
+stat_cell None d = no_value
+stat_cell (Some t) d = unwrap_or (typed_in (with_nullability t Nullable) d) no_value
+
+-- what the cells of a statistic stand for
+abbrev pub stat_cells : Option Ty → Items → List Typed
+stat_cells t no_items = []
+stat_cells t (item d ds) = stat_cell t d ∷ stat_cells t ds
+
+-- the column of a type and raw values, where each is one of the type
+abbrev pub column_where : Ty → List Raw → Option Column
+column_where t xs = cond (raws_fit t xs) (Some (column t (raw_rows t xs))) None
+
+-- the column of a type that cells are, where each is a value of the type
+abbrev pub column_in : Ty → Items → Option Column
+column_in t cells = each_item (raw_in t) cells >>= column_where t
+
+-- the columns of these types, as far as there are lists of cells
+abbrev pub columns_of : List Ty → List Items → Option (List Column)
+columns_of (t ∷ ts) (cells ∷ rest) = column_in t cells >>= λ c. columns_of ts rest >>= λ cs. Some (c ∷ cs)
+columns_of _ _ = Some []
+
+-- the columns of each block
+abbrev pub blocks_of : List Ty → List (List Items) → Option (List (List Column))
+blocks_of ts [] = Some []
+blocks_of ts (b ∷ bs) = columns_of ts b >>= λ cs. blocks_of ts bs >>= λ rest. Some (cs ∷ rest)
