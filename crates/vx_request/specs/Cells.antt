@@ -12,25 +12,38 @@ use Rattle.vx_dtype.specs.Fits.{fits}
 use Rattle.vx_column.specs.Columns.{Column, column, raws_fit, raw_rows}
 use Rattle.vx_request.specs.Objects.{◌>>=◌, has_members, each_item, integer_in}
 
+-- a list of elements, and a struct of members
+abbrev pub list_from : List Raw → Option Raw
+list_from xs = Some (raw_list (raws_of xs))
+
+abbrev pub struct_from : List Raw → Option Raw
+struct_from xs = Some (raw_struct (raws_of xs))
+
 -- null
 abbrev pub null_in : Data → Option Raw
 null_in d = cond (is_some (as_null d)) (Some raw_null) None
 
+-- null, or else what is read so
+abbrev pub or_null : (Data → Option Raw) → Data → Option Raw
+or_null read d = option_or (null_in d) (read d)
+
 unfoldable mutual
-  -- null, or what stands for values of a type's kind: true and false, whole numbers, texts, lists of elements, objects with exactly the
-  -- type's names as members; whether null or a number is one of the type isn't asked here
-  pub raw_in : Ty → Data → Option Raw
-  raw_in (bool_ty n) d = option_or (null_in d) (option_map raw_bool (as_bool d))
-  raw_in (int_ty p n) d = option_or (null_in d) (option_map raw_int (integer_in d))
-  raw_in (text_ty n) d = option_or (null_in d) (option_map raw_text (as_str d))
-  raw_in (list_ty e n) d = option_or (null_in d) (as_array d >>= each_item (raw_in e) >>= λ xs. Some (raw_list (raws_of xs)))
-  raw_in (struct_ty fs n) d =
-      option_or (null_in d) (cond (has_members (length (field_names fs)) d) (members_in fs d >>= λ xs. Some (raw_struct (raws_of xs))) None)
+  -- true and false, whole numbers, texts, lists of elements, objects with exactly the type's names as members; elements and members may be null
+  pub present_in : Ty → Data → Option Raw
+  present_in (bool_ty n) d = option_map raw_bool (as_bool d)
+  present_in (int_ty p n) d = option_map raw_int (integer_in d)
+  present_in (text_ty n) d = option_map raw_text (as_str d)
+  present_in (list_ty e n) d = as_array d >>= each_item (or_null (present_in e)) >>= list_from
+  present_in (struct_ty fs n) d = cond (has_members (length (field_names fs)) d) (members_in fs d) None >>= struct_from
 
   -- what the members of the fields' names stand for, where none is missing
   pub members_in : Fields → Data → Option (List Raw)
   members_in no_fields d = Some []
-  members_in (field f t fs) d = get f d >>= raw_in t >>= λ x. members_in fs d >>= λ xs. Some (x ∷ xs)
+  members_in (field f t fs) d = get f d >>= or_null (present_in t) >>= λ x. members_in fs d >>= λ xs. Some (x ∷ xs)
+
+-- null, or what stands for a value of a type's kind; whether null or a number is one of the type isn't asked here
+abbrev pub raw_in : Ty → Data → Option Raw
+raw_in t d = or_null (present_in t) d
 
 -- a value beside a type, where it is one of the type
 abbrev pub typed_where : Ty → Raw → Option Typed
@@ -44,13 +57,12 @@ typed_in t d = raw_in t d >>= typed_where t
 abbrev pub no_value : Typed
 no_value = record { ty = struct_ty no_fields Nullable; value = raw_null }
 
--- what a cell of a statistic stands for: a value of the statistic's type, made nullable
-abbrev pub stat_cell : Option Ty → Data → Typed
-stat_cell None d = no_value
-stat_cell (Some t) d = unwrap_or (typed_in (with_nullability t Nullable) d) no_value
+-- what a cell of a statistic of a type stands for: a value of the type, made nullable
+abbrev pub stat_cell : Ty → Data → Typed
+stat_cell t d = unwrap_or (typed_in (with_nullability t Nullable) d) no_value
 
--- what the cells of a statistic stand for
-abbrev pub stat_cells : Option Ty → Items → List Typed
+-- what the cells of a statistic of a type stand for
+abbrev pub stat_cells : Ty → Items → List Typed
 stat_cells t no_items = []
 stat_cells t (item d ds) = stat_cell t d ∷ stat_cells t ds
 

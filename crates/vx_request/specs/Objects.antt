@@ -1,5 +1,5 @@
 -- JSON values looked into: objects with exactly these members, lists of such values, whole numbers.
-use Rattle.std.specs.Prelude.{ℕ, ℤ, ◌==◌, Bool, false, cond, List, [], ◌∷◌, length, Option, Some, None}
+use Rattle.std.specs.Prelude.{ℕ, ℤ, ◌==◌, Bool, false, cond, List, [], ◌∷◌, length, Option, Some, None, option_and_then}
 use Rattle.serde_json.specs.Data.{Data, Items, no_items, item, Members}
 use Rattle.serde_json.specs.Events.{members_len}
 use Rattle.serde_json.specs.Find.{get, as_object, as_array, as_number, as_u64, as_integer}
@@ -8,8 +8,7 @@ use Rattle.vx_dtype.specs.Types.{Bytes}
 -- the step after a value that was found, none where there was none
 infixl 10 ◌>>=◌
 abbrev pub ◌>>=◌ : {A B : Type 0} → Option A → (A → Option B) → Option B
-(Some x) >>= f = f x
-None >>= f = None
+o >>= f = option_and_then f o
 
 -- whether there are members, and so many
 abbrev pub are_members : ℕ → Option Members → Bool

@@ -7,7 +7,7 @@ use Rattle.vx_dtype.specs.declared.statistics.Stat.{Stat}
 use Rattle.vx_dtype.specs.declared.statistics.Stat.TheVariants.{Min, Max, NullCount}
 use Rattle.vx_dtype.specs.Types.{Bytes, Fields}
 use Rattle.vx_request.specs.Objects.{◌>>=◌, object_of, list_read, count_in}
-use Rattle.vx_request.specs.WrittenTypes.{named_type_in, fields_from, type_in}
+use Rattle.vx_request.specs.WrittenTypes.{named_type_in, named_fields, type_in}
 
 -- a block: how many rows it has, and of each column its cells
 pub record BlockText : Type 0 where
@@ -29,11 +29,15 @@ most_rows = 1048576
 
 -- the columns: a list of names beside types, no more than the most
 abbrev pub columns_in : Data → Option Fields
-columns_in d = list_read (named_type_in type_in) d >>= λ cs. cond (nat_le (length cs) most_columns) (Some (fields_from cs)) None
+columns_in d = list_read (named_type_in type_in) d >>= λ cs. cond (nat_le (length cs) most_columns) (Some (named_fields cs)) None
+
+-- a number of rows, no greater than the most
+abbrev pub rows_in : Data → Option ℕ
+rows_in d = count_in d >>= λ n. cond (nat_le n most_rows) (Some n) None
 
 -- a block: an object of its number of rows and the lists of its columns' cells
 abbrev pub block_of : List Data → Option BlockText
-block_of (rows ∷ values ∷ []) = count_in rows >>= λ n. list_read as_array values >>= λ vs. Some (record { rows = n; values = vs })
+block_of (rows ∷ values ∷ []) = rows_in rows >>= λ n. list_read as_array values >>= λ vs. Some (record { rows = n; values = vs })
 block_of _ = None
 
 abbrev pub block_in : Data → Option BlockText

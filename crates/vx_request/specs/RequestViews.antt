@@ -1,12 +1,50 @@
 -- How the parts of a request are seen, and what is answered to bytes.
-use Rattle.std.specs.Prelude.{◌≡◌, List, map, Result, Ok, Err}
+use Rattle.std.specs.Prelude.{◌≡◌, ℕ, List, map, Result, Ok, Err}
+use Rattle.std.proofs.Common.{Bor}
+use Rattle.serde_json.specs.Data.{Items}
+use Rattle.serde_json.specs.View.{items_view}
+use Rattle.serde_json.specs.declared.value.Value.{Value}
 use Rattle.std.specs.declared.vec.Vec.{Vec}
 use Rattle.std.specs.declared.alloc.Global.{Global}
+use Rattle.vx_dtype.specs.declared.names.FieldName.{FieldName}
+use Rattle.vx_dtype.specs.declared.types.DType.{DType}
+use Rattle.vx_dtype.specs.Types.{Bytes, Ty}
+use Rattle.vx_dtype.specs.TypeViews.{type_view}
+use Rattle.vx_dtype.specs.Values.{Raw}
+use Rattle.vx_dtype.specs.RawViews.{raw_view}
+use Rattle.vx_dtype.specs.declared.values.ScalarValue.{ScalarValue}
 use Rattle.vx_column.specs.Columns.{Column}
+use Rattle.vx_request.specs.Places.{BlockText, StatText}
 use Rattle.vx_request.specs.Requests.{RequestedScan}
+use Rattle.vx_request.specs.declared.places.Block.{Block}
+use Rattle.vx_request.specs.declared.places.Statistic.{Statistic}
 use Rattle.vx_request.specs.declared.requests.ScanRequest.{ScanRequest}
 use Rattle.vx_request.specs.declared.errors.RequestError.{RequestError}
 use Rattle.vx_request.specs.declared.errors.RequestError.TheVariants.{NoMemory}
+
+-- a name beside a type
+abbrev pub named_type_view : FieldName × DType → Bytes × Ty
+named_type_view p = (p.0, type_view p.1)
+
+-- the cells of a column of a block
+abbrev pub cells_view : Bor (Vec Value Global) → Items
+cells_view v = items_view v.now.items
+
+-- the block that this one stands for
+abbrev pub block_view : Block → BlockText
+block_view b = record { rows = b.rows; values = map cells_view b.values.items }
+
+-- a name of a path
+abbrev pub name_view : Bor (List ℕ) → Bytes
+name_view s = s.now
+
+-- the statistic that this one stands for
+abbrev pub stat_view : Statistic → StatText
+stat_view s = record { path = map name_view s.path.items; stat = s.stat; values = cells_view s.values }
+
+-- the raw values that values of the code stand for
+abbrev pub raws_view : Vec ScalarValue Global → List Raw
+raws_view v = map raw_view v.items
 
 -- the columns of a block
 abbrev pub columns_view : Vec Column Global → List Column

@@ -1,5 +1,5 @@
 -- A request: one function of the bytes, with the first refusal in the order of its places. Each place is read whole before the next one.
-use Rattle.std.specs.Prelude.{ℕ, ◌==◌, ◌&&◌, Bool, nat_le, cond, List, [], ◌∷◌, length, map, codes, Option, Some, None, ok_or, Result, Ok, Err}
+use Rattle.std.specs.Prelude.{ℕ, ◌==◌, ◌&&◌, Bool, nat_le, cond, List, [], ◌∷◌, length, map, codes, Option, Some, None, ok_or, option_and_then, Result, Ok, Err}
 use Rattle.std.specs.List.{list_all}
 use Rattle.std.specs.Str.{is_utf8}
 use Rattle.serde_json.specs.Data.{Data, Items}
@@ -7,12 +7,13 @@ use Rattle.serde_json.specs.Events.{items_len}
 use Rattle.serde_json.specs.Read.{read}
 use Rattle.serde_json.specs.Find.{as_str}
 use Rattle.hex.specs.Hex.{decode_of}
+use Rattle.vx_dtype.specs.declared.statistics.Stat.TheVariants.{NaNCount}
 use Rattle.vx_dtype.specs.Types.{Bytes, Ty, Fields}
 use Rattle.vx_dtype.specs.TypeRules.{field_names}
 use Rattle.vx_dtype.specs.StructTypes.{field_types}
 use Rattle.vx_column.specs.Columns.{Column}
 use Rattle.vx_semantics.specs.Tables.{ZoneStat, Zones}
-use Rattle.vx_prune.specs.Zoning.{broken_rule, type_of_statistic}
+use Rattle.vx_prune.specs.Zoning.{broken_rule, leaf_type, statistic_type}
 use Rattle.vx_prune.specs.declared.errors.ZoneError.{ZoneError}
 use Rattle.vx_prune.specs.declared.errors.ZoneError.TheVariants as zones
 use Rattle.vx_request.specs.Objects.{object_of}
@@ -93,13 +94,18 @@ value_of_answer (Err e) = None
 abbrev pub bytes_in : Side → Bytes → Result Bytes RequestError
 bytes_in side text = ok_or (value_of_answer (decode_of text)) (BadHex side)
 
+-- what stands for a statistic whose path leads to no plain field: zones with this statistic are refused for its path
+abbrev pub no_stat : ZoneStat
+no_stat = record { path = []; stat = NaNCount; values = [] }
+
 -- a statistic with its cells as values of its type
+abbrev pub typed_stat : StatText → Option Ty → ZoneStat
+typed_stat s None = no_stat
+typed_stat s (Some t) = record { path = s.path; stat = s.stat; values = stat_cells t s.values }
+
+-- a statistic of a table with these columns
 abbrev pub stat_of : Fields → StatText → ZoneStat
-stat_of columns s = record {
-  path = s.path;
-  stat = s.stat;
-  values = stat_cells (type_of_statistic columns (record { path = s.path; stat = s.stat; values = [] })) s.values;
-}
+stat_of columns s = typed_stat s (option_and_then (statistic_type s.stat) (leaf_type columns s.path))
 
 -- the zones of a request
 abbrev pub zones_of : RequestText → Zones

@@ -51,13 +51,13 @@ abbrev pub named_type_in : (Data → Option Ty) → Data → Option (Bytes × Ty
 named_type_in read d = object_of (codes "name" ∷ codes "type" ∷ []) d >>= named_type_of read
 
 -- the fields of names beside types
-abbrev pub fields_from : List (Bytes × Ty) → Fields
-fields_from fs = zipped (map (λ f. f.0) fs) (map (λ f. f.1) fs)
+abbrev pub named_fields : List (Bytes × Ty) → Fields
+named_fields fs = zipped (map (λ f. f.0) fs) (map (λ f. f.1) fs)
 
 -- a struct's type: an object of the list of its fields and whether it is nullable
 abbrev pub struct_type_of : (Data → Option Ty) → List Data → Option Ty
 struct_type_of read (fields ∷ nullable ∷ []) =
-    list_read (named_type_in read) fields >>= λ fs. as_bool nullable >>= λ b. Some (struct_ty (fields_from fs) (nullability_where b))
+    list_read (named_type_in read) fields >>= λ fs. as_bool nullable >>= λ b. Some (struct_ty (named_fields fs) (nullability_where b))
 struct_type_of read _ = None
 
 abbrev pub struct_type_in : (Data → Option Ty) → Data → Option Ty

@@ -1,8 +1,12 @@
 //! The scan that a request holds: one function of its bytes, and the first refusal in the order of its places.
 #![tactic(auto)]
 
+mod cells;
 mod errors;
+mod objects;
+mod places;
 mod requests;
+mod types;
 
 pub use errors::{Place, RequestError, Side, TableRefusal};
 pub use requests::ScanRequest;

@@ -1,0 +1,5 @@
+mod ItemLemmas
+mod ObjectLemmas
+mod FieldLemmas
+mod TypeLemmas
+mod MemberLemmas
