@@ -1,6 +1,8 @@
 -- What is read of the items of a list, one after another.
 use Rattle.std.proofs.Common.{◌≡◌, ℕ, ◌+◌, ◌<◌, List, [], ◌∷◌, ◌++◌, length, drop, get_or, map, Option, Some, None, option_map, refl, sym, ap, ◌∙◌, append_assoc}
 use Rattle.std.proofs.lemmas.List.{drop_more, map-append}
+use Rattle.serde_json.proofs.Views.{items_len-items_view}
+use Rattle.serde_json.specs.Events.{items_len}
 use Rattle.serde_json.specs.Data.{Data}
 use Rattle.serde_json.specs.View.{view, items_view}
 use Rattle.serde_json.specs.declared.value.Value.{Value}
@@ -32,3 +34,7 @@ read_more A X read see vs i v x found found' all h is one before new =
     ∙ ap (λ o. found_before (map see found) (o >>= λ y. rest >>= λ ys. Some (y ∷ ys))) one
     ∙ found_one_more A (map see found) (see x) rest
     ∙ ap (λ ys. found_before ys rest) (sym (ap (map see) new ∙ map-append see found (x ∷ [])))
+
+-- a list has as many items as its vector
+pub cells_number : (vs : List Value) → items_len (items_view vs) ≡ length vs
+cells_number vs = items_len-items_view vs

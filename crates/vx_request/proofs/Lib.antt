@@ -3,3 +3,5 @@ mod ObjectLemmas
 mod FieldLemmas
 mod TypeLemmas
 mod MemberLemmas
+mod ColumnLemmas
+mod TextLemmas

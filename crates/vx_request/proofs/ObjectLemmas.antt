@@ -1,5 +1,5 @@
 -- The members of an object as the map holds them, and whole numbers.
-use Rattle.std.proofs.Common.{◌≡◌, ℕ, ℤ, pos, List, length, Option, Some, None, String, Global, refl}
+use Rattle.std.proofs.Common.{◌≡◌, ℕ, pos, List, length, Option, Some, None, String, Global, refl}
 use Rattle.serde_json.proofs.Views.{members_len-members_view}
 use Rattle.serde_json.specs.Data.{Num, unsigned, negative, float}
 use Rattle.serde_json.specs.Events.{members_len}

@@ -1,15 +1,17 @@
 -- Cells: the values of a type as JSON values.
-use Rattle.std.specs.Prelude.{ℕ, cond, List, [], ◌∷◌, length, Option, Some, None, is_some, option_map, unwrap_or}
+use Rattle.std.specs.Prelude.{cond, List, [], ◌∷◌, length, Option, Some, None, is_some, option_map, unwrap_or}
 use Rattle.std.specs.Option.{option_or}
+use Rattle.std.specs.Result.{result_ok}
 use Rattle.serde_json.specs.Data.{Data, Items, no_items, item}
 use Rattle.serde_json.specs.Find.{get, as_null, as_bool, as_str, as_array}
 use Rattle.vx_dtype.specs.declared.nulls.Nullability.TheVariants.{Nullable}
-use Rattle.vx_dtype.specs.Types.{Bytes, Ty, bool_ty, int_ty, text_ty, list_ty, struct_ty, Fields, no_fields, field}
+use Rattle.vx_dtype.specs.Types.{Ty, bool_ty, int_ty, text_ty, list_ty, struct_ty, Fields, no_fields, field}
 use Rattle.vx_dtype.specs.TypeRules.{field_names, with_nullability}
 use Rattle.vx_dtype.specs.Values.{Raw, raw_null, raw_bool, raw_int, raw_text, raw_list, raw_struct, Typed}
 use Rattle.vx_dtype.specs.RawViews.{raws_of}
 use Rattle.vx_dtype.specs.Fits.{fits}
-use Rattle.vx_column.specs.Columns.{Column, column, raws_fit, raw_rows}
+use Rattle.vx_column.specs.Columns.{Column}
+use Rattle.vx_column.specs.Answers.{column_of_raws}
 use Rattle.vx_request.specs.Objects.{◌>>=◌, has_members, each_item, integer_in}
 
 -- a list of elements, and a struct of members
@@ -57,20 +59,24 @@ typed_in t d = raw_in t d >>= typed_where t
 abbrev pub no_value : Typed
 no_value = record { ty = struct_ty no_fields Nullable; value = raw_null }
 
--- what a cell of a statistic of a type stands for: a value of the type, made nullable
+-- a cell of a statistic: a value of a type, or what stands for none
 abbrev pub stat_cell : Ty → Data → Typed
-stat_cell t d = unwrap_or (typed_in (with_nullability t Nullable) d) no_value
+stat_cell t d = unwrap_or (typed_in t d) no_value
 
--- what the cells of a statistic of a type stand for
+-- the cells of a statistic
+abbrev pub cells_from : Ty → Items → List Typed
+cells_from t no_items = []
+cells_from t (item d ds) = stat_cell t d ∷ cells_from t ds
+
+-- the cells of a statistic of a type: values of the type, made nullable
 abbrev pub stat_cells : Ty → Items → List Typed
-stat_cells t no_items = []
-stat_cells t (item d ds) = stat_cell t d ∷ stat_cells t ds
+stat_cells t cells = cells_from (with_nullability t Nullable) cells
 
--- the column of a type and raw values, where each is one of the type
+-- the column of a type and raw values; none where one of them isn't of the type, or where a name stands twice in a struct of the type
 abbrev pub column_where : Ty → List Raw → Option Column
-column_where t xs = cond (raws_fit t xs) (Some (column t (raw_rows t xs))) None
+column_where t xs = result_ok (column_of_raws t xs)
 
--- the column of a type that cells are, where each is a value of the type
+-- the column of a type that cells are
 abbrev pub column_in : Ty → Items → Option Column
 column_in t cells = each_item (raw_in t) cells >>= column_where t
 

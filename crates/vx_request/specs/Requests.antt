@@ -1,8 +1,9 @@
 -- A request: one function of the bytes, with the first refusal in the order of its places. Each place is read whole before the next one.
 use Rattle.std.specs.Prelude.{ℕ, ◌==◌, ◌&&◌, Bool, nat_le, cond, List, [], ◌∷◌, length, map, codes, Option, Some, None, ok_or, option_and_then, Result, Ok, Err}
 use Rattle.std.specs.List.{list_all}
+use Rattle.std.specs.Result.{result_ok}
 use Rattle.std.specs.Str.{is_utf8}
-use Rattle.serde_json.specs.Data.{Data, Items}
+use Rattle.serde_json.specs.Data.{Data}
 use Rattle.serde_json.specs.Events.{items_len}
 use Rattle.serde_json.specs.Read.{read}
 use Rattle.serde_json.specs.Find.{as_str}
@@ -57,9 +58,12 @@ abbrev pub ◌>>=◌ : {A B E : Type 0} → Result A E → (A → Result B E) �
 abbrev pub ensured : {E : Type 0} → Bool → E → Result Unit E
 ensured b e = cond b (Ok tt) (Err e)
 
--- the value that a text of JSON is
+-- the value that bytes are the text of
+abbrev pub value_in : Bytes → Option Data
+value_in bytes = cond (is_utf8 bytes) (read bytes) None
+
 abbrev pub json_in : Bytes → Result Data RequestError
-json_in bytes = ok_or (cond (is_utf8 bytes) (read bytes) None) BadJson
+json_in bytes = ok_or (value_in bytes) BadJson
 
 -- what is read at a place, else the refusal that names the place
 abbrev pub at_place : {A : Type 0} → Place → Option A → Result A RequestError
@@ -85,14 +89,12 @@ text_in d = do
   members ← at_place Top (object_of member_names d)
   text_of members
 
--- the value of an answer, none of a refusal
-abbrev pub value_of_answer : {A E : Type 0} → Result A E → Option A
-value_of_answer (Ok x) = Some x
-value_of_answer (Err e) = None
-
 -- the bytes that hexadecimal digits stand for, two digits a byte
+abbrev pub hex_bytes : Bytes → Option Bytes
+hex_bytes text = result_ok (decode_of text)
+
 abbrev pub bytes_in : Side → Bytes → Result Bytes RequestError
-bytes_in side text = ok_or (value_of_answer (decode_of text)) (BadHex side)
+bytes_in side text = ok_or (hex_bytes text) (BadHex side)
 
 -- what stands for a statistic whose path leads to no plain field: zones with this statistic are refused for its path
 abbrev pub no_stat : ZoneStat
@@ -107,9 +109,9 @@ typed_stat s (Some t) = record { path = s.path; stat = s.stat; values = stat_cel
 abbrev pub stat_of : Fields → StatText → ZoneStat
 stat_of columns s = typed_stat s (option_and_then (statistic_type s.stat) (leaf_type columns s.path))
 
--- the zones of a request
-abbrev pub zones_of : RequestText → Zones
-zones_of r = record { columns = r.columns; lengths = map (λ b. b.rows) r.blocks; stats = map (stat_of r.columns) r.stats }
+-- the zones of these columns, blocks and statistics
+abbrev pub zones_of : Fields → List BlockText → List StatText → Zones
+zones_of columns blocks stats = record { columns = columns; lengths = map (λ b. b.rows) blocks; stats = map (stat_of columns) stats }
 
 -- the refusal of zones
 abbrev pub zone_refusal : ZoneError → RequestError
@@ -139,19 +141,27 @@ block_columns columns blocks = do
   shaped ← ensured (list_all (is_rectangle (length (field_names columns))) blocks) (BadTable WrongLength)
   ok_or (blocks_of (field_types columns) (map (λ b. b.values) blocks)) (BadTable WrongValue)
 
+-- the scan of zones and blocks beside two texts
+abbrev pub scan_with : Zones → Fields → List BlockText → Bytes → Bytes → Result RequestedScan RequestError
+scan_with zones columns blocks filter projection = do
+  made ← block_columns columns blocks
+  Ok (record { zones = zones; blocks = made; filter = filter; projection = projection })
+
 -- the scan that a request holds: both texts are digits of bytes, the zones break no rule, and the cells are those of the columns
 abbrev pub scan_in : RequestText → Result RequestedScan RequestError
 scan_in r = do
   filter ← bytes_in Filter r.filter
   projection ← bytes_in Projection r.projection
-  zones ← sound_zones (zones_of r)
-  blocks ← block_columns r.columns r.blocks
-  Ok (record { zones = zones; blocks = blocks; filter = filter; projection = projection })
+  zones ← sound_zones (zones_of r.columns r.blocks r.stats)
+  scan_with zones r.columns r.blocks filter projection
+
+-- the scan that a value holds
+abbrev pub scan_of : Data → Result RequestedScan RequestError
+scan_of d = text_in d >>= scan_in
 
 -- the scan that an input holds, or the first refusal: of its length, of its text, of its places in order, of its bytes, of its table
 unfoldable pub request_of : Bytes → Result RequestedScan RequestError
 request_of input = do
   within ← ensured (nat_le (length input) most_bytes) InputTooLong
   d ← json_in input
-  r ← text_in d
-  scan_in r
+  scan_of d

@@ -2,11 +2,13 @@
 #![tactic(auto)]
 
 mod cells;
+mod columns;
 mod errors;
 mod objects;
 mod places;
 mod requests;
+mod stats;
 mod types;
 
 pub use errors::{Place, RequestError, Side, TableRefusal};
-pub use requests::ScanRequest;
+pub use requests::{ScanRequest, decode_request};

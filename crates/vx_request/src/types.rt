@@ -10,9 +10,7 @@ use crate::objects::two_members;
 use serde_json::Value;
 use std::alloc::Global;
 use std::rc::Rc;
-use vx_dtype::{
-    DType, ElementType, FieldName, FieldNames, Mem, Nullability, PType, StructFields,
-};
+use vx_dtype::{DType, ElementType, FieldName, FieldNames, Mem, Nullability, PType, StructFields};
 
 /// The levels that a type can have in a text of JSON, which nests no deeper.
 pub(crate) const MOST_LEVELS: usize = 127;

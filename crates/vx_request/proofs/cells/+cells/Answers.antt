@@ -1,4 +1,4 @@
-use Rattle.std.proofs.Common.{◌<◌, ◌≤◌, ◌++◌, ◌∷◌, [], map, option_map, sym, ap, ◌∙◌, subst, arith}
+use Rattle.std.proofs.Common.{◌<◌, ◌≤◌, ◌∷◌, [], map, option_map, sym, ap, ◌∙◌, subst, arith}
 use Rattle.std.proofs.lemmas.List.{map-append}
 use Rattle.serde_json.specs.Find.{get}
 use Rattle.vx_dtype.specs.RawViews.{raw_view}

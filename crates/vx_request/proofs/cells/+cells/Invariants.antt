@@ -1,4 +1,4 @@
-use Rattle.std.proofs.Common.{◌≡◌, ◌+◌, ◌*◌, map, drop}
+use Rattle.std.proofs.Common.{◌≡◌, ◌+◌, ◌*◌, drop}
 use Rattle.serde_json.specs.View.{view, items_view}
 use Rattle.vx_dtype.specs.TypeRules.{depth_of, depth_below}
 use Rattle.vx_dtype.specs.TypeViews.{type_view}

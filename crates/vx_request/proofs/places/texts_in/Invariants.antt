@@ -1,9 +1,8 @@
 use Rattle.std.proofs.Common.{◌≡◌, map, drop}
-use Rattle.serde_json.specs.Find.{as_str, as_array}
+use Rattle.serde_json.specs.Find.{as_str}
 use Rattle.serde_json.specs.View.{view, items_view}
 use Rattle.vx_request.specs.Objects.{list_read, each_item}
-use Rattle.vx_request.specs.Places.{block_in, stat_in}
-use Rattle.vx_request.specs.RequestViews.{cells_view, block_view, name_view, stat_view}
+use Rattle.vx_request.specs.RequestViews.{name_view}
 use Rattle.vx_request.proofs.ItemLemmas.{found_before}
 use Rattle.vx_request.proofs.places.texts_in.Given as goal
 
