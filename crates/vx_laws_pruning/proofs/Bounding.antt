@@ -173,7 +173,7 @@ bounds-agree zones slots block t NotEq l r h k =
     inequality-agrees zones slots block t _ _ _ _ _ _ (bound_of (catalog_of zones) Max r) _ _ _ _ _ _ _ _ h.least h.greatest k.least k.greatest
 
 -- no count of what is no number is asked with an answer
-no-guard : (zones : Zones) (l r : Tree) → AreAccepted zones → (are_numbers (catalog_of zones) l r).tree ≡ None
+pub no-guard : (zones : Zones) (l r : Tree) → AreAccepted zones → (are_numbers (catalog_of zones) l r).tree ≡ None
 no-guard zones l r a = λ i. joined_known and_of (option_map is_zero_count (none (path_of l) i)) (option_map is_zero_count (none (path_of r) i))
   where
     none : (o : Option (List Bytes)) → (asked_for (catalog_of zones) NaNCount o).tree ≡ None

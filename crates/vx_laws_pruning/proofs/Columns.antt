@@ -103,7 +103,7 @@ statistic-is path stat z h =
     let parts = and_parts (names_eq path z.path) (same_stat stat z.stat) h in
     ((names_decides path z.path).0 parts.0, same_stat-same stat z.stat parts.1)
 
-statistic-joined : (path : List Bytes) (stat : Stat) (z : ZoneStat) → is_statistic path stat z ≡ true → is_joined (joined_name path stat) z ≡ true
+pub statistic-joined : (path : List Bytes) (stat : Stat) (z : ZoneStat) → is_statistic path stat z ≡ true → is_joined (joined_name path stat) z ≡ true
 statistic-joined path stat z h =
     let is = statistic-is path stat z h in
     ap (λ (n : Bytes). bytes_eq n (joined_name z.path z.stat)) (λ i. joined_name (is.0 i) (is.1 i)) ∙ bytes_eq-itself (joined_name z.path z.stat)
@@ -126,7 +126,7 @@ find-holds test holds (y ∷ ys) x h k = let parts = and_parts (holds y) (list_a
     by-test true f o r = let same : y ≡ x = cc in subst (λ z. holds z ≡ true) same o
     by-test false f o r = r f
 
-none-left : {X : Type 0} (test : X → Bool) (xs : List X) → length (filter test xs) ≡ 0 → find test xs ≡ None
+pub none-left : {X : Type 0} (test : X → Bool) (xs : List X) → length (filter test xs) ≡ 0 → find test xs ≡ None
 none-left test [] h = refl
 none-left test (y ∷ ys) h = by-test (test y) h (none-left test ys)
   where
@@ -196,7 +196,7 @@ member-found name (z ∷ zs) block = by-test (is_joined name z) (member-found na
     by-test false h = h
 
 -- the statistic itself is kept
-own-kept : (zones : Zones) (path : List Bytes) (stat : Stat) (z : ZoneStat) → available zones path stat ≡ Some z → is_some (available zones z.path z.stat) ≡ true
+pub own-kept : (zones : Zones) (path : List Bytes) (stat : Stat) (z : ZoneStat) → available zones path stat ≡ Some z → is_some (available zones z.path z.stat) ≡ true
 own-kept zones path stat z h =
     let is = statistic-is path stat z (find-passes (is_statistic path stat) zones.stats z (available-is zones path stat z h).found) in
     (λ i. is_some (available zones (sym is.0 i) (sym is.1 i))) ∙ ap is_some h

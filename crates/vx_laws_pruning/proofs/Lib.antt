@@ -5,3 +5,6 @@ pub mod Telling
 pub mod Bounding
 pub mod Ruling
 pub mod Bounded
+pub mod Calmness
+pub mod ColumnTypes
+pub mod TreeTypes

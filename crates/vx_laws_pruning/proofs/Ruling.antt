@@ -34,14 +34,14 @@ use Rattle.vx_laws_pruning.proofs.Accepted.{count-kind}
 use Rattle.vx_laws_pruning.proofs.Telling.{meant, Tells, Agrees, or-tells, and-tells, and-right_false, tells-same, either-agrees, both-agrees}
 use Rattle.vx_laws_pruning.proofs.Bounding.{catalog_of, Stands, IsBound, literal-typed, path-bound, Operand, operand, stand-compared, comparison-agrees}
 
-plain-alike : (t u : Ty) → alike t u ≡ true → is_plain t ≡ true → is_plain u ≡ true
+pub plain-alike : (t u : Ty) → alike t u ≡ true → is_plain t ≡ true → is_plain u ≡ true
 unfolding alike
 plain-alike (bool_ty n) (bool_ty m) h k = refl
 plain-alike (int_ty p n) (int_ty q m) h k = refl
 plain-alike (text_ty n) (text_ty m) h k = refl
 plain-alike _ _ h k = let no : ⊥ = cc in absurd no
 
-plain-back : (t u : Ty) → alike t u ≡ true → is_plain u ≡ true → is_plain t ≡ true
+pub plain-back : (t u : Ty) → alike t u ≡ true → is_plain u ≡ true → is_plain t ≡ true
 unfolding alike
 plain-back (bool_ty n) u h k = refl
 plain-back (int_ty p n) u h k = refl

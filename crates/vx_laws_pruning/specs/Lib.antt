@@ -1,2 +1,3 @@
 pub mod PruningLaws
 pub mod KnownBounds
+pub mod PruningTypes

@@ -5,4 +5,4 @@ mod bounds;
 mod trees;
 
 pub use bounds::known_bounds_are_bounds;
-pub use trees::pruning_tree_rules_out;
+pub use trees::{pruning_tree_is_typed, pruning_tree_never_breaks, pruning_tree_rules_out};
