@@ -1,0 +1,4 @@
+//! Tests of the statistics of tables.
+#![tactic(auto)]
+
+mod prune;

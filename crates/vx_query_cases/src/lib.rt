@@ -1,0 +1,4 @@
+//! Tests of requests, ends and runs of the program.
+#![tactic(auto)]
+
+mod query;

@@ -1,0 +1,4 @@
+//! Tests of stores and scans.
+#![tactic(auto)]
+
+mod scan;
