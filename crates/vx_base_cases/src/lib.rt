@@ -1,7 +1,11 @@
 //! Tests of types and of printed texts, a module for each crate or subject.
 #![tactic(auto)]
 
+#[cfg(test)]
 mod display;
+#[cfg(test)]
 mod dtype;
+#[cfg(test)]
 mod readme;
+#[cfg(test)]
 mod texts;

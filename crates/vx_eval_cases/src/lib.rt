@@ -1,5 +1,7 @@
 //! Tests of typing and evaluation.
 #![tactic(auto)]
 
+#[cfg(test)]
 mod samples;
+#[cfg(test)]
 mod typing;

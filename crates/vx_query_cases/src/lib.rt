@@ -1,4 +1,5 @@
 //! Tests of requests, ends and runs of the program.
 #![tactic(auto)]
 
+#[cfg(test)]
 mod query;

@@ -1,4 +1,5 @@
 //! Tests of stores and scans.
 #![tactic(auto)]
 
+#[cfg(test)]
 mod scan;
