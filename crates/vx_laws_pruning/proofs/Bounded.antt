@@ -1,4 +1,4 @@
--- The known bounds of a path of accepted zones are values of the path's type.
+-- The known bounds of a path of accepted zones are values of the path's type, so pruning by them is exact on its class.
 use Rattle.std.proofs.Common.{◌≡◌, ℕ, refl, ap, sym, ◌∙◌, Bool, true, false, cond, Option, Some, None, subst, List, [], ◌∷◌, ◌++◌, Ok}
 use Rattle.std.specs.Prelude.{is_some, option_map, ok_or}
 use Rattle.std.specs.Option.{option_and_then}
@@ -13,16 +13,17 @@ use Rattle.vx_dtype.specs.Values.{Raw, raw_null, raw_bool, raw_int, raw_text, ra
 use Rattle.vx_dtype.specs.Fits.{fits}
 use Rattle.vx_dtype.specs.Logic.{is_null_val}
 use Rattle.vx_dtype.specs.Order.{compares}
-use Rattle.vx_expr.specs.Trees.{Tree, root, get_item}
+use Rattle.vx_expr.specs.Trees.{Tree, root, get_item, binary, not_of, between, list_contains}
 use Rattle.vx_semantics.specs.Typing.{and_then, unless, duplicate_field, unknown_field, item_type, typed_of}
 use Rattle.vx_semantics.specs.Tables.{Zones, ZoneStat, row_type}
 use Rattle.vx_semantics.specs.Paths.{path_of}
 use Rattle.vx_semantics.specs.Pruning.{available, known_in, known_at}
 use Rattle.vx_prune.specs.Zoning.{type_at, plain_only, leaf_type, statistic_type}
-use Rattle.vx_laws_scan.specs.Exactness.{IsBounded}
+use Rattle.vx_laws_scan.specs.Exactness.{IsBounded, PathsAreBounded}
+use Rattle.vx_laws_scan.proofs.Exacting.{pruning_is_exact}
 use Rattle.vx_laws_scan.proofs.HonestRows.{KnownIn, known_in-ok}
 use Rattle.vx_laws_pruning.specs.PruningLaws.{AreAccepted}
-use Rattle.vx_laws_pruning.specs.KnownBounds.{KnownBoundsAreBounds}
+use Rattle.vx_laws_pruning.specs.KnownBounds.{KnownBoundsAreBounds, PathsHaveKnownBounds, AcceptedPruningIsExact}
 use Rattle.vx_laws_pruning.proofs.Accepted.{follows_rules, value-typed, statistic-leads, type_at-behind}
 
 -- the strict type of a chain of field accesses is that to which its path leads, but for nullability
@@ -177,8 +178,22 @@ bounded-at zones block e low high a path i h k o =
     }
 
 pub known_bounds_are_bounds : KnownBoundsAreBounds
-known_bounds_are_bounds zones block e low high a h k o = by-path (path_of e) refl h k
+known_bounds_are_bounds zones block e a b = by-path (path_of e) refl b.least b.greatest
   where
-    by-path : (p : Option (List Bytes)) → path_of e ≡ p → known_at zones block Min p ≡ Some low → known_at zones block Max p ≡ Some high → IsBounded zones block e
+    by-path : (p : Option (List Bytes)) → path_of e ≡ p → known_at zones block Min p ≡ Some b.low → known_at zones block Max p ≡ Some b.high → IsBounded zones block e
     by-path None i l g = let no : ⊥ = cc in absurd no
-    by-path (Some path) i l g = bounded-at zones block e low high a path i l g o
+    by-path (Some path) i l g = bounded-at zones block e b.low b.high a path i l g b.in_order
+
+paths-bounded : (zones : Zones) (block : ℕ) (e : Tree) → AreAccepted zones → PathsHaveKnownBounds zones block e → PathsAreBounded zones block e
+unfolding PathsHaveKnownBounds PathsAreBounded
+paths-bounded zones block root a h = known_bounds_are_bounds zones block root a h
+paths-bounded zones block (get_item f e) a h = known_bounds_are_bounds zones block (get_item f e) a h
+paths-bounded zones block (binary l op r) a h = (paths-bounded zones block l a h.0, paths-bounded zones block r a h.1)
+paths-bounded zones block (not_of e) a h = paths-bounded zones block e a h
+paths-bounded zones block (between e lower upper options) a h =
+    (paths-bounded zones block e a h.0, paths-bounded zones block lower a h.1, paths-bounded zones block upper a h.2)
+paths-bounded zones block (list_contains l e) a h = paths-bounded zones block e a h
+paths-bounded zones block _ a h = tt
+
+pub accepted_pruning_is_exact : AcceptedPruningIsExact
+accepted_pruning_is_exact zones slots block row e u a h k b = pruning_is_exact zones slots block row e u h k (paths-bounded zones block e a b)

@@ -1,16 +1,15 @@
 -- Expressions without a sum, a difference or a cast: none of their nodes breaks.
-use Rattle.std.proofs.Common.{◌≡◌, refl, ◌∙◌, Bool, true, false, ◌&&◌, List, [], ◌∷◌, ◌++◌}
-use Rattle.std.specs.Prelude.{map}
-use Rattle.std.specs.List.{list_any}
-use Rattle.std.proofs.lemmas.Bool.{and_parts, or_parts, or_from}
-use Rattle.vx_dtype.specs.Types.{Bytes, Ty}
+use Rattle.std.proofs.Common.{◌≡◌, ℕ, zero, suc, refl, Bool, true, false, ◌&&◌, Option, Some, None, subst, List, [], ◌∷◌}
+use Rattle.std.specs.Prelude.{slice_get}
+use Rattle.std.specs.Option.{option_and_then}
+use Rattle.std.proofs.lemmas.Bool.{and_parts}
+use Rattle.vx_dtype.specs.Types.{Ty}
 use Rattle.vx_dtype.specs.Values.{Val}
 use Rattle.vx_expr.specs.declared.Operator.{Operator}
-use Rattle.vx_expr.specs.Trees.{Tree, root, literal, get_item, binary, dynamic}
-use Rattle.vx_semantics.specs.Typing.{names_in}
+use Rattle.vx_expr.specs.Trees.{Tree, root, literal, get_item, binary, dynamic, children_of}
 use Rattle.vx_semantics.specs.Meaning.{Slots}
-use Rattle.vx_semantics.specs.Asked.{Asking, asks_column, asked, some_asked_breaks}
-use Rattle.vx_laws.proofs.Paths.{asking_breaks, Quiet, some_asked-same}
+use Rattle.vx_semantics.specs.Breaks.{break_of}
+use Rattle.vx_laws_pruning.specs.PruningTypes.{node_at}
 
 -- whether an expression is the row, a constant, a field access, a comparison, a comparison with a slot or a connective, down to its leaves
 abbrev pub is_calm : Tree → Bool
@@ -23,50 +22,42 @@ is_calm (binary l op r) = is_calm l && is_calm r
 is_calm (dynamic e op k t default) = is_calm e
 is_calm _ = false
 
-quiet-both : (t : Ty) (slots : Slots) (row : Val) (xs ys : List Asking) → Quiet t slots row xs → Quiet t slots row ys → Quiet t slots row (xs ++ ys)
-quiet-both t slots row [] ys h k = k
-quiet-both t slots row (x ∷ xs) ys h k =
-    let parts = or_parts (asking_breaks t slots row x) (list_any (asking_breaks t slots row) xs) h in
-    or_from (asking_breaks t slots row x) (list_any (asking_breaks t slots row) (xs ++ ys)) parts.0 (quiet-both t slots row xs ys parts.1 k)
+-- such a node does not break
+calm-unbroken : (t : Ty) (slots : Slots) (row : Val) (e : Tree) → is_calm e ≡ true → break_of t slots row e ≡ None
+calm-unbroken t slots row root h = refl
+calm-unbroken t slots row (literal s) h = refl
+calm-unbroken t slots row (get_item f e) h = refl
+calm-unbroken t slots row (binary l Operator.Add r) h = let no : ⊥ = cc (h) in absurd no
+calm-unbroken t slots row (binary l Operator.Sub r) h = let no : ⊥ = cc (h) in absurd no
+calm-unbroken t slots row (binary l op r) h = refl
+calm-unbroken t slots row (dynamic e op k u default) h = refl
+calm-unbroken t slots row _ h = let no : ⊥ = cc (h) in absurd no
 
-columns-quiet : (t : Ty) (slots : Slots) (row : Val) (names : List Bytes) → Quiet t slots row (map asks_column names)
-columns-quiet t slots row [] = refl
-columns-quiet t slots row (f ∷ names) = columns-quiet t slots row names
+-- the children of such a node are such
+calm-one : (e c : Tree) (i : ℕ) → is_calm e ≡ true → slice_get (e ∷ []) i ≡ Some c → is_calm c ≡ true
+calm-one e c zero h k = let same : e ≡ c = cc in subst (λ (x : Tree). is_calm x ≡ true) same h
+calm-one e c (suc i) h k = let no : ⊥ = cc in absurd no
 
-pub calm-quiet : (t : Ty) (slots : Slots) (row : Val) (e : Tree) → is_calm e ≡ true → (path : List Bytes) → Quiet t slots row (asked t e path)
-unfolding asked
-calm-quiet t slots row root h [] = columns-quiet t slots row (names_in t)
-calm-quiet t slots row root h (f ∷ path) = refl
-calm-quiet t slots row (literal s) h path = refl
-calm-quiet t slots row (get_item f e) h path = calm-quiet t slots row e h (f ∷ path)
-calm-quiet t slots row (binary l Operator.Add r) h path = let no : ⊥ = cc (h) in absurd no
-calm-quiet t slots row (binary l Operator.Sub r) h path = let no : ⊥ = cc (h) in absurd no
-calm-quiet t slots row (binary l Operator.And r) h path =
-    let parts = and_parts (is_calm l) (is_calm r) h in
-    quiet-both t slots row (asked t l []) (asked t r []) (calm-quiet t slots row l parts.0 []) (calm-quiet t slots row r parts.1 [])
-calm-quiet t slots row (binary l Operator.Or r) h path =
-    let parts = and_parts (is_calm l) (is_calm r) h in
-    quiet-both t slots row (asked t l []) (asked t r []) (calm-quiet t slots row l parts.0 []) (calm-quiet t slots row r parts.1 [])
-calm-quiet t slots row (binary l Operator.Eq r) h path =
-    let parts = and_parts (is_calm l) (is_calm r) h in
-    quiet-both t slots row (asked t l []) (asked t r []) (calm-quiet t slots row l parts.0 []) (calm-quiet t slots row r parts.1 [])
-calm-quiet t slots row (binary l Operator.NotEq r) h path =
-    let parts = and_parts (is_calm l) (is_calm r) h in
-    quiet-both t slots row (asked t l []) (asked t r []) (calm-quiet t slots row l parts.0 []) (calm-quiet t slots row r parts.1 [])
-calm-quiet t slots row (binary l Operator.Gt r) h path =
-    let parts = and_parts (is_calm l) (is_calm r) h in
-    quiet-both t slots row (asked t l []) (asked t r []) (calm-quiet t slots row l parts.0 []) (calm-quiet t slots row r parts.1 [])
-calm-quiet t slots row (binary l Operator.Gte r) h path =
-    let parts = and_parts (is_calm l) (is_calm r) h in
-    quiet-both t slots row (asked t l []) (asked t r []) (calm-quiet t slots row l parts.0 []) (calm-quiet t slots row r parts.1 [])
-calm-quiet t slots row (binary l Operator.Lt r) h path =
-    let parts = and_parts (is_calm l) (is_calm r) h in
-    quiet-both t slots row (asked t l []) (asked t r []) (calm-quiet t slots row l parts.0 []) (calm-quiet t slots row r parts.1 [])
-calm-quiet t slots row (binary l Operator.Lte r) h path =
-    let parts = and_parts (is_calm l) (is_calm r) h in
-    quiet-both t slots row (asked t l []) (asked t r []) (calm-quiet t slots row l parts.0 []) (calm-quiet t slots row r parts.1 [])
-calm-quiet t slots row (dynamic e op k u default) h path = calm-quiet t slots row e h []
-calm-quiet t slots row _ h path = let no : ⊥ = cc (h) in absurd no
+calm-two : (l r c : Tree) (i : ℕ) → (is_calm l && is_calm r) ≡ true → slice_get (l ∷ r ∷ []) i ≡ Some c → is_calm c ≡ true
+calm-two l r c zero h k = let same : l ≡ c = cc in subst (λ (x : Tree). is_calm x ≡ true) same (and_parts (is_calm l) (is_calm r) h).0
+calm-two l r c (suc i) h k = calm-one r c i (and_parts (is_calm l) (is_calm r) h).1 k
 
-pub calm-unbroken : (t : Ty) (slots : Slots) (row : Val) (e : Tree) → is_calm e ≡ true → some_asked_breaks t slots row e ≡ false
-calm-unbroken t slots row e h = some_asked-same t slots row (asked t e []) ∙ calm-quiet t slots row e h []
+calm-child : (e c : Tree) (i : ℕ) → is_calm e ≡ true → slice_get (children_of e) i ≡ Some c → is_calm c ≡ true
+calm-child root c i h k = let no : ⊥ = cc (k) in absurd no
+calm-child (literal s) c i h k = let no : ⊥ = cc (k) in absurd no
+calm-child (get_item f e) c i h k = calm-one e c i h k
+calm-child (binary l Operator.Add r) c i h k = let no : ⊥ = cc (h) in absurd no
+calm-child (binary l Operator.Sub r) c i h k = let no : ⊥ = cc (h) in absurd no
+calm-child (binary l op r) c i h k = calm-two l r c i h k
+calm-child (dynamic e op n u default) c i h k = calm-one e c i h k
+calm-child _ c i h k = let no : ⊥ = cc (h) in absurd no
+
+-- no node of such an expression breaks
+pub no_node_breaks : (t : Ty) (slots : Slots) (row : Val) (places : List ℕ) (e node : Tree) → is_calm e ≡ true → node_at places e ≡ Some node → break_of t slots row node ≡ None
+no_node_breaks t slots row [] e node h k = let same : e ≡ node = cc in calm-unbroken t slots row node (subst (λ (x : Tree). is_calm x ≡ true) same h)
+no_node_breaks t slots row (i ∷ places) e node h k = by-child (slice_get (children_of e) i) refl k (no_node_breaks t slots row places)
+  where
+    by-child : (o : Option Tree) → slice_get (children_of e) i ≡ o → option_and_then (node_at places) o ≡ Some node
+        → ((x n : Tree) → is_calm x ≡ true → node_at places x ≡ Some n → break_of t slots row n ≡ None) → break_of t slots row node ≡ None
+    by-child None j q r = let no : ⊥ = cc in absurd no
+    by-child (Some c) j q r = r c node (calm-child e c i h j) q

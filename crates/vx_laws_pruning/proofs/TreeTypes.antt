@@ -1,5 +1,5 @@
 -- The pruning expression of a filter is a strictly typed boolean, and none of its nodes breaks.
-use Rattle.std.proofs.Common.{◌≡◌, ℕ, refl, ap, sym, ◌∙◌, Bool, true, false, cond, not, ◌&&◌, Option, Some, None, subst, List, Ok}
+use Rattle.std.proofs.Common.{◌≡◌, ℕ, refl, ap, sym, ◌∙◌, Bool, true, cond, not, ◌&&◌, Option, Some, None, subst, List, Ok}
 use Rattle.std.specs.Prelude.{pos, is_some, option_map, MatchOption}
 use Rattle.std.specs.Option.{option_and_then}
 use Rattle.std.proofs.lemmas.Bool.{and_parts, and_from}
@@ -19,7 +19,7 @@ use Rattle.vx_expr.specs.declared.Operator.{Operator}
 use Rattle.vx_expr.specs.Operators.{inverse_comparison, operator_of}
 use Rattle.vx_expr.specs.Trees.{Tree, literal, binary, not_of, is_null_of, between, list_contains, dynamic}
 use Rattle.vx_semantics.specs.Typing.{and_then, unless, type_mismatch, duplicate_field, equal_plain, union_of, compare_type, logic_type, between_type, contains_type, dynamic_type, not_type, binary_type, typed_of}
-use Rattle.vx_semantics.specs.Asked.{some_asked_breaks}
+use Rattle.vx_semantics.specs.Breaks.{break_of}
 use Rattle.vx_semantics.specs.Tables.{Zones, ZoneStat, row_type}
 use Rattle.vx_semantics.specs.Paths.{path_of}
 use Rattle.vx_semantics.specs.Pruning.{available}
@@ -31,12 +31,12 @@ use Rattle.vx_laws.proofs.Comparing.{same_ptype-same}
 use Rattle.vx_laws.proofs.Fitting.{same_ptype-itself}
 use Rattle.vx_laws.proofs.Inverting.{and_then-ok, unless-ok}
 use Rattle.vx_laws_pruning.specs.PruningLaws.{AreAccepted}
-use Rattle.vx_laws_pruning.specs.PruningTypes.{IsBooleanOver, PruningTreeIsTyped, PruningTreeNeverBreaks}
+use Rattle.vx_laws_pruning.specs.PruningTypes.{IsBooleanOver, node_at, PruningTreeIsTyped, PruningTreeNeverBreaks}
 use Rattle.vx_laws_pruning.proofs.Columns.{answered}
 use Rattle.vx_laws_pruning.proofs.Accepted.{statistic-leads, bound-type}
 use Rattle.vx_laws_pruning.proofs.Bounding.{catalog_of, literal-typed, no-guard}
 use Rattle.vx_laws_pruning.proofs.Ruling.{plain-alike}
-use Rattle.vx_laws_pruning.proofs.Calmness.{is_calm, calm-unbroken}
+use Rattle.vx_laws_pruning.proofs.Calmness.{is_calm, no_node_breaks}
 use Rattle.vx_laws_pruning.proofs.ColumnTypes.{HasBlocks, column-typed, plain-distinct}
 
 -- the type of the row of statistics
@@ -512,6 +512,6 @@ pruning_tree_never_breaks zones slots e p =
     by-tree (falsified (catalog_of zones) e).tree (falsified (catalog_of zones) e).asked (falsified-tested zones e p.ty p.accepted p.typed)
   where
     by-tree : (o : Option Tree) (asked : List Question) → Tested zones o
-        → MatchOption (pruning_where (catalog_of zones) o asked) (Unit {0}) (λ x. (row : Val) → some_asked_breaks (scope_of zones) slots row x.tree ≡ false)
+        → MatchOption (pruning_where (catalog_of zones) o asked) (Unit {0}) (λ x. (row : Val) (places : List ℕ) (node : Tree) → node_at places x.tree ≡ Some node → break_of (scope_of zones) slots row node ≡ None)
     by-tree None asked i = tt
-    by-tree (Some x) asked i = λ row. calm-unbroken (scope_of zones) slots row x i.calm
+    by-tree (Some x) asked i = λ row places node h. no_node_breaks (scope_of zones) slots row places x node i.calm h

@@ -14,7 +14,7 @@ pub fn pruning_tree_is_typed()
     ensures { PruningTreeIsTyped }
 {}
 
-/// None of the nodes that the pruning expression asks breaks at any row.
+/// None of the nodes of the pruning expression breaks at any row.
 pub fn pruning_tree_never_breaks()
     ensures { PruningTreeNeverBreaks }
 {}
