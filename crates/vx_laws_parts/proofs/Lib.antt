@@ -1,2 +1,5 @@
 pub mod PutBack
 pub mod Taken
+pub mod Narrower
+pub mod PartsFit
+pub mod Recombined

@@ -33,13 +33,13 @@ widened-itself (struct_ty fs Nullable) = refl
 widened-itself (struct_ty fs NonNullable) = refl
 
 -- a pack that has a strict type
-record PackIs (t : Ty) (names : List Bytes) (es : Trees) (w : Ty) : Type 0 where
+pub record PackIs (t : Ty) (names : List Bytes) (es : Trees) (w : Ty) : Type 0 where
   pub types : List Ty
   pub typed : all_typed t es ≡ Ok types
   pub distinct : distinct_names names ≡ true
   pub is : w ≡ struct_ty (zipped names types) NonNullable
 
-pack-is : (t : Ty) (names : List Bytes) (es : Trees) (w : Ty) → typed_of t (pack names es NonNullable) ≡ Ok w → PackIs t names es w
+pub pack-is : (t : Ty) (names : List Bytes) (es : Trees) (w : Ty) → typed_of t (pack names es NonNullable) ≡ Ok w → PackIs t names es w
 unfolding typed_of
 pack-is t names es w h =
     let x = and_then-ok (all_typed t es) (pack_type names NonNullable) w h in
@@ -126,13 +126,13 @@ module _ (t u : Ty) (slots : Slots) (row made : Val) where
       shares-stand same text m xs b.given h.1 b.was)
 
 -- the row of the packs stands for their pack
-packs-stand : (t u : Ty) (slots : Slots) (row : Val) (e : Tree) → typed_of t e ≡ Ok u → Stands t u slots row (mean t slots row e) root e
+pub packs-stand : (t u : Ty) (slots : Slots) (row : Val) (e : Tree) → typed_of t e ≡ Ok u → Stands t u slots row (mean t slots row e) root e
 unfolding typed_of mean
 packs-stand t u slots row e h =
     record { typed = ap (λ (b : Bool). unless b duplicate_field (Ok u)) (typed-distinct t e u h) ∙ sym h; means = refl }
 
 -- the expression without its parts stands for the expression
-taken-stands : {A : Type 0} (same : A → A → Bool) (text : A → Bytes) (m : List (Entry A)) (t : Ty) (slots : Slots) (row : Val) (e : Tree) (u : Ty) → TakesParts A same text m t e u
+pub taken-stands : {A : Type 0} (same : A → A → Bool) (text : A → Bytes) (m : List (Entry A)) (t : Ty) (slots : Slots) (row : Val) (e : Tree) (u : Ty) → TakesParts A same text m t e u
     → Stands t u slots row (mean t slots row (packed_shares text (taken_from same text m e []).shares)) (taken_from same text m e []).expression e
 taken-stands same text m t slots row e u p =
     let ss = (taken_from same text m e []).shares in

@@ -1,6 +1,8 @@
 //! Laws of expressions split by annotations: each is the contract of a function that does nothing.
 #![tactic(auto)]
 
+mod recombining;
 mod taking;
 
+pub use recombining::{split_recombines, splits_without_refusal};
 pub use taking::taken_parts_put_back;
