@@ -96,10 +96,11 @@ module _ (t u : Ty) (slots : Slots) (row made : Val) where
       let gs = zipped names b.given in
       let all : SameFields (f ∷ names) fs ms (field f a.given gs) (member f v ns) =
       subst (λ (zs : List Ty). SameFields (f ∷ names) fs ms (zipped (f ∷ names) zs) (member f v ns)) (Ok-same (Ok ts) ts (a.given ∷ b.given) refl (sym b.gave)) s in
-      let here = all f (or_left (bytes_eq f f) (has_name f names) (bytes_eq-itself f)) in
-      (item-stands base fs ms f e a.given h k a.was (here.0 ∙ ap (λ (c : Bool). cond c (Some a.given) (field_type f gs)) (bytes_eq-itself f))
-      (here.1 ∙ ap (λ (c : Bool). cond c (Some v) (member_named f ns)) (bytes_eq-itself f)),
-      fields-stand base fs ms h k names es b.given b.was parts.1 (later-same f a.given v names fs ms gs ns (not-has (has_name f names) parts.0) all))
+      let here = all f (or_left (bytes_eq f f) (has_name f names) (bytes_eq-itself f)) in (
+        item-stands base fs ms f e a.given h k a.was (here.0 ∙ ap (λ (c : Bool). cond c (Some a.given) (field_type f gs)) (bytes_eq-itself f))
+            (here.1 ∙ ap (λ (c : Bool). cond c (Some v) (member_named f ns)) (bytes_eq-itself f)),
+        fields-stand base fs ms h k names es b.given b.was parts.1 (later-same f a.given v names fs ms gs ns (not-has (has_name f names) parts.0) all),
+      )
 
   pack-stands : (base : Tree) (names : List Bytes) (es : List Tree) (w : Ty) → Stands t u slots row made base (pack names (trees_of es) NonNullable)
       → typed_of t (pack names (trees_of es) NonNullable) ≡ Ok w → FieldsStand base names es
@@ -121,9 +122,10 @@ module _ (t u : Ty) (slots : Slots) (row made : Val) where
   shares-stand same text m (x ∷ xs) ts h k =
       let rest = trees_of (map (λ y. packed_parts (text y.annotation) y.parts) xs) in
       let a = and_then-ok (typed_of t (packed_parts (text x.annotation) x.parts)) (λ z. and_then (all_typed t rest) (λ zs. Ok (z ∷ zs))) ts k in
-      let b = and_then-ok (all_typed t rest) (λ zs. Ok (a.given ∷ zs)) ts a.gave in
-      (parts-stand (text x.annotation) 0 x.parts (pack-stands (get_item (text x.annotation) root) (part_names (text x.annotation) 0 x.parts) x.parts a.given h.0 a.was),
-      shares-stand same text m xs b.given h.1 b.was)
+      let b = and_then-ok (all_typed t rest) (λ zs. Ok (a.given ∷ zs)) ts a.gave in (
+        parts-stand (text x.annotation) 0 x.parts (pack-stands (get_item (text x.annotation) root) (part_names (text x.annotation) 0 x.parts) x.parts a.given h.0 a.was),
+        shares-stand same text m xs b.given h.1 b.was,
+      )
 
 -- the row of the packs stands for their pack
 pub packs-stand : (t u : Ty) (slots : Slots) (row : Val) (e : Tree) → typed_of t e ≡ Ok u → Stands t u slots row (mean t slots row e) root e

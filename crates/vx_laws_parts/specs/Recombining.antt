@@ -21,7 +21,7 @@ SplitsWithoutRefusal A =
     (same : A → A → Bool) (text : A → Bytes) (annotate : Tree → List A) (t : Ty) (e : Tree) (u w : Ty)
     → TakesParts A same text (annotated same annotate e) t e u → typed_of t e ≡ Ok w
     → (s : Split A) × (split same text annotate t e ≡ Ok s)
-      × (map (λ p. p.annotation) s.partitions ≡ map (λ x. x.annotation) (taken_from same text (annotated same annotate e) e []).shares)
+    × (map (λ p. p.annotation) s.partitions ≡ map (λ x. x.annotation) (taken_from same text (annotated same annotate e) e []).shares)
 
 -- there, at each row that fits but for faults, with slots that fit, the root at what the partitions mean means what the expression means
 abbrev pub SplitRecombines : Type 0 → Type 0
