@@ -4,7 +4,8 @@ use Rattle.std.specs.Prelude.{Bool, cond, List, [], ◌∷◌, ◌++◌}
 use Rattle.std.specs.List.{list_any, flat_map}
 use Rattle.vx_dtype.specs.Types.{Bytes, Ty}
 use Rattle.vx_expr.specs.Equal.{tree_eq}
-use Rattle.vx_expr.specs.Trees.{Tree, root, literal, get_item, binary, not_of, is_null_of, like, between, cast, list_contains, pack, merge, select, dynamic, Trees, no_trees, tree, children_of}
+use Rattle.vx_expr.specs.Trees.{Tree, root, literal, get_item, binary, not_of, is_null_of, like, between, cast, list_contains, pack, merge, select, dynamic}
+use Rattle.vx_expr.specs.Trees.{Trees, no_trees, tree, children_of}
 use Rattle.vx_semantics.specs.Typing.{names_in}
 
 -- an expression and the set of its annotations, each once, in the order in which they came
@@ -31,7 +32,8 @@ with_annotations same e ys (x ∷ xs) =
     (x ∷ with_annotations same e ys xs)
 
 -- on the way down: a node that has annotations itself gets them, and its children are skipped; else the children are visited
-abbrev pub annotated_down : {A : Type 0} → (A → A → Bool) → Tree → List A → (List (Entry A) → List (Entry A)) → List (Entry A) → List (Entry A)
+abbrev pub annotated_down :
+    {A : Type 0} → (A → A → Bool) → Tree → List A → (List (Entry A) → List (Entry A)) → List (Entry A) → List (Entry A)
 annotated_down same e [] visit_children m = visit_children m
 annotated_down same e (y ∷ ys) visit_children m = with_annotations same e (y ∷ ys) m
 
@@ -40,7 +42,8 @@ abbrev pub annotated_up : {A : Type 0} → (A → A → Bool) → Tree → List 
 annotated_up same e m = with_annotations same e (flat_map (λ c. entry_of c m) (children_of e)) m
 
 -- down and up at one node
-abbrev pub annotated_node : {A : Type 0} → (A → A → Bool) → (Tree → List A) → Tree → (List (Entry A) → List (Entry A)) → List (Entry A) → List (Entry A)
+abbrev pub annotated_node :
+    {A : Type 0} → (A → A → Bool) → (Tree → List A) → Tree → (List (Entry A) → List (Entry A)) → List (Entry A) → List (Entry A)
 annotated_node same annotate e visit_children m = annotated_up same e (annotated_down same e (annotate e) visit_children m)
 
 unfoldable mutual

@@ -3,7 +3,8 @@ use Rattle.std.specs.Prelude.{ℕ, suc, Bool, cond, List, [], ◌∷◌, ◌++�
 use Rattle.vx_dtype.specs.declared.Nullability.TheVariants.{NonNullable}
 use Rattle.vx_dtype.specs.Types.{Bytes, Ty, struct_ty}
 use Rattle.vx_dtype.specs.Zipped.{zipped}
-use Rattle.vx_expr.specs.Trees.{Tree, root, literal, get_item, binary, not_of, is_null_of, like, between, cast, list_contains, pack, merge, select, dynamic, Trees, no_trees, tree, trees_of}
+use Rattle.vx_expr.specs.Trees.{Tree, root, literal, get_item, binary, not_of, is_null_of, like, between, cast, list_contains, pack, merge, select, dynamic}
+use Rattle.vx_expr.specs.Trees.{Trees, no_trees, tree, trees_of}
 use Rattle.vx_semantics.specs.Typing.{Refusal, and_then}
 use Rattle.vx_semantics.specs.LooseTyping.{loosely_typed}
 use Rattle.vx_passes.specs.Annotating.{Entry, entry_of, annotated}
@@ -44,7 +45,8 @@ abbrev pub part_access : Bytes → ℕ → Tree
 part_access text i = get_item (part_name text i) (get_item text root)
 
 -- a node whose entry has exactly one annotation becomes the next part of it; else the node's children are looked at
-abbrev pub part_or_below : {A : Type 0} → (A → A → Bool) → (A → Bytes) → Tree → List A → (List (Share A) → Taken A) → List (Share A) → Taken A
+abbrev pub part_or_below :
+    {A : Type 0} → (A → A → Bool) → (A → Bytes) → Tree → List A → (List (Share A) → Taken A) → List (Share A) → Taken A
 part_or_below same text e (a ∷ []) below shares =
     record { expression = part_access (text a) (parts_count same a shares); shares = with_part same a e shares }
 part_or_below same text e _ below shares = below shares
@@ -59,7 +61,8 @@ over_two node next x = over_one (node x.expression) (next x.shares)
 abbrev pub over_list : {A : Type 0} → (Trees → Tree) → AllTaken A → Taken A
 over_list node x = record { expression = node x.expressions; shares = x.shares }
 
-abbrev pub over_three : {A : Type 0} → (Tree → Tree → Tree → Tree) → (List (Share A) → Taken A) → (List (Share A) → Taken A) → Taken A → Taken A
+abbrev pub over_three :
+    {A : Type 0} → (Tree → Tree → Tree → Tree) → (List (Share A) → Taken A) → (List (Share A) → Taken A) → Taken A → Taken A
 over_three node second third x = over_two (node x.expression) third (second x.shares)
 
 -- an expression before the others of a list, which are looked at next

@@ -24,7 +24,8 @@ pub fn negates_each_row()
 /// A null test is true at null alone, and not nullable, of a whole row and of a column.
 pub fn tests_each_row_for_null()
     ensures types { typed_of (int_ty I32 Nullable) (is_null_of root) ≡ Ok (bool_ty NonNullable) }
-    ensures values { values_over (int_ty I32 Nullable) (map number_or_null (Some (pos 1) ∷ None ∷ Some (pos 2) ∷ None ∷ Some (pos 3) ∷ [])) (is_null_of root)
+    ensures values { values_over (int_ty I32 Nullable)
+        (map number_or_null (Some (pos 1) ∷ None ∷ Some (pos 2) ∷ None ∷ Some (pos 3) ∷ [])) (is_null_of root)
         ≡ map bool_val (false ∷ true ∷ false ∷ true ∷ false ∷ []) }
     ensures column_type { typed_of (struct_ty (only "nullable_col" (int_ty I32 Nullable)) NonNullable) (is_null_of (col "nullable_col"))
         ≡ Ok (bool_ty NonNullable) }
@@ -42,7 +43,8 @@ pub fn takes_a_field_of_a_null_row()
 
 /// A sum of a column and a constant; past the greatest number it is a fault.
 pub fn adds_a_constant_to_a_column()
-    ensures types { typed_of (struct_ty (only "a" (int_ty I32 NonNullable)) NonNullable) (col "a" ⟨ Add ⟩ number I32 (pos 5)) ≡ Ok (int_ty I32 NonNullable) }
+    ensures types { typed_of (struct_ty (only "a" (int_ty I32 NonNullable)) NonNullable) (col "a" ⟨ Add ⟩ number I32 (pos 5))
+        ≡ Ok (int_ty I32 NonNullable) }
     ensures values { values_over (struct_ty (only "a" (int_ty I32 NonNullable)) NonNullable)
         (rows_of_numbers I32 "a" (pos 1 ∷ pos 2147483642 ∷ pos 2147483643 ∷ [])) (col "a" ⟨ Add ⟩ number I32 (pos 5))
         ≡ int_val I32 (pos 6) ∷ int_val I32 (pos 2147483647) ∷ fault ∷ [] }
@@ -62,7 +64,8 @@ pub fn ranges_over_a_column()
     ensures types { typed_of (struct_ty (only "a" (int_ty I32 NonNullable)) NonNullable)
         (between (col "a") (number I32 (pos 10)) (number I32 (pos 20)) (ends NonStrict NonStrict))
         ≡ Ok (bool_ty NonNullable) }
-    ensures values { values_over (struct_ty (only "a" (int_ty I32 NonNullable)) NonNullable) (rows_of_numbers I32 "a" (pos 9 ∷ pos 10 ∷ pos 20 ∷ pos 21 ∷ []))
+    ensures values { values_over (struct_ty (only "a" (int_ty I32 NonNullable)) NonNullable)
+        (rows_of_numbers I32 "a" (pos 9 ∷ pos 10 ∷ pos 20 ∷ pos 21 ∷ []))
         (between (col "a") (number I32 (pos 10)) (number I32 (pos 20)) (ends NonStrict NonStrict))
         ≡ map bool_val (false ∷ true ∷ true ∷ false ∷ []) }
     ensures half_open { values_over (struct_ty (only "score" (int_ty I32 NonNullable)) NonNullable)
@@ -154,7 +157,8 @@ pub fn types_255_negations()
     ensures number { typed_of (int_ty I64 NonNullable) (negated 255 root) ≡ Err type_mismatch }
     ensures row { typed_of (struct_ty (only "x" (int_ty I64 NonNullable)) NonNullable) (negated 255 root) ≡ Err type_mismatch }
     ensures boolean { typed_of (bool_ty NonNullable) (negated 255 root) ≡ Ok (bool_ty NonNullable) }
-    ensures values { values_over (bool_ty NonNullable) (bool_val true ∷ bool_val false ∷ []) (negated 255 root) ≡ bool_val false ∷ bool_val true ∷ [] }
+    ensures values { values_over (bool_ty NonNullable) (bool_val true ∷ bool_val false ∷ []) (negated 255 root)
+        ≡ bool_val false ∷ bool_val true ∷ [] }
 {}
 
 /// Three operands collected to the right and to the left, and none.

@@ -87,9 +87,12 @@ pub fn joins_sides()
     ensures not_and_right { rules_out five_to_nine [] 0
         (not_of ((col "x" ⟨ Lte ⟩ number I32 (pos 8)) ⟨ And ⟩ (col "x" ⟨ Gte ⟩ number I32 (pos 5))))
         ≡ false }
-    ensures not_or_left { rules_out five_to_nine [] 0 (not_of ((col "x" ⟨ Gte ⟩ number I32 (pos 5)) ⟨ Or ⟩ (col "x" ⟨ Lte ⟩ number I32 (pos 8)))) ≡ true }
-    ensures not_or_right { rules_out five_to_nine [] 0 (not_of ((col "x" ⟨ Lte ⟩ number I32 (pos 8)) ⟨ Or ⟩ (col "x" ⟨ Gte ⟩ number I32 (pos 5)))) ≡ true }
-    ensures not_or_none { rules_out five_to_nine [] 0 (not_of ((col "x" ⟨ Lte ⟩ number I32 (pos 8)) ⟨ Or ⟩ (col "x" ⟨ Gte ⟩ number I32 (pos 6)))) ≡ false }
+    ensures not_or_left { rules_out five_to_nine [] 0 (not_of ((col "x" ⟨ Gte ⟩ number I32 (pos 5)) ⟨ Or ⟩ (col "x" ⟨ Lte ⟩ number I32 (pos 8))))
+        ≡ true }
+    ensures not_or_right { rules_out five_to_nine [] 0 (not_of ((col "x" ⟨ Lte ⟩ number I32 (pos 8)) ⟨ Or ⟩ (col "x" ⟨ Gte ⟩ number I32 (pos 5))))
+        ≡ true }
+    ensures not_or_none { rules_out five_to_nine [] 0 (not_of ((col "x" ⟨ Lte ⟩ number I32 (pos 8)) ⟨ Or ⟩ (col "x" ⟨ Gte ⟩ number I32 (pos 6))))
+        ≡ false }
     ensures twice { rules_out five_to_nine [] 0 (not_of (not_of (col "x" ⟨ Lt ⟩ number I32 (pos 5)))) ≡ true }
     ensures twice_kept { rules_out five_to_nine [] 0 (not_of (not_of (col "x" ⟨ Lt ⟩ number I32 (pos 6)))) ≡ false }
 {}
@@ -490,14 +493,17 @@ pub fn asks_a_bound_of_the_operand()
 
 /// Comparisons of two ranges by their ends: apart, touching, alike, and the same with the sides exchanged.
 pub fn compares_ranges_by_their_ends()
-    ensures below { map (λ op. comparison_ruled_out op (range_of 1 3) (range_of 5 7)) comparisons ≡ true ∷ false ∷ true ∷ true ∷ false ∷ false ∷ [] }
-    ensures above { map (λ op. comparison_ruled_out op (range_of 5 7) (range_of 1 3)) comparisons ≡ true ∷ false ∷ false ∷ false ∷ true ∷ true ∷ [] }
+    ensures below { map (λ op. comparison_ruled_out op (range_of 1 3) (range_of 5 7)) comparisons
+        ≡ true ∷ false ∷ true ∷ true ∷ false ∷ false ∷ [] }
+    ensures above { map (λ op. comparison_ruled_out op (range_of 5 7) (range_of 1 3)) comparisons
+        ≡ true ∷ false ∷ false ∷ false ∷ true ∷ true ∷ [] }
     ensures touching_below { map (λ op. comparison_ruled_out op (range_of 1 5) (range_of 5 7)) comparisons
         ≡ false ∷ false ∷ true ∷ false ∷ false ∷ false ∷ [] }
     ensures touching_above { map (λ op. comparison_ruled_out op (range_of 5 7) (range_of 1 5)) comparisons
         ≡ false ∷ false ∷ false ∷ false ∷ true ∷ false ∷ [] }
     ensures overlapping { map (λ op. comparison_ruled_out op (range_of 1 6) (range_of 5 7)) comparisons ≡ replicate 6 false }
-    ensures one_number { map (λ op. comparison_ruled_out op (range_of 5 5) (range_of 5 5)) comparisons ≡ false ∷ true ∷ true ∷ false ∷ true ∷ false ∷ [] }
+    ensures one_number { map (λ op. comparison_ruled_out op (range_of 5 5) (range_of 5 5)) comparisons
+        ≡ false ∷ true ∷ true ∷ false ∷ true ∷ false ∷ [] }
 {}
 
 /// An inequality is ruled out where both pairs of ends are equal, and not where one pair is and the other stands otherwise.
