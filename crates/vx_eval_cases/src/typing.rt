@@ -8,7 +8,7 @@ use vx_dtype::{
     BetweenOptions, CompareOperator, DType, FieldName, Mem, Nullability, PType, Scalar,
     StrictComparison,
 };
-use vx_eval::{ExprEval, TypeError};
+use vx_eval::{ExprEval, Scope, TypeError};
 use vx_expr::{
     BinaryExpr, DynamicComparisonExpr, ExprRef, LikeExpr, ListContainsExpr, LiteralExpr, NotExpr,
     Operator, SelectExpr,
@@ -199,5 +199,16 @@ fn names_and_nulls_of_the_scope(rt: HostRuntime) -> Result<(), Fail> {
     let number = DType::Primitive(PType::I32, Nullability::Nullable);
     assert!(rt; col(alloc, "a")?.typed(alloc, &maybe)? == number);
     assert!(rt; is_refused(alloc, &col(alloc, "a")?, &int(), &TypeError::NotStruct));
+    Ok(())
+}
+
+#[test]
+fn ample(rt: HostRuntime) -> Result<(), Fail> {
+    let alloc = rt.alloc();
+    let scope = pair(alloc, "a", "b", Nullability::NonNullable)?;
+    assert!(rt; col(alloc, "a")?.typed(alloc, &scope)? == int());
+    assert!(rt; col(alloc, "b")?.return_dtype(alloc, &scope)? == int());
+    let rows = Scope::empty(alloc, 3)?;
+    assert!(rt; rows.len() == 3 && rows.slots().is_empty());
     Ok(())
 }
