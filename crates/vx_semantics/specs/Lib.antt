@@ -4,6 +4,7 @@ pub mod LooseTyping
 pub mod Meaning
 pub mod Slots
 pub mod Breaks
+pub mod Nodes
 pub mod Asked
 pub mod Tables
 pub mod Paths
