@@ -11,4 +11,6 @@ pub mod Lookups
 pub mod Sound
 pub mod Paths
 pub mod Faultless
+pub mod EachNode
+pub mod Unbroken
 pub mod Swapping

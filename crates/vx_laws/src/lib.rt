@@ -5,7 +5,7 @@ mod faults;
 mod operators;
 mod values;
 
-pub use faults::no_break_no_fault;
+pub use faults::{no_break_no_fault, no_node_breaks_no_fault};
 pub use operators::{
     and_is_associative, and_is_commutative, conjuncts_mean_the_whole, inverse_negates,
     negations_exchange_and_with_or, or_is_associative, or_is_commutative,

@@ -2,7 +2,7 @@
 use Rattle.std.proofs.Common.{◌≡◌, refl, ap, sym, ◌∙◌, true, subst, List, [], ◌∷◌, Result, Ok}
 use Rattle.vx_dtype.specs.declared.Nullability.{Nullability}
 use Rattle.vx_dtype.specs.declared.Nullability.TheVariants.{NonNullable}
-use Rattle.vx_dtype.specs.Types.{Bytes, Ty, bool_ty, struct_ty}
+use Rattle.vx_dtype.specs.Types.{Bytes, Ty, bool_ty}
 use Rattle.vx_dtype.specs.TypeRules.{is_nullable, nullability_of, no_name_twice}
 use Rattle.vx_dtype.specs.Values.{Val, struct_val}
 use Rattle.vx_dtype.specs.Logic.{not3, is_null3}
@@ -13,7 +13,7 @@ use Rattle.vx_dtype.specs.Lists.{contains3}
 use Rattle.vx_dtype.specs.Structs.{field_of}
 use Rattle.vx_expr.specs.declared.FieldSelection.{FieldSelection}
 use Rattle.vx_expr.specs.Trees.{Tree, root, literal, get_item, binary, not_of, is_null_of, like, between, cast, list_contains, pack, merge, select, dynamic, Trees, no_trees, tree}
-use Rattle.vx_semantics.specs.Typing.{Refusal, duplicate_field, unless, and_then, item_type, select_type, pack_type, merge_type, binary_type, not_type, like_type, between_type, contains_type, cast_type, dynamic_type, typed_of, all_typed, names_in, type_or_empty, given_names}
+use Rattle.vx_semantics.specs.Typing.{Refusal, duplicate_field, and_then, item_type, select_type, pack_type, merge_type, binary_type, not_type, like_type, between_type, contains_type, cast_type, dynamic_type, typed_of, all_typed, names_in, type_or_empty, given_names}
 use Rattle.vx_semantics.specs.Meaning.{Slots, Source, binary3, dynamic3, select3, slot_value, merged, zip_members, mean, meanings, sources}
 use Rattle.vx_laws.proofs.Inverting.{and_then-ok, unless-ok, Ok-same}
 use Rattle.vx_laws.proofs.Structs.{select_type-ok}

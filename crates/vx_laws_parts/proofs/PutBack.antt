@@ -1,5 +1,5 @@
 -- An expression without its parts, over a row in which each part stands under its name, has the type of the expression and means the same.
-use Rattle.std.proofs.Common.{arith, ◌≡◌, refl, ap, sym, ◌∙◌, Bool, true, false, cond, ◌&&◌, subst, List, [], ◌∷◌, ◌++◌, length, ℕ, suc, ◌+◌, Result, Ok}
+use Rattle.std.proofs.Common.{arith, ◌≡◌, refl, ap, ◌∙◌, Bool, true, false, cond, ◌&&◌, subst, List, [], ◌∷◌, ◌++◌, length, ℕ, suc, ◌+◌, Result, Ok}
 use Rattle.std.proofs.lemmas.Bool.{and_parts}
 use Rattle.vx_dtype.specs.declared.Nullability.TheVariants.{NonNullable}
 use Rattle.vx_dtype.specs.Types.{Bytes, Ty, bool_ty}
@@ -14,7 +14,7 @@ use Rattle.vx_expr.specs.Trees.{Tree, root, literal, get_item, binary, not_of, i
 use Rattle.vx_semantics.specs.Typing.{Refusal, and_then, item_type, select_type, pack_type, merge_type, binary_type, not_type, like_type, between_type, contains_type, cast_type, dynamic_type, typed_of, all_typed, names_in, type_or_empty, given_names}
 use Rattle.vx_semantics.specs.Meaning.{Slots, Source, binary3, dynamic3, select3, slot_value, merged, zip_members, mean, meanings, sources}
 use Rattle.vx_passes.specs.Annotating.{Entry, entry_of}
-use Rattle.vx_passes.specs.Splitting.{Share, Taken, AllTaken, parts_count, with_part, part_access, part_or_below, over_one, over_two, over_three, over_list, before_taken, taken_from, all_taken_from}
+use Rattle.vx_passes.specs.Splitting.{Share, Taken, parts_count, with_part, part_access, part_or_below, over_one, over_two, over_three, over_list, taken_from, all_taken_from}
 use Rattle.vx_laws_parts.specs.Taking.{part_or, row_in_parts, row_in_parts_of_all}
 
 module _ (t u : Ty) (slots : Slots) (row made : Val) where

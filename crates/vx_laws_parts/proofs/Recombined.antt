@@ -1,35 +1,35 @@
 -- The partitions of an expression and the root over them: simplified packs, put together again.
-use Rattle.std.proofs.Common.{◌≡◌, refl, ap, sym, ◌∙◌, Bool, true, ◌&&◌, subst, List, [], ◌∷◌, map, Result, Ok}
+use Rattle.std.proofs.Common.{◌≡◌, refl, ap, sym, ◌∙◌, Bool, true, subst, List, [], ◌∷◌, map, Result, Ok}
 use Rattle.std.proofs.lemmas.Bool.{and_from}
 use Rattle.vx_dtype.specs.declared.Nullability.TheVariants.{NonNullable}
 use Rattle.vx_dtype.specs.Types.{Bytes, Ty, struct_ty}
 use Rattle.vx_dtype.specs.Values.{Val, struct_val}
 use Rattle.vx_dtype.specs.Zipped.{zipped}
-use Rattle.vx_expr.specs.Trees.{Tree, root, pack, Trees, no_trees, tree, trees_of}
+use Rattle.vx_expr.specs.Trees.{Tree, pack, trees_of}
 use Rattle.vx_semantics.specs.Typing.{Refusal, and_then, pack_type, typed_of, all_typed}
-use Rattle.vx_semantics.specs.LooseTyping.{loosely_typed}
 use Rattle.vx_semantics.specs.Meaning.{Slots, zip_members, mean, meanings}
 use Rattle.vx_semantics.specs.Slots.{slots_fit, all_slots_fit}
 use Rattle.vx_semantics.specs.Breaks.{by_sum}
 use Rattle.vx_passes.specs.Annotating.{Entry, annotated}
-use Rattle.vx_passes.specs.Splitting.{Share, Taken, Partition, Split, split, partitions_type, taken_from, packed_parts, part_names, typed_part, partition_of, partitions_of, with_root}
+use Rattle.vx_passes.specs.Splitting.{Share, Partition, Split, split, partitions_type, taken_from, packed_parts, typed_part, partition_of, partitions_of, with_root}
 use Rattle.vx_passes.specs.TypedSimplifying.{simplified_typed}
 use Rattle.vx_laws.proofs.Inverting.{and_then-ok, Ok-same}
 use Rattle.vx_laws.proofs.Preserving.{FitsButFaults, mean-fits}
 use Rattle.vx_laws_passes.proofs.Observing.{breaking, breaking-observes}
 use Rattle.vx_laws_simplifying.specs.Narrowing.{no_more_nullable}
 use Rattle.vx_laws_simplifying.proofs.Narrows.{narrowing, Narrow}
-use Rattle.vx_laws_simplifying.proofs.Under.{Ranked, UnderList, ended, further, pack-under}
-use Rattle.vx_laws_simplifying.proofs.Kept.{Kept, Made}
+use Rattle.vx_laws_simplifying.proofs.Under.{UnderList, ended, further, pack-under}
 use Rattle.vx_laws_simplifying.proofs.Passes.{some_row, some_row-fits, no_slots-fit}
 use Rattle.vx_laws_removing.proofs.Composed.{simplified_typed-kept}
 use Rattle.vx_laws_removing.proofs.Loosened.{strict_types_are_loose}
 use Rattle.vx_laws_parts.specs.Taking.{packed_shares, TakesParts}
 use Rattle.vx_laws_parts.specs.Recombining.{partitions_row, SplitsWithoutRefusal, SplitRecombines}
 use Rattle.vx_laws_parts.proofs.PutBack.{Stands}
-use Rattle.vx_laws_parts.proofs.Taken.{PackIs, pack-is, packs-stand, taken-stands}
-use Rattle.vx_laws_parts.proofs.Narrower.{Narrower, narrower}
-use Rattle.vx_laws_parts.proofs.PartsFit.{SharesFit, FitTaken, taken-fits}
+use Rattle.vx_laws_parts.proofs.SharesHold.{map-twice}
+use Rattle.vx_laws_parts.proofs.PartsTyped.{parts_are_typed}
+use Rattle.vx_laws_parts.proofs.Taken.{pack-is, packs-stand, taken-stands}
+use Rattle.vx_laws_parts.proofs.Narrower.{narrower}
+use Rattle.vx_laws_parts.proofs.PartsFit.{SharesFit, taken-fits}
 
 -- what simplifying by types makes of a strictly typed expression
 record Simple (t : Ty) (slots : Slots) (row : Val) (e : Tree) (w : Ty) : Type 0 where
@@ -47,14 +47,10 @@ simple t slots row e w g s h =
     let m = simplified_typed-kept t slots row (breaking by_sum t slots row) o e w g s h in
     record { made = m.made; is = m.is; ty = m.kept.ty; typed = m.kept.typed; narrow = m.kept.narrow; fitting = m.kept.fitting; means = m.kept.means }
 
-mean-list : (t : Ty) (slots : Slots) (row : Val) (es : List Tree) → meanings t slots row (trees_of es) ≡ map (mean t slots row) es
+pub mean-list : (t : Ty) (slots : Slots) (row : Val) (es : List Tree) → meanings t slots row (trees_of es) ≡ map (mean t slots row) es
 unfolding mean
 mean-list t slots row [] = refl
 mean-list t slots row (e ∷ es) = ap (λ (vs : List Val). mean t slots row e ∷ vs) (mean-list t slots row es)
-
-map-twice : {A B C : Type 0} (f : B → C) (g : A → B) (xs : List A) → map f (map g xs) ≡ map (λ x. f (g x)) xs
-map-twice {C = C} f g [] = refl
-map-twice {C = C} f g (x ∷ xs) = ap (λ (ys : List C). f (g x) ∷ ys) (map-twice f g xs)
 
 module _ {A : Type 0} (text : A → Bytes) (t : Ty) (slots : Slots) (row : Val) where
   abbrev packs : List (Share A) → List Tree
@@ -107,14 +103,14 @@ module _ {A : Type 0} (text : A → Bytes) (t : Ty) (slots : Slots) (row : Val) 
       }
 
   -- an expression that was split
-  record Splits (ss : List (Share A)) (d e : Tree) : Type 0 where
+  record PutTogether (ss : List (Share A)) (d e : Tree) : Type 0 where
     pub made : Split A
     pub is : and_then (partitions_of text t ss) (with_root text d) ≡ Ok made
     pub annotations : map (λ p. p.annotation) made.partitions ≡ map (λ x. x.annotation) ss
     pub means : mean (partitions_type text made.partitions) slots (partitions_row text t slots row made.partitions) made.root_expression ≡ mean t slots row e
 
   splits : (same : A → A → Bool) (m : List (Entry A)) (ss : List (Share A)) (d e : Tree) (u w : Ty) → FitsButFaults row t → SharesFit slots same text m ss → slots_fit slots d ≡ true
-      → typed_of t (packed_shares text ss) ≡ Ok u → typed_of t e ≡ Ok w → Stands t u slots row (mean t slots row (packed_shares text ss)) d e → Splits ss d e
+      → typed_of t (packed_shares text ss) ≡ Ok u → typed_of t e ≡ Ok w → Stands t u slots row (mean t slots row (packed_shares text ss)) d e → PutTogether ss d e
   unfolding typed_of mean slots_fit
   splits same m ss d e u w g s f h i stands =
       let names = map (λ x. text x.annotation) ss in
@@ -157,7 +153,7 @@ module _ {A : Type 0} (text : A → Bytes) (t : Ty) (slots : Slots) (row : Val) 
 
 split-of : {A : Type 0} (same : A → A → Bool) (text : A → Bytes) (annotate : Tree → List A) (t : Ty) (slots : Slots) (row : Val) (e : Tree) (u w : Ty)
     → TakesParts A same text (annotated same annotate e) t e u → typed_of t e ≡ Ok w → FitsButFaults row t → slots_fit slots e ≡ true
-    → Splits text t slots row (taken_from same text (annotated same annotate e) e []).shares (taken_from same text (annotated same annotate e) e []).expression e
+    → PutTogether text t slots row (taken_from same text (annotated same annotate e) e []).shares (taken_from same text (annotated same annotate e) e []).expression e
 split-of same text annotate t slots row e u w p i g f =
     let m = annotated same annotate e in
     let x = taken_from same text m e [] in
@@ -165,12 +161,14 @@ split-of same text annotate t slots row e u w p i g f =
     splits text t slots row same m x.shares x.expression e u w g k.shares k.expression p.typed i (taken-stands same text m t slots row e u p)
 
 pub splits_without_refusal : (A : Type 0) → SplitsWithoutRefusal A
-splits_without_refusal A same text annotate t e u w p i =
-    let s = split-of same text annotate t [] (some_row t) e u w p i (some_row-fits t) (no_slots-fit e) in
+splits_without_refusal A same text annotate t e w p =
+    let k = parts_are_typed A same text annotate t e w p in
+    let s = split-of same text annotate t [] (some_row t) e k.0 w k.1 p.typed (some_row-fits t) (no_slots-fit e) in
     (s.made, s.is, s.annotations)
 
 pub split_recombines : (A : Type 0) → SplitRecombines A
-split_recombines A same text annotate t slots row e u w s p i g f h =
-    let k = split-of same text annotate t slots row e u w p i g f in
+split_recombines A same text annotate t slots row e w s p g f h =
+    let j = parts_are_typed A same text annotate t e w p in
+    let k = split-of same text annotate t slots row e j.0 w j.1 p.typed g f in
     let one : k.made ≡ s = Ok-same (split same text annotate t e) k.made s k.is h in
     subst (λ (z : Split A). mean (partitions_type text z.partitions) slots (partitions_row text t slots row z.partitions) z.root_expression ≡ mean t slots row e) one k.means

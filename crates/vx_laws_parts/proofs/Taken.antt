@@ -1,23 +1,22 @@
 -- The parts of an expression stand under their names in the struct of their packs.
-use Rattle.std.proofs.Common.{◌≡◌, refl, ap, sym, ◌∙◌, Bool, true, false, cond, not, ◌&&◌, ◌||◌, subst, List, [], ◌∷◌, length, map, ℕ, suc, Option, Some, None, Result, Ok}
+use Rattle.std.proofs.Common.{◌≡◌, refl, ap, sym, ◌∙◌, Bool, true, false, cond, not, subst, List, [], ◌∷◌, length, map, ℕ, suc, Option, Some, Result, Ok}
 use Rattle.std.specs.Prelude.{nat_eq, option_map, ok_or, unwrap_or}
 use Rattle.std.specs.Str.{bytes_eq}
 use Rattle.std.proofs.lemmas.Bool.{and_parts, or_left, or_right}
-use Rattle.vx_dtype.specs.declared.Nullability.{Nullability}
 use Rattle.vx_dtype.specs.declared.Nullability.TheVariants.{Nullable, NonNullable}
-use Rattle.vx_dtype.specs.Types.{Bytes, Ty, bool_ty, int_ty, text_ty, list_ty, struct_ty, Fields, no_fields, field}
-use Rattle.vx_dtype.specs.TypeRules.{widened, field_type, has_name, distinct_names, no_name_twice}
-use Rattle.vx_dtype.specs.Values.{Val, struct_val, fault, Members, no_members, member}
+use Rattle.vx_dtype.specs.Types.{Bytes, Ty, bool_ty, int_ty, text_ty, list_ty, struct_ty, Fields, field}
+use Rattle.vx_dtype.specs.TypeRules.{widened, field_type, has_name, distinct_names}
+use Rattle.vx_dtype.specs.Values.{Val, struct_val, fault, Members, member}
 use Rattle.vx_dtype.specs.Structs.{member_named, field_of}
 use Rattle.vx_dtype.specs.Zipped.{zipped}
-use Rattle.vx_expr.specs.Trees.{Tree, root, get_item, pack, Trees, no_trees, tree, trees_of}
+use Rattle.vx_expr.specs.Trees.{Tree, root, get_item, pack, Trees, trees_of}
 use Rattle.vx_semantics.specs.Typing.{Refusal, duplicate_field, type_mismatch, unknown_field, unless, and_then, item_type, pack_type, typed_of, all_typed}
 use Rattle.vx_semantics.specs.Meaning.{Slots, zip_members, mean, meanings}
 use Rattle.vx_passes.specs.Annotating.{Entry}
-use Rattle.vx_passes.specs.Splitting.{Share, Taken, part_names, packed_parts, taken_from}
+use Rattle.vx_passes.specs.Splitting.{Share, part_names, packed_parts, taken_from}
 use Rattle.vx_laws.proofs.Inverting.{and_then-ok, unless-ok, Ok-same, bytes_same, bytes_eq-itself}
 use Rattle.vx_laws.proofs.Distinct.{not-has, typed-distinct}
-use Rattle.vx_laws_parts.specs.Taking.{packed_shares, row_in_parts, TakesParts, TakenKeepsType, TakenKeepsMeaning}
+use Rattle.vx_laws_parts.specs.Taking.{packed_shares, TakesParts, TakenKeepsType, TakenKeepsMeaning}
 use Rattle.vx_laws_parts.proofs.PutBack.{Stands, PartsStand, SharesStand, taken-goes}
 
 widened-itself : (w : Ty) → widened w NonNullable ≡ w
@@ -133,18 +132,24 @@ unfolding typed_of mean
 packs-stand t u slots row e h =
     record { typed = ap (λ (b : Bool). unless b duplicate_field (Ok u)) (typed-distinct t e u h) ∙ sym h; means = refl }
 
+-- each part of the shares stands under its name
+pub all-stand : {A : Type 0} (same : A → A → Bool) (text : A → Bytes) (m : List (Entry A)) (t : Ty) (slots : Slots) (row : Val) (ss : List (Share A)) (u : Ty) → typed_of t (packed_shares text ss) ≡ Ok u
+    → SharesStand t u slots row (mean t slots row (packed_shares text ss)) same text m ss
+all-stand same text m t slots row ss u h =
+    let packs = packed_shares text ss in
+    let made = mean t slots row packs in
+    let names = map (λ x. text x.annotation) ss in
+    let parts = map (λ x. packed_parts (text x.annotation) x.parts) ss in
+    let q = pack-is t names (trees_of parts) u h in
+    shares-stand t u slots row made same text m ss q.types (pack-stands t u slots row made root names parts u (packs-stand t u slots row packs h) h) q.typed
+
 -- the expression without its parts stands for the expression
 pub taken-stands : {A : Type 0} (same : A → A → Bool) (text : A → Bytes) (m : List (Entry A)) (t : Ty) (slots : Slots) (row : Val) (e : Tree) (u : Ty) → TakesParts A same text m t e u
     → Stands t u slots row (mean t slots row (packed_shares text (taken_from same text m e []).shares)) (taken_from same text m e []).expression e
 taken-stands same text m t slots row e u p =
     let ss = (taken_from same text m e []).shares in
-    let packs = packed_shares text ss in
-    let made = mean t slots row packs in
-    let names = map (λ x. text x.annotation) ss in
-    let parts = map (λ x. packed_parts (text x.annotation) x.parts) ss in
-    let q = pack-is t names (trees_of parts) u p.typed in
-    let all = shares-stand t u slots row made same text m ss q.types (pack-stands t u slots row made root names parts u (packs-stand t u slots row packs p.typed) p.typed) q.typed in
-    (taken-goes t u slots row made same text m (λ a b h. ap text (sym (p.decides a b h))) e [] all).stands p.covered
+    let made = mean t slots row (packed_shares text ss) in
+    (taken-goes t u slots row made same text m (λ a b h. ap text (sym (p.decides a b h))) e [] (all-stand same text m t slots row ss u p.typed)).stands p.covered
 
 pub taken_typed : (A : Type 0) → TakenKeepsType A
 taken_typed A same text m t e u p = (taken-stands same text m t [] fault e u p).typed

@@ -8,7 +8,7 @@ use Rattle.vx_expr.specs.Trees.{Trees, no_trees, tree, trees_of}
 use Rattle.vx_semantics.specs.Typing.{typed_of}
 use Rattle.vx_semantics.specs.Meaning.{Slots, mean}
 use Rattle.vx_passes.specs.Annotating.{Entry, entry_of}
-use Rattle.vx_passes.specs.Splitting.{Share, Taken, taken_from, packed_parts}
+use Rattle.vx_passes.specs.Splitting.{Share, taken_from, packed_parts}
 
 -- whether a node with these annotations becomes a part, or what is said of the nodes below it holds
 abbrev pub part_or : {A : Type 0} → List A → Bool → Bool

@@ -4,5 +4,5 @@
 mod recombining;
 mod taking;
 
-pub use recombining::{split_recombines, splits_without_refusal};
+pub use recombining::{parts_are_typed, split_recombines, splits_without_refusal};
 pub use taking::taken_parts_put_back;

@@ -1,9 +1,14 @@
 // An expression split by its annotations, put together again.
 
-ghost use Rattle.vx_laws_parts.specs.Recombining.{SplitRecombines, SplitsWithoutRefusal};
+ghost use Rattle.vx_laws_parts.specs.Recombining.{PartsAreTyped, SplitRecombines, SplitsWithoutRefusal};
 
-/// A strictly typed expression is split without a refusal where each place of the row stands in a part
-/// and the packs of the parts have a strict type; its partitions are those of the shares, in order.
+/// The packs of the parts of a strictly typed expression have a strict type, where each place of the row stands in a part,
+/// no two annotations have one text, and the expression has fewer than 2 ^ 64 nodes.
+pub fn parts_are_typed<A>()
+    ensures { PartsAreTyped A }
+{}
+
+/// There an expression is split without a refusal; its partitions are those of the shares, in order.
 pub fn splits_without_refusal<A>()
     ensures { SplitsWithoutRefusal A }
 {}

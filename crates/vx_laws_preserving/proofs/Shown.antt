@@ -48,15 +48,15 @@ pub is_column-shows : (c : Bytes) → Shows (is_column c) (is_column_node c)
 is_column-shows c = record { row = refl; field = λ f. refl; other = no-column c }
 
 -- a field straight on what is no pack
-simple-item : (f : Bytes) (x : Tree) → is_simple (get_item f x) ≡ true → is_pack x ≡ false
+pub simple-item : (f : Bytes) (x : Tree) → is_simple (get_item f x) ≡ true → is_pack x ≡ false
 simple-item f (pack names es n) h = let no : ⊥ = cc in absurd no
 simple-item f _ h = refl
 
-never-pack : (x : Tree) (path : List Bytes) → is_pack x ≡ false → is_pack x ≡ true → path ≡ []
+pub never-pack : (x : Tree) (path : List Bytes) → is_pack x ≡ false → is_pack x ≡ true → path ≡ []
 never-pack x path h k = let no : ⊥ = cc in absurd no
 
 -- a typed pack has as many names as values
-pack-even : (names : List Bytes) (n : Nullability) (us : List Ty) (u : Ty) → pack_type names n us ≡ Ok u → length names ≡ length us
+pub pack-even : (names : List Bytes) (n : Nullability) (us : List Ty) (u : Ty) → pack_type names n us ≡ Ok u → length names ≡ length us
 pack-even names n us u h =
     let made : Result Ty Refusal = Ok (struct_ty (zipped names us) n) in
     let a = unless-ok (distinct_names names) duplicate_field (unless (nat_eq (length names) (length us)) type_mismatch made) u h in

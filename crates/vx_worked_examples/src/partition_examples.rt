@@ -10,7 +10,7 @@ ghost use Rattle.vx_expr.specs.Trees.{root, get_item, binary, literal, merge, pa
 ghost use Rattle.vx_worked_examples.specs.Samples.{col, only, pack_one, pack_two, boolean};
 ghost use Rattle.vx_passes.specs.Annotating.{annotated, column_annotation};
 ghost use Rattle.std.specs.Str.{bytes_eq};
-ghost use Rattle.vx_worked_examples.specs.PassSamples.{n, item, annotated_by, both, column_compared, three_columns, column_parts, part};
+ghost use Rattle.vx_worked_examples.specs.PassSamples.{n, item, annotated_by, both, column_compared, three_columns, x_alone, column_parts, part};
 
 /// A field of a column is one part of it.
 pub fn parts_of_one_column()
@@ -29,9 +29,10 @@ pub fn parts_of_a_merge()
         }) }
 {}
 
-/// The row itself has more columns than one: no part, and the root is the row.
+/// The row itself has all columns: of more than one it is no part, and the root is the row; of one it is a part of this column.
 pub fn parts_of_the_row()
-    ensures { column_parts three_columns root ≡ Ok (record { root_expression = root; parts = [] }) }
+    ensures several { column_parts three_columns root ≡ Ok (record { root_expression = root; parts = [] }) }
+    ensures one { column_parts x_alone root ≡ Ok (record { root_expression = part "x" "x_0"; parts = (codes "x", pack_one "x_0" root) ∷ [] }) }
 {}
 
 /// Two columns under `and` are two parts.

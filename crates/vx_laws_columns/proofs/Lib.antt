@@ -1,0 +1,13 @@
+pub mod Sets
+pub mod Rows
+pub mod Entries
+pub mod Covered
+pub mod OtherScope
+pub mod AskedColumns
+pub mod Partitions
+pub mod SameBreaks
+pub mod ByColumn
+pub mod Remade
+pub mod LeftOver
+pub mod Breaking
+pub mod OneColumn
