@@ -44,7 +44,8 @@ child_lower (merge es n) c i at = omega (arith, lower_in es i c at)
 child_lower (select s e) c i at = omega (arith, lower_in (tree e no_trees) i c at)
 child_lower (dynamic e op k t default) c i at = omega (arith, lower_in (tree e no_trees) i c at)
 
-left_step : (cs : List Tree) (i : ℕ) (c : Tree) → slice_get cs i ≡ Some c → drop i cs ≡ c ∷ drop (i + 1) cs
+-- the children from a place on are the one there and those behind it
+pub left_step : (cs : List Tree) (i : ℕ) (c : Tree) → slice_get cs i ≡ Some c → drop i cs ≡ c ∷ drop (i + 1) cs
 left_step cs i c at = drop_more cs i c (slice_get_within cs i c at) ∙ ap (λ d. d ∷ drop (i + 1) cs) (get_or_from_slice_get cs i c c at)
 
 -- ---- what a rule gives each of a list of expressions

@@ -1,19 +1,25 @@
-// The types of expressions.
+// The types of expressions, and their columns over rows.
 ghost use Rattle.std.specs.Prelude.{◌≡◌};
 ghost use Rattle.vx_dtype.specs.TypeViews.{type_view};
 ghost use Rattle.vx_expr.specs.Trees.{Tree};
 ghost use Rattle.vx_semantics.specs.Typing.{typed_of};
 ghost use Rattle.vx_semantics.specs.LooseTyping.{loosely_typed};
 ghost use Rattle.vx_eval.specs.TypingAnswers.{AnswersType};
+ghost use Rattle.vx_eval.specs.Scopes.{scope_rows, scope_slots};
+ghost use Rattle.vx_eval.specs.Evaluating.{Evaluates};
 
-use crate::errors::TypeError;
+use crate::columns::column_of;
+use crate::errors::{EvalError, Failure, TypeError};
 use crate::loose_typing::loose;
+use crate::scopes::Scope;
+use crate::slots::slots_fit;
 use crate::strict_typing::strict;
 use std::alloc::Global;
+use vx_column::ColumnRef;
 use vx_dtype::DType;
 use vx_expr::ExprRef;
 
-/// Expressions that have a type over a scope.
+/// Expressions that have a type over a scope, and a column over its rows.
 pub trait ExprEval {
     ghost tree: { Self → Tree };
 
@@ -27,6 +33,16 @@ pub trait ExprEval {
     /// The type of the expression over a scope of this type, or the refusal of its first node in post-order that has none.
     fn typed(&self, alloc: Global, scope: &DType) -> Result<DType, TypeError>
         ensures { AnswersType (typed_of (type_view scope.now) (tree self.now)) result };
+
+    /// The column of the expression over the rows of a scope: of the type that [`ExprEval::typed`] gives, with the expression's meaning
+    /// at each row. Its refusals, in this order: Typing with the refusal of `typed`; Typing with TypeMismatch where a slot holds a
+    /// constant of a type that isn't the one that its comparison names but for nullability, or null where that type isn't nullable;
+    /// Overflow or BadCast exactly where some node of the expression breaks at some row, whether the answer asks that node there or
+    /// not. A node breaks where it has no value while none of its operands is a fault: by a sum or a difference that leaves its integer
+    /// type, which is Overflow, or by a cast of a number out of the target's range, or of null to a type without null, which is BadCast.
+    /// Where nodes break by both causes either may come.
+    fn evaluate(&self, alloc: Global, scope: &Scope) -> Result<ColumnRef, EvalError>
+        ensures { Evaluates (scope_rows scope.now).ty (scope_slots scope.now) (scope_rows scope.now).rows (tree self.now) result };
 }
 
 impl ExprEval for ExprRef {
@@ -38,5 +54,23 @@ impl ExprEval for ExprRef {
 
     fn typed(&self, alloc: Global, scope: &DType) -> Result<DType, TypeError> {
         strict(alloc, self, scope)
+    }
+
+    fn evaluate(&self, alloc: Global, scope: &Scope) -> Result<ColumnRef, EvalError> {
+        match strict(alloc, self, scope.root().dtype()) {
+            Ok(_) => {}
+            Err(TypeError::NoMemory) => return Err(EvalError::NoMemory),
+            Err(refusal) => return Err(EvalError::Typing(refusal)),
+        }
+        if !slots_fit(scope.slots(), self) {
+            return Err(EvalError::Typing(TypeError::TypeMismatch));
+        }
+        match column_of(alloc, self, scope) {
+            Ok(column) => Ok(column),
+            Err(Failure::NoMemory) => Err(EvalError::NoMemory),
+            Err(Failure::Overflow) => Err(EvalError::Overflow),
+            Err(Failure::BadCast) => Err(EvalError::BadCast),
+            Err(Failure::Mistyped) => unreachable!(),
+        }
     }
 }

@@ -5,7 +5,7 @@ ghost use Rattle.vx_dtype.specs.TypeRules.{has_name};
 ghost use Rattle.vx_dtype.specs.StructTypes.{is_struct_ty};
 ghost use Rattle.vx_dtype.specs.Structs.{first_names};
 ghost use Rattle.vx_dtype.specs.TypeViews.{type_view};
-ghost use Rattle.vx_semantics.specs.Merging.{last_giver};
+ghost use Rattle.vx_semantics.specs.Merging.{merged_names, last_giver};
 ghost use Rattle.vx_semantics.specs.Typing.{names_in, type_in, merged_type_at, merged_fields_at, merge_type};
 ghost use Rattle.vx_eval.specs.TypingAnswers.{AnswersType};
 
@@ -15,7 +15,7 @@ use std::collections::BTreeSet;
 use vx_dtype::{DType, FieldName, FieldNames, Mem, Nullability, StructFields};
 
 /// Whether each type is a struct.
-fn all_structs(types: &[DType]) -> bool
+pub(crate) fn all_structs(types: &[DType]) -> bool
     ensures { result ≡ list_all is_struct_ty (map type_view types.now) }
 {
     for dtype in types {
@@ -27,7 +27,7 @@ fn all_structs(types: &[DType]) -> bool
 }
 
 /// Whether a type is a struct with a field of this name.
-fn gives(dtype: &DType, name: &FieldName) -> bool
+pub(crate) fn gives(dtype: &DType, name: &FieldName) -> bool
     ensures { result ≡ has_name name.now (names_in (type_view dtype.now)) }
 {
     match dtype {
@@ -113,6 +113,14 @@ fn first_names(alloc: Global, names: &[FieldName]) -> Mem<Vec<FieldName>>
     Ok(first)
 }
 
+/// The names that the structs give together, in order of first appearance.
+pub(crate) fn merged_names(alloc: Global, types: &[DType]) -> Mem<Vec<FieldName>>
+    ensures { IfOk result (λ names. names.items ≡ merged_names names_in (map type_view types.now)) }
+{
+    let all = all_names(alloc, types)?;
+    first_names(alloc, all.as_slice())
+}
+
 /// The fields with these names, each of the type that the last struct with the name gives it.
 fn merged_fields(alloc: Global, names: &[FieldName], types: &[DType]) -> Mem<StructFields>
     ensures { IfOk result (λ fields. fields ≡ merged_fields_at names.now (map type_view types.now)) }
@@ -142,7 +150,7 @@ pub(crate) fn merge_type(
     if !all_structs(types) {
         return Err(TypeError::NotStruct);
     }
-    let names = first_names(alloc, all_names(alloc, types)?.as_slice())?;
+    let names = merged_names(alloc, types)?;
     let fields = merged_fields(alloc, names.as_slice(), types)?;
     Ok(DType::Struct(fields, nullability))
 }

@@ -2,6 +2,14 @@
 #![tactic(auto)]
 
 #[cfg(test)]
+mod evaluation;
+#[cfg(test)]
+mod evaluation_refusals;
+#[cfg(test)]
 mod samples;
 #[cfg(test)]
+mod tables;
+#[cfg(test)]
 mod typing;
+#[cfg(test)]
+mod versions;
