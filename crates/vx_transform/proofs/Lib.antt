@@ -1,0 +1,5 @@
+pub mod RebuildLemmas
+mod TypeLemmas
+mod PairLemmas
+mod MergeLemmas
+mod ChangeLemmas

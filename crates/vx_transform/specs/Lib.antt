@@ -1,0 +1,13 @@
+pub mod TransformAnswers
+pub mod Rebuilds
+pub mod Pairs
+pub mod CodeViews
+pub use Rattle.vx_dtype.specs.TypeViews
+pub use Rattle.vx_semantics.specs.Typing
+pub use Rattle.vx_semantics.specs.LooseTyping
+pub use Rattle.vx_passes.specs.Replacing
+pub use Rattle.vx_passes.specs.Ranges
+pub use Rattle.vx_passes.specs.Simplifying
+pub use Rattle.vx_passes.specs.Selecting
+pub use Rattle.vx_passes.specs.Merging
+pub use Rattle.vx_passes.specs.TypedSimplifying
