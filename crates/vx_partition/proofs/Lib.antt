@@ -1,0 +1,6 @@
+mod EntryLemmas
+mod VisitLemmas
+mod ScopeLemmas
+mod ShareLemmas
+mod TakeLemmas
+mod SplitLemmas

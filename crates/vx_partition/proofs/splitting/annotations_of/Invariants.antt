@@ -1,0 +1,6 @@
+use Rattle.std.proofs.Common.{◌≡◌, map, take}
+use Rattle.vx_partition.specs.Views.{partition_view}
+use Rattle.vx_partition.proofs.splitting.annotations_of.Given as goal
+
+abbrev pub invariant-loop-partition : goal.invariant-loop-partition
+invariant-loop-partition g l = l.annotations.items ≡ map (λ p. p.annotation) (map partition_view (take l.partition-index l.partitions))

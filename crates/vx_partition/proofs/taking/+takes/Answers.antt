@@ -1,0 +1,60 @@
+use Rattle.std.proofs.Common.{◌≡◌, ◌≤◌, ◌++◌, ◌||◌, [], ◌∷◌, length, ap, sym, ◌∙◌, subst, None, refl, arith, rules}
+use Rattle.std.specs.Prelude.{IfOk}
+use Rattle.vx_expr.specs.Trees.{children_of}
+use Rattle.vx_passes.specs.Splitting.{with_part}
+use Rattle.vx_transform.specs.Rebuilds.{or_same}
+use Rattle.vx_transform.proofs.RebuildLemmas.{child_lower, unchanged_step}
+use Rattle.vx_partition.specs.Takings.{taken_as}
+use Rattle.vx_partition.specs.Views.{entries_view, shares_view}
+use Rattle.vx_partition.proofs.TakeLemmas.{goes_on, as_many_made, over_all, all_stand, is_below, is_part}
+use Rattle.vx_partition.proofs.taking.+takes.Goals as goal
+
+pub take-returns-in_ok-take-in-Some : goal.take-returns-in_ok-take-in-Some
+take-returns-in_ok-take-in-Some g t c =
+    let same = g.A.PartialEq.eq in
+    let text = g.A.Annotation.text in
+    let e = c.args.expr.now in
+    is_part same text (entries_view c.args.found.now) e (shares_view c.args.shares.now) c.in-Some.annotation.now c.in_ok-take-in-Some.field-0
+    (shares_view c.take.new.self) c.in-Some.ensures c.in_ok-take-in-Some.ensures.access
+    (c.in_ok-take-in-Some.ensures.shares ∙ ap (λ d. with_part same c.in-Some.annotation.now d (shares_view c.args.shares.now)) c.in_ok-clone-in-Some.ensures.cases)
+
+pub take-returns-in-None : goal.take-returns-in-None
+take-returns-in-None g t c =
+    let below = is_below g.A.PartialEq.eq g.A.Annotation.text (entries_view c.args.found.now) c.args.expr.now (shares_view c.args.shares.now) None c.in-None.ensures refl in
+    subst (λ whole. IfOk c.take_below.result (λ made. whole ≡ taken_as (or_same c.args.expr.now made) (shares_view c.take_below.new.shares))) (sym below) c.take_below.ensures
+
+pub take_below-take-requires : goal.take_below-take-requires
+take_below-take-requires g t c κs within =
+    (omega (arith, child_lower c.args.expr.now c.child_at-child.result.now c.loop-i.i c.child_at-child.ensures, c.decreases), search rules)
+
+pub take_below-loop-i-preserved : goal.take_below-loop-i-preserved
+take_below-loop-i-preserved g t c =
+    let cs = children_of c.args.expr.now in
+    let child = c.child_at-child.result.now in
+    let items = c.loop-i.children.items in
+    let pushed = c.in_ok-push.ensures.items ∙ ap (λ d. items ++ d ∷ []) c.in_ok-or_shared.ensures in (
+      goes_on g.A.PartialEq.eq g.A.Annotation.text (entries_view c.args.found.now) cs c.loop-i.i (shares_view c.args.shares.now) (shares_view c.loop-i.shares) items
+          c.loop-i.invariant.0 child (or_same child c.in_ok-made.made) (shares_view c.take.new.shares) c.push.new.self.items c.child_at-child.ensures
+          c.in_ok-made.ensures pushed,
+      λ h. unchanged_step cs c.loop-i.i child items c.push.new.self.items c.loop-i.changed c.in_ok-made.made c.child_at-child.ensures c.loop-i.invariant.1 pushed
+          (ap (λ b. c.loop-i.changed || b) (sym c.is_some.ensures) ∙ h),
+    )
+
+pub take_below-returns-then-not-changed : goal.take_below-returns-then-not-changed
+take_below-returns-then-not-changed g t c =
+    let past : length (children_of c.args.expr.now) ≤ c.loop-i.i = omega (arith, c.loop-i-test.false, c.children_count-i-end.ensures) in
+    all_stand g.A.PartialEq.eq g.A.Annotation.text (entries_view c.args.found.now) c.args.expr.now c.loop-i.i (shares_view c.args.shares.now)
+    (shares_view c.loop-i.shares) c.loop-i.children.items c.loop-i.invariant.0 past (c.loop-i.invariant.1 c.if-not-changed.true)
+
+pub take_below-with_these-requires : goal.take_below-with_these-requires
+take_below-with_these-requires g t c =
+    let past : length (children_of c.args.expr.now) ≤ c.loop-i.i = omega (arith, c.loop-i-test.false, c.children_count-i-end.ensures) in
+    as_many_made g.A.PartialEq.eq g.A.Annotation.text (entries_view c.args.found.now) (children_of c.args.expr.now) c.loop-i.i (shares_view c.args.shares.now)
+    (shares_view c.loop-i.shares) c.loop-i.children.items c.loop-i.invariant.0 past
+
+pub take_below-returns : goal.take_below-returns
+take_below-returns g t c =
+    let past : length (children_of c.args.expr.now) ≤ c.loop-i.i = omega (arith, c.loop-i-test.false, c.children_count-i-end.ensures) in
+    over_all g.A.PartialEq.eq g.A.Annotation.text (entries_view c.args.found.now) c.args.expr.now c.loop-i.i (shares_view c.args.shares.now)
+    (shares_view c.loop-i.shares) c.loop-i.children.items c.loop-i.invariant.0 past
+    ∙ ap (λ d. taken_as d (shares_view c.loop-i.shares)) (sym c.in_ok-with_these.ensures)

@@ -1,0 +1,10 @@
+pub mod Views
+pub mod Visits
+pub mod Scopes
+pub mod Takings
+pub mod Splits
+pub use Rattle.vx_dtype.specs.TypeViews
+pub use Rattle.vx_semantics.specs.Typing
+pub use Rattle.vx_passes.specs.Annotating
+pub use Rattle.vx_passes.specs.Splitting
+pub use Rattle.vx_transform.specs.TransformAnswers

@@ -1,0 +1,15 @@
+-- The columns of a scope.
+use Rattle.std.specs.Prelude.{List}
+use Rattle.vx_dtype.specs.declared.Nullability.TheVariants.{NonNullable}
+use Rattle.vx_dtype.specs.Types.{Bytes, Fields, struct_ty}
+use Rattle.vx_expr.specs.Trees.{Tree}
+use Rattle.vx_passes.specs.Annotating.{column_annotation}
+use Rattle.vx_partition.specs.declared.scope_access.ScopeAccess.{ScopeAccess}
+
+-- the fields of the scope that a rule annotates by
+abbrev pub access_scope : ScopeAccess → Fields
+access_scope rule = rule.scope.now
+
+-- the columns of a scope with these fields that a node touches itself
+abbrev pub columns_of : Fields → Tree → List Bytes
+columns_of fields = column_annotation (struct_ty fields NonNullable)
