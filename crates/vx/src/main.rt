@@ -4,7 +4,8 @@
 use std::env;
 use std::io::ErrorKind;
 use std::process::ExitCode;
-use vx_query::{StdinSource, StdoutSink, run};
+use vx_io::{StdinSource, StdoutSink};
+use vx_query::run;
 
 /// The exit status where there is no memory.
 const NO_MEMORY: u8 = 8;

@@ -20,9 +20,9 @@ use Rattle.vx_semantics.specs.Typing.{item_type, duplicate_field, unknown_field,
 use Rattle.vx_semantics.specs.Tables.{Zones, ZoneStat, row_type}
 use Rattle.vx_semantics.specs.Paths.{path_of}
 use Rattle.vx_semantics.specs.Pruning.{is_statistic, available}
-use Rattle.vx_prune.specs.declared.errors.ZoneError.{ZoneError}
-use Rattle.vx_prune.specs.declared.errors.ZoneError.TheVariants as errors
-use Rattle.vx_prune.specs.Zoning.{are_shallow, type_at, plain_only, leaf_type, statistic_type, type_of_statistic, distinct_statistics, counts_blocks, values_have, has_its_type, broken_rule}
+use Rattle.vx_zones.specs.declared.errors.ZoneError.{ZoneError}
+use Rattle.vx_zones.specs.declared.errors.ZoneError.TheVariants as errors
+use Rattle.vx_zones.specs.Zoning.{are_shallow, type_at, plain_only, leaf_type, statistic_type, type_of_statistic, distinct_statistics, counts_blocks, values_have, has_its_type, broken_rule}
 use Rattle.vx_laws.proofs.Inverting.{and_then-ok, unless-ok, Ok-same}
 use Rattle.vx_laws_pruning.specs.PruningLaws.{AreAccepted}
 use Rattle.vx_laws_pruning.proofs.PlainKinds.{is_kind, kind-nullability, kind-valued}

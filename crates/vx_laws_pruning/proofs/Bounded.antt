@@ -18,7 +18,7 @@ use Rattle.vx_semantics.specs.Typing.{and_then, unless, duplicate_field, unknown
 use Rattle.vx_semantics.specs.Tables.{Zones, ZoneStat, row_type}
 use Rattle.vx_semantics.specs.Paths.{path_of}
 use Rattle.vx_semantics.specs.Pruning.{available, known_in, known_at}
-use Rattle.vx_prune.specs.Zoning.{type_at, plain_only, leaf_type, statistic_type}
+use Rattle.vx_zones.specs.Zoning.{type_at, plain_only, leaf_type, statistic_type}
 use Rattle.vx_laws_scan.specs.Exactness.{IsBounded, PathsAreBounded}
 use Rattle.vx_laws_scan.proofs.Exacting.{pruning_is_exact}
 use Rattle.vx_laws_scan.proofs.HonestRows.{KnownIn, known_in-ok}

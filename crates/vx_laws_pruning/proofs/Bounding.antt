@@ -19,7 +19,7 @@ use Rattle.vx_semantics.specs.Pruning.{available, known, value_in, known_in, kno
 use Rattle.vx_passes.specs.Catalogs.{statistic_column, statistics_among, available_paths, Catalog}
 use Rattle.vx_passes.specs.Falsifying.{Question, Found, found_in, found_by, asked_for, bound_of, compared_by, compared_where, bounds_falsified, one_value, are_numbers, behind_guard, comparison_falsified, is_zero_count, joined_known, and_of}
 use Rattle.vx_passes.specs.PruningTables.{value_or_null}
-use Rattle.vx_prune.specs.Zoning.{statistic_type}
+use Rattle.vx_zones.specs.Zoning.{statistic_type}
 use Rattle.vx_laws.proofs.Comparing.{binary3-operator_of}
 use Rattle.vx_laws.proofs.Inverting.{and_then-ok, unless-ok, Ok-same}
 use Rattle.vx_laws.proofs.Sound.{is_broken}

@@ -19,7 +19,7 @@ use Rattle.vx_semantics.specs.Tables.{Zones, ZoneStat, row_type, joined_name}
 use Rattle.vx_semantics.specs.Pruning.{is_joined, is_statistic, available}
 use Rattle.vx_passes.specs.Catalogs.{statistic_column}
 use Rattle.vx_passes.specs.PruningTables.{available_statistics, first_type, statistics_fields, pruning_fields}
-use Rattle.vx_prune.specs.Zoning.{plain_only, type_at, leaf_type, statistic_type, type_of_statistic, counts_blocks, values_have, has_its_type}
+use Rattle.vx_zones.specs.Zoning.{plain_only, type_at, leaf_type, statistic_type, type_of_statistic, counts_blocks, values_have, has_its_type}
 use Rattle.vx_laws.proofs.Inverting.{bytes_eq-itself}
 use Rattle.vx_laws.proofs.Distinct.{has-not}
 use Rattle.vx_laws_pruning.specs.PruningLaws.{AreAccepted}

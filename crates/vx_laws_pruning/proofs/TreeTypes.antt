@@ -23,7 +23,7 @@ use Rattle.vx_semantics.specs.Breaks.{break_of}
 use Rattle.vx_semantics.specs.Tables.{Zones, ZoneStat, row_type}
 use Rattle.vx_semantics.specs.Paths.{path_of}
 use Rattle.vx_semantics.specs.Pruning.{available}
-use Rattle.vx_prune.specs.Zoning.{leaf_type, statistic_type}
+use Rattle.vx_zones.specs.Zoning.{leaf_type, statistic_type}
 use Rattle.vx_passes.specs.Catalogs.{statistic_column}
 use Rattle.vx_passes.specs.Falsifying.{Question, Found, found_by, found_in, unasked, asked_for, count_of, is_zero_count, bound_of, compared_by, compared_where, one_value, bounds_falsified, are_numbers, behind_guard, comparison_falsified, outside, all_outside_after, and_of, or_of, joined_known, elements_falsified, list_falsified, contains_falsified, dynamic_falsified, falsified, negation_falsified}
 use Rattle.vx_passes.specs.PruningTables.{pruning_where, pruning_fields}

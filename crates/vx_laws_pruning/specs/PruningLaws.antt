@@ -12,7 +12,7 @@ use Rattle.vx_semantics.specs.Tables.{Zones, row_type}
 use Rattle.vx_semantics.specs.Pruning.{rules_out}
 use Rattle.vx_passes.specs.Catalogs.{available_paths}
 use Rattle.vx_passes.specs.PruningTables.{pruning_over, pruning_fields, pruning_row}
-use Rattle.vx_prune.specs.Zoning.{broken_rule}
+use Rattle.vx_zones.specs.Zoning.{broken_rule}
 
 -- whether each value of each statistic is one of its type
 abbrev pub values_fit : Zones → Bool

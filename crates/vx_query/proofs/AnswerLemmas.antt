@@ -2,7 +2,8 @@
 use Rattle.std.proofs.Common.{◌≡◌, ◌∙◌, sym, ap, refl, subst, ℕ, ◌+◌, ◌<◌, Bool, true, false, List, [], ◌∷◌, ◌++◌, length, drop, get_or, map, Some, None, Option, ◌&&◌, Result, Ok, Err}
 use Rattle.std.proofs.lemmas.List.{append_assoc, append-nil, drop_more}
 use Rattle.std.specs.List.{filter}
-use Rattle.std.specs.Prelude.{IfOk}
+use Rattle.std.specs.Prelude.{IfOk, IfErr}
+use Rattle.std.specs.Result.{IsErrAnd}
 use Rattle.vx_dtype.specs.Types.{Bytes}
 use Rattle.vx_column.specs.Columns.{Column}
 use Rattle.vx_expr.specs.Trees.{Tree}
@@ -15,10 +16,16 @@ use Rattle.vx_scan.specs.Stores.{Read}
 use Rattle.vx_scan.specs.StoreViews.{StoreState}
 use Rattle.vx_scan.proofs.BlockScanLemmas.{some_same}
 use Rattle.vx_query.specs.Reports.{report_text}
-use Rattle.vx_query.specs.Requests.{RequestedScan, scan_request_in}
-use Rattle.vx_query.specs.Running.{scan_table, scan_reads, scan_report, scanned_store, Spells, HoldsScan, HoldsNoScan}
+use Rattle.vx_request.specs.Requests.{RequestedScan, request_of}
+use Rattle.vx_request.specs.RequestViews.{Answers, scan_view}
+use Rattle.vx_request.specs.declared.errors.RequestError.{RequestError}
+use Rattle.vx_request.specs.declared.errors.RequestError.TheVariants as requests
+use Rattle.vx_query.specs.Running.{scan_table, scan_reads, scan_report, scanned_store, Spells, HoldsScan}
 use Rattle.vx_query.specs.RunViews.{store_view}
-use Rattle.vx_query.proofs.ShapeLemmas.{and_left, and_right}
+use Rattle.vx_query.specs.RefusalViews.{IsAnsweredBy, IsUnscanned, request_refusal}
+use Rattle.vx_query.specs.declared.refusals.Refusal.{Refusal}
+use Rattle.vx_query.specs.declared.refusals.Refusal.TheVariants.{NoMemory, ReadFault, InputTooLong, BadJson, BadRequest, BadHex, BadTable, NotBuilt}
+use Rattle.vx_query.proofs.CellLemmas.{and_left, and_right}
 
 -- reports of equal parts are equal
 pub report_text_of_same : (rs rs' : List Bytes) (ss ss' : List ℕ) (ns ns' : List Bytes) (n n' : ℕ) → rs ≡ rs' → ss ≡ ss' → ns ≡ ns' → n ≡ n'
@@ -94,12 +101,37 @@ pub if_ok_then : {T E : Type 0} (P Q : T → Type 0) (r : Result T E) → ((x : 
 if_ok_then P Q (Ok x) f h = f x h
 if_ok_then P Q (Err e) f h = h
 
+-- what holds of a refusal that is answered
+pub if_err_then : {T E : Type 0} (P Q : E → Type 0) (r : Result T E) → ((e : E) → P e → Q e) → IfErr r P → IfErr r Q
+if_err_then P Q (Ok x) f h = h
+if_err_then P Q (Err e) f h = f e h
+
+pub if_err : {T : Type 0} (P : Refusal → Type 0) (r : Refusal) (result : Result T Refusal) → IsErrAnd result (λ x. x ≡ r) → P r → IfErr result P
+if_err P r (Ok x) h k = absurd h
+if_err P r (Err x) h k = subst P (sym h) k
+
 -- an input that holds a scan whose texts are spelled is answered by its report
-pub answered_by : (input : Bytes) (s : RequestedScan) (text : Bytes) (seen : Seen) → scan_request_in input ≡ Some s
+pub answered_by : (input : Bytes) (s : RequestedScan) (text : Bytes) (seen : Seen) → request_of input ≡ Ok s
     → (f : Tree) × (p : Tree) × Spells s f p × (text ≡ scan_report s f p) × (seen ≡ scanned_store s f p)
     → (a : RequestedScan) × (f : Tree) × (p : Tree) × HoldsScan input a f p × (text ≡ scan_report a f p) × (seen ≡ scanned_store a f p)
 answered_by input s text seen found (f, p, spelled, told, held) = (s, f, p, record { asked = found; spelled = spelled }, told, held)
 
--- an input that holds a scan whose texts are not spelled is answered by no report
-pub nothing_by : (input : Bytes) (s : RequestedScan) → scan_request_in input ≡ Some s → ((f p : Tree) → ¬ (Spells s f p)) → HoldsNoScan input
-nothing_by input s found none = λ a e f p spelled. none f p (subst (λ x. Spells x f p) (some_same (sym e ∙ found)) spelled)
+-- an input that holds a scan whose texts are not spelled is answered so
+pub unscanned_by : (input : Bytes) (s : RequestedScan) (r : Refusal) → request_of input ≡ Ok s → IsUnscanned s r → IsAnsweredBy input r
+unscanned_by input s NoMemory found none = tt
+unscanned_by input s ReadFault found none = absurd none
+unscanned_by input s InputTooLong found none = absurd none
+unscanned_by input s BadJson found none = absurd none
+unscanned_by input s (BadRequest place) found none = absurd none
+unscanned_by input s (BadHex side) found none = absurd none
+unscanned_by input s (BadTable refusal) found none = absurd none
+unscanned_by input s NotBuilt found none = rw found (none, refl)
+
+-- an input whose request is refused is answered by the refusal
+pub refused_by : (input : Bytes) (e : RequestError) → Answers scan_view (request_of input) (Err e) → IsAnsweredBy input (request_refusal e)
+refused_by input requests.NoMemory told = tt
+refused_by input requests.InputTooLong told = rw told refl
+refused_by input requests.BadJson told = rw told refl
+refused_by input (requests.BadRequest place) told = rw told refl
+refused_by input (requests.BadHex side) told = rw told refl
+refused_by input (requests.BadTable refusal) told = rw told refl

@@ -1,9 +1,4 @@
-mod Taking
-mod Adding
-mod ObjectLemmas
-mod ItemLemmas
-mod ColumnLemmas
-mod TextLemmas
+mod CellLemmas
 pub mod ShapeLemmas
 mod AnswerLemmas
 mod OutcomeLemmas

@@ -1,19 +1,19 @@
 -- How the program comes to an end.
-use Rattle.std.proofs.Common.{◌≡◌, sym, ap, refl, ℕ, ◌+◌, ◌≤◌, Option, Some, None, Result, Ok, Err, subst}
+use Rattle.std.proofs.Common.{◌≡◌, sym, ap, refl, ℕ, ◌+◌, ◌≤◌, length, Option, Some, None, Result, Ok, Err, subst}
 use Rattle.std.specs.Prelude.{IfErr}
 use Rattle.std.specs.Result.{IsErrAnd}
 use Rattle.vx_dtype.specs.Types.{Bytes}
 use Rattle.vx_expr.specs.Trees.{Tree}
-use Rattle.vx_scan.specs.Counts.{one_more}
+use Rattle.vx_io.specs.Counts.{one_more}
 use Rattle.vx_scan.specs.Scanning.{Seen}
-use Rattle.vx_query.specs.Ends.{TookUpTo}
-use Rattle.vx_query.specs.Requests.{RequestedScan, most_bytes}
-use Rattle.vx_query.specs.Running.{End, Form, scan_form, Outcome, out_of_memory, unread, unanswered, answered, Writing, IsOutcome, IsTaken, IsWriting, IsRun, HoldsScan, HoldsNoScan, scan_report, scanned_store, status_of, text_of, used_by}
-use Rattle.vx_query.specs.RefusalViews.{refusal_status, refusal_text, input_refusal}
-use Rattle.vx_query.specs.declared.reading.InputError.{InputError}
-use Rattle.vx_query.specs.declared.reading.InputError.TheVariants as inputs
+use Rattle.vx_io.specs.Ends.{TookUpTo}
+use Rattle.vx_request.specs.Requests.{RequestedScan, most_bytes}
+use Rattle.vx_query.specs.Running.{End, Form, scan_form, Outcome, out_of_memory, unread, unanswered, answered, Writing, IsOutcome, IsTaken, IsPartTaken, IsWriting, IsRun, HoldsScan, scan_report, scanned_store, status_of, text_of, used_by}
+use Rattle.vx_query.specs.RefusalViews.{refusal_status, refusal_name, refusal_text, input_refusal, IsAnsweredBy}
+use Rattle.vx_io.specs.declared.reading.InputError.{InputError}
+use Rattle.vx_io.specs.declared.reading.InputError.TheVariants as inputs
 use Rattle.vx_query.specs.declared.refusals.Refusal.{Refusal}
-use Rattle.vx_query.specs.declared.refusals.Refusal.TheVariants.{NoMemory, ReadFault, NotBuilt}
+use Rattle.vx_query.specs.declared.refusals.Refusal.TheVariants.{NoMemory, ReadFault, InputTooLong, BadJson, BadRequest, BadHex, BadTable, NotBuilt}
 
 -- an outcome that a refusal stands for
 abbrev pub IsRefused : End → End → Refusal → Type 0
@@ -21,15 +21,21 @@ IsRefused before after r =
     (o : Outcome) × IsOutcome (Some scan_form) before after o × (status_of o ≡ refusal_status r) × (text_of o ≡ refusal_text r) × (used_by o ≡ None)
 
 -- an input that isn't read
-pub refused_unread : (before after : End) (e : InputError) → before.faults ≤ after.faults → (e ≡ inputs.ReadFault → one_more before.faults ≤ after.faults) → IsRefused before after (input_refusal e)
-refused_unread before after inputs.NoMemory later cause = (out_of_memory, (refl, later), refl, refl, refl)
-refused_unread before after inputs.ReadFault later cause = (unread, (refl, cause refl), refl, refl, refl)
+pub refused_unread : (before after : End) (e : InputError) → IsPartTaken before after → before.faults ≤ after.faults
+    → (e ≡ inputs.ReadFault → one_more before.faults ≤ after.faults) → IsRefused before after (input_refusal e)
+refused_unread before after inputs.NoMemory part later cause = (out_of_memory, (refl, (part, later)), refl, refl, refl)
+refused_unread before after inputs.ReadFault part later cause = (unread, (refl, (part, cause refl)), refl, refl, refl)
 
 -- an input that is taken and has no report
-pub refused_taken : (before after : End) (input : Bytes) (r : Refusal) → IsTaken before after input → (r ≡ NotBuilt → HoldsNoScan input) → ¬ (r ≡ ReadFault) → IsRefused before after r
-refused_taken before after input NoMemory taken nothing read = (out_of_memory, (refl, taken.later), refl, refl, refl)
-refused_taken before after input ReadFault taken nothing read = absurd (read refl)
-refused_taken before after input NotBuilt taken nothing read = (unanswered input, (refl, (taken, nothing refl)), refl, refl, refl)
+pub refused_taken : (before after : End) (input : Bytes) (r : Refusal) → IsPartTaken before after → IsTaken before after input → IsAnsweredBy input r → IsRefused before after r
+refused_taken before after input NoMemory part taken told = (out_of_memory, (refl, (part, taken.later)), refl, refl, refl)
+refused_taken before after input ReadFault part taken told = absurd told
+refused_taken before after input InputTooLong part taken told = (unanswered input (refusal_name InputTooLong), (refl, (taken, told)), refl, refl, refl)
+refused_taken before after input BadJson part taken told = (unanswered input (refusal_name BadJson), (refl, (taken, told)), refl, refl, refl)
+refused_taken before after input (BadRequest place) part taken told = (unanswered input (refusal_name (BadRequest place)), (refl, (taken, told)), refl, refl, refl)
+refused_taken before after input (BadHex side) part taken told = (unanswered input (refusal_name (BadHex side)), (refl, (taken, told)), refl, refl, refl)
+refused_taken before after input (BadTable refusal) part taken told = (unanswered input (refusal_name (BadTable refusal)), (refl, (taken, told)), refl, refl, refl)
+refused_taken before after input NotBuilt part taken told = (unanswered input (refusal_name NotBuilt), (refl, (taken, told)), refl, refl, refl)
 
 -- what is answered where an input is refused
 pub refused_by : {T : Type 0} (before after : End) (r : Refusal) (result : Result T Refusal) → IsErrAnd result (λ x. x ≡ r) → IsRefused before after r
@@ -38,8 +44,13 @@ refused_by before after r (Ok x) h k = absurd h
 refused_by before after r (Err x) h k = subst (IsRefused before after) (sym h) k
 
 -- what is taken is the input
-pub taken_as : (before after : End) (bytes input : Bytes) → input ≡ bytes → TookUpTo (most_bytes + 1) before.bytes after.bytes bytes → before.faults ≤ after.faults → IsTaken before after input
-taken_as before after bytes input e took later = record { bytes = subst (TookUpTo (most_bytes + 1) before.bytes after.bytes) (sym e) took; later = later }
+pub taken_as : (before after : End) (bytes input : Bytes) → input ≡ bytes → TookUpTo (most_bytes + 1) before.bytes after.bytes bytes → length bytes ≤ most_bytes + 1
+    → before.faults ≤ after.faults → IsTaken before after input
+taken_as before after bytes input e took within later = record {
+  bytes = subst (TookUpTo (most_bytes + 1) before.bytes after.bytes) (sym e) took;
+  within = subst (λ bs. length bs ≤ most_bytes + 1) (sym e) within;
+  later = later;
+}
 
 -- an input that is answered by a report
 pub told_taken : (before after : End) (input text : Bytes) (seen : Seen) → IsTaken before after input

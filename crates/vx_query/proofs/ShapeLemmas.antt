@@ -1,83 +1,71 @@
--- The blocks of a sound request agree with its zones.
-use Rattle.std.proofs.Common.{◌≡◌, ℕ, suc, ℤ, Bool, true, false, ◌&&◌, ◌==◌, nat_eq, nat_le, cond, List, [], ◌∷◌, length, map, Option, Some, None, refl, sym, ap, ◌∙◌, arith, true≢false}
-use Rattle.std.proofs.lemmas.List.{length-map}
-use Rattle.std.proofs.lemmas.Bool.{eqb-true, eq-eqb}
+-- The blocks of a request agree with its zones.
+use Rattle.std.proofs.Common.{◌≡◌, nat_le, Bool, true, false, List, length, map, Option, Some, None, Result, Ok, Err, ok_or, refl, sym, ap, subst}
 use Rattle.std.specs.List.{list_all}
-use Rattle.std.specs.Str.{is_utf8}
-use Rattle.serde_json.specs.Read.{read}
-use Rattle.vx_dtype.specs.EqualLaws.{ty_eq-own}
 use Rattle.vx_dtype.specs.StructTypes.{field_types}
 use Rattle.vx_dtype.specs.TypeRules.{field_names}
-use Rattle.vx_dtype.specs.Types.{Bytes}
-use Rattle.vx_query.specs.Objects.{◌>>=◌}
-use Rattle.vx_query.specs.Requests.{RequestedScan, Request, Block, i64_columns, column_of, block_columns, is_rectangle, is_sound, bytes_in, most_bytes, request_in, scan_request_of, scan_request_in}
-use Rattle.vx_scan.specs.FirstForm.{i64_ty}
-use Rattle.vx_scan.specs.Blocks.{block_long, blocks_long, block_typed}
+use Rattle.vx_dtype.specs.Types.{Bytes, Fields}
+use Rattle.vx_column.specs.Columns.{Column}
+use Rattle.vx_semantics.specs.Tables.{Zones}
+use Rattle.vx_zones.specs.Zoning.{broken_rule}
+use Rattle.vx_zones.specs.declared.errors.ZoneError.{ZoneError}
+use Rattle.vx_request.specs.Places.{BlockText, StatText}
+use Rattle.vx_request.specs.Cells.{blocks_of}
+use Rattle.vx_request.specs.Requests.{◌>>=◌, RequestedScan, ensured, json_in, bytes_in, most_bytes, RequestText, is_rectangle, block_columns, zones_of, zones_by, sound_zones, scan_with, scan_in, request_of, text_in}
+use Rattle.vx_request.specs.declared.errors.RequestError.{RequestError}
+use Rattle.vx_request.specs.declared.errors.RequestError.TheVariants.{InputTooLong}
+use Rattle.vx_request.specs.declared.errors.Side.TheVariants.{Filter, Projection}
+use Rattle.serde_json.specs.Data.{Data}
 use Rattle.vx_query.specs.Shapes.{agree}
+use Rattle.vx_query.proofs.CellLemmas.{both_true, blocks_shape, BlocksShape}
 
-pub and_left : (a b : Bool) → a && b ≡ true → a ≡ true
-and_left true b h = refl
-and_left false b h = absurd (true≢false (sym h))
+-- what is made in a step agrees where it does for whatever the step before gave
+agree_step : {A : Type 0} (r : Result A RequestError) (f : A → Result RequestedScan RequestError) → ((x : A) → r ≡ Ok x → agree (f x) ≡ true) → agree (r >>= f) ≡ true
+agree_step (Err e) f h = refl
+agree_step (Ok x) f h = h x refl
 
-pub and_right : (a b : Bool) → a && b ≡ true → b ≡ true
-and_right true b h = h
-and_right false b h = absurd (true≢false (sym h))
+zones_same : (z x : Zones) (o : Option ZoneError) → zones_by z o ≡ Ok x → z ≡ x
+zones_same z x None h = cc h
+zones_same z x (Some e) h = absurd (cc h)
 
-both_true : (a b : Bool) → a ≡ true → b ≡ true → a && b ≡ true
-both_true a b h g = rw (h, g)
+found_ok : {A : Type 0} (o : Option A) (e : RequestError) (x : A) → ok_or o e ≡ Ok x → o ≡ Some x
+found_ok None e x h = absurd (cc h)
+found_ok (Some y) e x h = let same : y ≡ x = cc h in ap Some same
 
-names_number : (names : List Bytes) → length (field_names (i64_columns names)) ≡ length names
-names_number [] = refl
-names_number (f ∷ names) = ap suc (names_number names)
+-- the blocks that are made of rectangles have the lengths and the types of the columns
+made_shape : (fs : Fields) (bs : List BlockText) (b : Bool) (e g : RequestError) (made : List (List Column)) → (b ≡ list_all (is_rectangle (length (field_names fs))) bs)
+    → (ensured b e >>= λ shaped. ok_or (blocks_of (field_types fs) (map (λ b. b.values) bs)) g) ≡ Ok made → BlocksShape fs bs made
+made_shape fs bs true e g made is h = blocks_shape fs bs made (sym is) (found_ok _ g made h)
+made_shape fs bs false e g made is h = absurd (cc h)
 
--- columns of i64, as many as names, are of the types of the columns of these names
-pub columns_typed : (names : List Bytes) (vss : List (List ℤ)) → length vss ≡ length names → block_typed (field_types (i64_columns names)) (map column_of vss) ≡ true
-columns_typed names [] h = refl
-columns_typed [] (vs ∷ vss) h = absurd (omega (arith, h))
-columns_typed (f ∷ names) (vs ∷ vss) h =
-    both_true _ _ (ty_eq-own i64_ty) (columns_typed names vss (omega (arith, h)))
+agree_with : (z : Zones) (fs : Fields) (bs : List BlockText) (ss : List StatText) (filter projection : Bytes) → zones_of fs bs ss ≡ z
+    → agree (scan_with z fs bs filter projection) ≡ true
+agree_with z fs bs ss filter projection is = subst (λ k. agree (scan_with k fs bs filter projection) ≡ true) is
+    (agree_step (block_columns fs bs) (λ made. Ok (record { zones = zones_of fs bs ss; blocks = made; filter = filter; projection = projection }))
+    (λ made h. let shape = made_shape fs bs _ _ _ made refl h in both_true _ _ shape.0 shape.1))
 
--- lists of so many numbers are columns of so many rows
-pub columns_long : (n : ℕ) (vss : List (List ℤ)) → list_all (λ vs. length vs == n) vss ≡ true → list_all (λ c. nat_eq (length c.rows) n) (map column_of vss) ≡ true
-columns_long n [] h = refl
-columns_long n (vs ∷ vss) h =
-    let first : length vs ≡ n = eqb-true (length vs) n (and_left _ _ h) in
-    both_true _ _ (eq-eqb _ n (length-map vs _ ∙ first)) (columns_long n vss (and_right _ _ h))
+-- the scan of zones, once both texts are read
+abbrev with_zones : RequestText → Bytes → Bytes → Zones → Result RequestedScan RequestError
+with_zones r f p z = scan_with z r.columns r.blocks f p
 
--- a rectangle is a block of so many columns of its rows
-pub rectangle_long : (names : List Bytes) (b : Block) → is_rectangle (length names) b ≡ true → block_long (length (field_names (i64_columns names))) b.rows (block_columns b) ≡ true
-rectangle_long names b h =
-    let wide : length b.values ≡ length names = eqb-true _ _ (and_left _ _ h) in
-    both_true _ _ (eq-eqb _ _ (length-map b.values _ ∙ wide ∙ sym (names_number names))) (columns_long b.rows b.values (and_right _ _ h))
+abbrev with_projection : RequestText → Bytes → Bytes → Result RequestedScan RequestError
+with_projection r f p = sound_zones (zones_of r.columns r.blocks r.stats) >>= with_zones r f p
 
-pub blocks_are_long : (names : List Bytes) (bs : List Block) → list_all (is_rectangle (length names)) bs ≡ true
-    → blocks_long (length (field_names (i64_columns names))) (map (λ b. b.rows) bs) (map block_columns bs) ≡ true
-blocks_are_long names [] h = refl
-blocks_are_long names (b ∷ bs) h = both_true _ _ (rectangle_long names b (and_left _ _ h)) (blocks_are_long names bs (and_right _ _ h))
+abbrev with_filter : RequestText → Bytes → Result RequestedScan RequestError
+with_filter r f = bytes_in Projection r.projection >>= with_projection r f
 
-pub blocks_are_typed : (names : List Bytes) (bs : List Block) → list_all (is_rectangle (length names)) bs ≡ true
-    → list_all (block_typed (field_types (i64_columns names))) (map block_columns bs) ≡ true
-blocks_are_typed names [] h = refl
-blocks_are_typed names (b ∷ bs) h =
-    both_true _ _ (columns_typed names b.values (eqb-true _ _ (and_left _ _ (and_left _ _ h)))) (blocks_are_typed names bs (and_right _ _ h))
+agree_text : (r : RequestText) → agree (scan_in r) ≡ true
+agree_text r =
+    agree_step (bytes_in Filter r.filter) (with_filter r)
+    (λ f _. agree_step (bytes_in Projection r.projection) (with_projection r f)
+    (λ p _. agree_step (sound_zones (zones_of r.columns r.blocks r.stats)) (with_zones r f p)
+    (λ z h. agree_with z r.columns r.blocks r.stats f p (zones_same (zones_of r.columns r.blocks r.stats) z (broken_rule (zones_of r.columns r.blocks r.stats)) h))))
 
-agree_step : (A : Type 0) (o : Option A) (f : A → Option RequestedScan) → ((x : A) → agree (f x) ≡ true) → agree (o >>= f) ≡ true
-agree_step A None f h = refl
-agree_step A (Some x) f h = h x
-
-agree_where : (b : Bool) (o : Option RequestedScan) → (b ≡ true → agree o ≡ true) → agree (cond b o None) ≡ true
-agree_where true o h = h refl
-agree_where false o h = refl
-
--- what a request holds agrees
-pub agree_by : (r : Request) → agree (scan_request_of r) ≡ true
-agree_by r = agree_where (is_sound r) _ (λ sound.
-    let shape = and_left _ _ sound in
-    let rectangles = and_right _ _ (and_right _ _ shape) in
-    agree_step _ (bytes_in r.filter) _ (λ f. agree_step _ (bytes_in r.projection) _ (λ p.
-    both_true _ _ (blocks_are_long r.columns r.blocks rectangles) (blocks_are_typed r.columns r.blocks rectangles))))
+abbrev of_value : Data → Result RequestedScan RequestError
+of_value d = text_in d >>= scan_in
 
 -- what an input holds agrees
-pub agree_in : (input : Bytes) → agree (scan_request_in input) ≡ true
-unfolding scan_request_in
-agree_in input = agree_where (nat_le (length input) most_bytes && is_utf8 input) (read input >>= request_in >>= scan_request_of) (λ h. agree_step Request (read input >>= request_in) scan_request_of agree_by)
+pub agree_in : (input : Bytes) → agree (request_of input) ≡ true
+unfolding request_of
+agree_in input =
+    agree_step (ensured (nat_le (length input) most_bytes) InputTooLong) (λ _. json_in input >>= of_value)
+    (λ w _. agree_step (json_in input) of_value (λ d _. agree_step (text_in d) scan_in (λ r _. agree_text r)))

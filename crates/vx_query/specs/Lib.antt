@@ -1,10 +1,6 @@
-pub mod Ends
-pub mod Listed
-pub mod Objects
 pub mod Reports
-pub mod RequestViews
-pub mod Requests
 pub mod Shapes
+pub mod Refusals
 pub mod Running
 pub mod RunViews
 pub mod RefusalViews

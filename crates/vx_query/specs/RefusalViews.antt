@@ -1,25 +1,60 @@
 -- For the checker: no public clause cites this. The exit statuses and lines of refusals.
 use Rattle.std.specs.Prelude.{ℕ, codes}
 use Rattle.vx_dtype.specs.Types.{Bytes}
-use Rattle.vx_query.specs.Running.{refusal_line}
-use Rattle.vx_query.specs.declared.reading.InputError.{InputError}
-use Rattle.vx_query.specs.declared.reading.InputError.TheVariants as inputs
+use Rattle.vx_expr.specs.Trees.{Tree}
+use Rattle.vx_request.specs.Requests.{RequestedScan, request_of}
+use Rattle.vx_request.specs.declared.errors.RequestError.{RequestError}
+use Rattle.vx_request.specs.declared.errors.RequestError.TheVariants as requests
+use Rattle.vx_io.specs.declared.reading.InputError.{InputError}
+use Rattle.vx_io.specs.declared.reading.InputError.TheVariants as inputs
+use Rattle.vx_query.specs.Refusals.{request_refusal_name, refusal_line}
+use Rattle.vx_query.specs.Running.{Spells, UnansweredBy}
 use Rattle.vx_query.specs.declared.refusals.Refusal.{Refusal}
-use Rattle.vx_query.specs.declared.refusals.Refusal.TheVariants.{NoMemory, ReadFault, NotBuilt}
+use Rattle.vx_query.specs.declared.refusals.Refusal.TheVariants.{NoMemory, ReadFault, InputTooLong, BadJson, BadRequest, BadHex, BadTable, NotBuilt}
 
 -- the exit status of a refusal
 abbrev pub refusal_status : Refusal → ℕ
 refusal_status NoMemory = 8
 refusal_status ReadFault = 6
-refusal_status NotBuilt = 3
+refusal_status _ = 3
+
+-- what is told of a refusal
+abbrev pub refusal_name : Refusal → Bytes
+refusal_name NoMemory = codes "NoMemory"
+refusal_name ReadFault = codes "ReadFault"
+refusal_name InputTooLong = codes "InputTooLong"
+refusal_name BadJson = codes "BadJson"
+refusal_name (BadRequest place) = request_refusal_name (requests.BadRequest place)
+refusal_name (BadHex side) = request_refusal_name (requests.BadHex side)
+refusal_name (BadTable refusal) = request_refusal_name (requests.BadTable refusal)
+refusal_name NotBuilt = codes "NotBuilt"
 
 -- the line of a refusal
 abbrev pub refusal_text : Refusal → Bytes
-refusal_text NoMemory = refusal_line (codes "NoMemory")
-refusal_text ReadFault = refusal_line (codes "ReadFault")
-refusal_text NotBuilt = refusal_line (codes "NotBuilt")
+refusal_text r = refusal_line (refusal_name r)
 
 -- the refusal of an input that isn't read
 abbrev pub input_refusal : InputError → Refusal
 input_refusal inputs.NoMemory = NoMemory
 input_refusal inputs.ReadFault = ReadFault
+
+-- the refusal of a request that is refused
+abbrev pub request_refusal : RequestError → Refusal
+request_refusal requests.NoMemory = NoMemory
+request_refusal requests.InputTooLong = InputTooLong
+request_refusal requests.BadJson = BadJson
+request_refusal (requests.BadRequest place) = BadRequest place
+request_refusal (requests.BadHex side) = BadHex side
+request_refusal (requests.BadTable refusal) = BadTable refusal
+
+-- an input is answered by this refusal: want of memory at any time, a fault of the source never, else what the input holds is told
+abbrev pub IsAnsweredBy : Bytes → Refusal → Type 0
+IsAnsweredBy input NoMemory = Unit {0}
+IsAnsweredBy input ReadFault = ⊥
+IsAnsweredBy input r = UnansweredBy (request_of input) (refusal_name r)
+
+-- a scan is answered by this refusal: want of memory at any time, and that it isn't built where its texts spell none that is answered
+abbrev pub IsUnscanned : RequestedScan → Refusal → Type 0
+IsUnscanned a NoMemory = Unit {0}
+IsUnscanned a NotBuilt = (f p : Tree) → ¬ (Spells a f p)
+IsUnscanned a _ = ⊥

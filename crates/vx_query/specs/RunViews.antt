@@ -1,11 +1,11 @@
 -- How forms of arguments and the store of a run are seen.
 use Rattle.std.specs.Prelude.{Some}
 use Rattle.vx_scan.specs.Blocks.{table_of}
-use Rattle.vx_scan.specs.Counts.{is_nothing}
+use Rattle.vx_io.specs.Counts.{is_nothing}
 use Rattle.vx_scan.specs.Scanning.{Seen}
 use Rattle.vx_scan.specs.StoreViews.{StoreState}
 use Rattle.vx_dtype.specs.Types.{Bytes}
-use Rattle.vx_query.specs.Requests.{RequestedScan}
+use Rattle.vx_request.specs.Requests.{RequestedScan}
 use Rattle.vx_query.specs.Running as running
 use Rattle.vx_query.specs.declared.forms.Form.{Form}
 use Rattle.vx_query.specs.declared.forms.Form.TheVariants.{Scan, Help, Version}

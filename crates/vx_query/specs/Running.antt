@@ -1,5 +1,5 @@
 -- What the program does: the forms of its arguments, how it comes to an end, and what it writes then.
-use Rattle.std.specs.Prelude.{◌≡◌, ℕ, ◌+◌, ◌≤◌, true, cond, List, [], ◌∷◌, ◌++◌, length, map, codes, Option, Some, None}
+use Rattle.std.specs.Prelude.{◌≡◌, ℕ, ◌+◌, ◌≤◌, true, cond, List, [], ◌∷◌, ◌++◌, length, map, codes, Option, Some, None, Result, Ok, Err}
 use Rattle.std.specs.Str.{bytes_eq}
 use Rattle.vx_dtype.specs.Types.{Bytes}
 use Rattle.vx_expr.specs.Trees.{Tree}
@@ -8,13 +8,15 @@ use Rattle.vx_semantics.specs.Scans.{kept_rows_of, skipped_blocks, reads_of, rea
 use Rattle.vx_wire.specs.Encodings.{is_default_kind}
 use Rattle.vx_display.specs.ValueTexts.{value_text}
 use Rattle.vx_scan.specs.Blocks.{table_of}
-use Rattle.vx_scan.specs.Counts.{one_more}
+use Rattle.vx_io.specs.Counts.{one_more}
 use Rattle.vx_scan.specs.FirstForm.{IsAsked}
 use Rattle.vx_scan.specs.Scanning.{Seen}
 use Rattle.vx_scan.specs.Stores.{Read}
-use Rattle.vx_query.specs.Ends.{TookUpTo, Added, AddedPrefix}
+use Rattle.vx_io.specs.Ends.{TookPart, TookUpTo, Added, AddedPrefix}
 use Rattle.vx_query.specs.Reports.{report_text}
-use Rattle.vx_query.specs.Requests.{RequestedScan, scan_request_in, most_bytes}
+use Rattle.vx_request.specs.Requests.{RequestedScan, request_of, most_bytes}
+use Rattle.vx_request.specs.declared.errors.RequestError.{RequestError}
+use Rattle.vx_query.specs.Refusals.{request_refusal_name, refusal_line}
 
 -- the forms of arguments
 pub data Form : Type 0 where
@@ -67,44 +69,46 @@ scanned_store a f p =
 abbrev pub Spells : RequestedScan → Tree → Tree → Type 0
 Spells a f p = IsAsked is_default_kind a.zones a.filter a.projection f p
 
--- an input that holds no scan whose byte texts spell such a filter and projection
-abbrev pub HoldsNoScan : Bytes → Type 0
-HoldsNoScan input = (a : RequestedScan) → scan_request_in input ≡ Some a → (f p : Tree) → ¬ (Spells a f p)
+-- what is told of an input that has no report, by the request in it: the refusal of the request, else that its expressions have no answer yet
+abbrev pub UnansweredBy : Result RequestedScan RequestError → Bytes → Type 0
+UnansweredBy (Err e) name = name ≡ request_refusal_name e
+UnansweredBy (Ok a) name = ((f p : Tree) → ¬ (Spells a f p)) × (name ≡ codes "NotBuilt")
 
 -- an input that holds this scan, of this filter and this projection
 pub record HoldsScan (input : Bytes) (a : RequestedScan) (f p : Tree) : Type 0 where
-  pub asked : scan_request_in input ≡ Some a
+  pub asked : request_of input ≡ Ok a
   pub spelled : Spells a f p
 
 -- how the program comes to an end: arguments of no form, help, the version, no memory, an input that can't be read, one that is answered by
--- no report, and one that is
+-- no report, of which this is told, and one that is
 pub data Outcome : Type 0 where
   misused : Outcome
   helped : Outcome
   versioned : Outcome
   out_of_memory : Outcome
   unread : Outcome
-  unanswered : Bytes → Outcome
+  unanswered : Bytes → Bytes → Outcome
   answered : Bytes → RequestedScan → Tree → Tree → Outcome
 
--- the input was taken to its end, or to one byte more than the most; that many bytes hold no scan
+-- the input was taken to its end, or to one byte more than the most; that many bytes are no request
 pub record IsTaken (before after : End) (input : Bytes) : Type 0 where
   pub bytes : TookUpTo (most_bytes + 1) before.bytes after.bytes input
+  pub within : length input ≤ most_bytes + 1
   pub later : before.faults ≤ after.faults
+
+-- a first part of the input was taken, at most one byte more than the most
+abbrev pub IsPartTaken : End → End → Type 0
+IsPartTaken before after = TookPart (most_bytes + 1) before.bytes after.bytes
 
 -- what an outcome says of arguments and of the source: arguments of another form than `scan` take nothing
 abbrev pub IsOutcome : Option Form → End → End → Outcome → Type 0
 IsOutcome form before after misused = (form ≡ None) × (after ≡ before)
 IsOutcome form before after helped = (form ≡ Some help_form) × (after ≡ before)
 IsOutcome form before after versioned = (form ≡ Some version_form) × (after ≡ before)
-IsOutcome form before after out_of_memory = (form ≡ Some scan_form) × (before.faults ≤ after.faults)
-IsOutcome form before after unread = (form ≡ Some scan_form) × (one_more before.faults ≤ after.faults)
-IsOutcome form before after (unanswered input) = (form ≡ Some scan_form) × (IsTaken before after input × HoldsNoScan input)
+IsOutcome form before after out_of_memory = (form ≡ Some scan_form) × (IsPartTaken before after × (before.faults ≤ after.faults))
+IsOutcome form before after unread = (form ≡ Some scan_form) × (IsPartTaken before after × (one_more before.faults ≤ after.faults))
+IsOutcome form before after (unanswered input name) = (form ≡ Some scan_form) × (IsTaken before after input × UnansweredBy (request_of input) name)
 IsOutcome form before after (answered input a f p) = (form ≡ Some scan_form) × (IsTaken before after input × HoldsScan input a f p)
-
--- the line of a refusal
-abbrev pub refusal_line : Bytes → Bytes
-refusal_line name = codes "error: " ++ (name ++ codes "\n")
 
 -- the text of `--version`
 abbrev pub version_text : Bytes
@@ -123,7 +127,7 @@ status_of helped = 0
 status_of versioned = 0
 status_of out_of_memory = 8
 status_of unread = 6
-status_of (unanswered input) = 3
+status_of (unanswered input name) = 3
 status_of (answered input a f p) = 0
 
 -- the text that an outcome writes
@@ -133,7 +137,7 @@ text_of helped = help_text
 text_of versioned = version_text
 text_of out_of_memory = refusal_line (codes "NoMemory")
 text_of unread = refusal_line (codes "ReadFault")
-text_of (unanswered input) = refusal_line (codes "NotBuilt")
+text_of (unanswered input name) = refusal_line name
 text_of (answered input a f p) = scan_report a f p
 
 -- the store that is held after an outcome: the one that was scanned, where a report was made

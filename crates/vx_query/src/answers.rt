@@ -1,5 +1,5 @@
 // The answer to an input: the report of the scan that it holds.
-ghost use Rattle.std.specs.Prelude.{◌≡◌, true, [], length, map, None, IfOk, IsErrOf};
+ghost use Rattle.std.specs.Prelude.{◌≡◌, true, [], length, map, None, IfOk, IfErr, IsErrOf};
 ghost use Rattle.std.specs.List.{filter, list_any};
 ghost use Rattle.std.specs.Str.{bytes_eq};
 ghost use Rattle.std.specs.String.{string_bytes};
@@ -14,20 +14,21 @@ ghost use Rattle.vx_scan.specs.StoreViews.{block_view, entry_view};
 ghost use Rattle.vx_semantics.specs.Scans.{read_columns};
 ghost use Rattle.vx_scan.specs.Blocks.{table_of, table_refusal};
 ghost use Rattle.vx_query.specs.Reports.{report_text};
-ghost use Rattle.vx_query.specs.Requests.{RequestedScan, scan_request_in};
-ghost use Rattle.vx_query.specs.Running.{HoldsNoScan, HoldsScan, Spells, scan_report, scanned_store};
+ghost use Rattle.vx_request.specs.Requests.{RequestedScan};
+ghost use Rattle.vx_query.specs.RefusalViews.{IsAnsweredBy, IsUnscanned};
+ghost use Rattle.vx_query.specs.Running.{HoldsScan, Spells, scan_report, scanned_store};
 ghost use Rattle.vx_query.specs.RunViews.{scan_of, store_view};
 
 use crate::refusals::Refusal;
 use crate::reports::report_text;
-use crate::requests::{ScanRequest, decode_request};
 use std::alloc::Global;
 use vx_column::ColumnRef;
 use vx_display::row_text;
 use vx_dtype::{DType, FieldName, Mem, NoMemory, ScalarValue};
-use vx_prune::ZoneMap;
+use vx_request::{ScanRequest, decode_request};
 use vx_scan::{ColumnStore, MemoryStore, ReadEntry, ScanError, ScanReport, TableError, scan};
 use vx_wire::{ExprRegistry, ExprRegistryExt};
+use vx_zones::ZoneMap;
 
 /// The text of a report, and the store that was scanned.
 #[derive(Drop)]
@@ -36,16 +37,13 @@ pub(crate) struct Scanned {
     pub(crate) store: MemoryStore,
 }
 
-/// The report of the scan that an input holds. NotBuilt exactly where it holds none of the form that is answered.
+/// The report of the scan that an input holds, or the one cause that it has none.
 pub(crate) fn answer(alloc: Global, input: &[u8]) -> Result<Scanned, Refusal>
     ensures answered { IfOk result (λ scanned. (a : RequestedScan) × (f : Tree) × (p : Tree) × HoldsScan input.now a f p
         × (string_bytes scanned.text ≡ scan_report a f p) × (store_view scanned.store ≡ scanned_store a f p)) }
-    ensures not_built { IsErrOf result Refusal.NotBuilt → HoldsNoScan input.now }
-    ensures read { ¬ (IsErrOf result Refusal.ReadFault) }
+    ensures refused { IfErr result (IsAnsweredBy input.now) }
 {
-    let Some(request) = decode_request(alloc, input)? else {
-        return Err(Refusal::NotBuilt);
-    };
+    let request = decode_request(alloc, input)?;
     let ScanRequest {
         zones,
         blocks,
@@ -80,8 +78,7 @@ fn scan_store(
     ensures scanned { IfOk result (λ scanned. (f : Tree) × (p : Tree) × Spells (scan_of store filter.now projection.now) f p
         × (string_bytes scanned.text ≡ scan_report (scan_of store filter.now projection.now) f p)
         × (store_view scanned.store ≡ scanned_store (scan_of store filter.now projection.now) f p)) }
-    ensures not_built { IsErrOf result Refusal.NotBuilt → (f p : Tree) → ¬ (Spells (scan_of store filter.now projection.now) f p) }
-    ensures read { ¬ (IsErrOf result Refusal.ReadFault) }
+    ensures refused { IfErr result (IsUnscanned (scan_of store filter.now projection.now)) }
 {
     let registry = ExprRegistry::default();
     match scan(alloc, &registry, filter, projection, &mut store) {

@@ -1,9 +1,12 @@
 // Why the program writes no report.
 ghost use Rattle.std.specs.Prelude.{◌≡◌};
+ghost use Rattle.vx_request.specs.declared.errors.RequestError.TheVariants as requests;
+ghost use Rattle.vx_query.specs.Refusals.{refusal_line, request_refusal_name};
 ghost use Rattle.vx_query.specs.RefusalViews.{refusal_status, refusal_text};
 
-use crate::reading::InputError;
 use vx_dtype::NoMemory;
+use vx_io::InputError;
+use vx_request::{Place, RequestError, Side, TableRefusal};
 
 /// Why an input has no report.
 #[derive(PartialEq, Eq, Debug, Drop)]
@@ -12,7 +15,17 @@ pub(crate) enum Refusal {
     NoMemory,
     /// A read failed: only where the source counted a fault.
     ReadFault,
-    /// Exactly where the input holds no scan of the form that is answered.
+    /// The input has more bytes than a request may have.
+    InputTooLong,
+    /// The input isn't a text of JSON.
+    BadJson,
+    /// A place of the request doesn't hold what it has to.
+    BadRequest(Place),
+    /// The text of an expression isn't of two hexadecimal digits for each byte.
+    BadHex(Side),
+    /// The request's table is refused.
+    BadTable(TableRefusal),
+    /// The request's expressions have no answer yet.
     NotBuilt,
 }
 
@@ -24,7 +37,12 @@ impl Refusal {
         match self {
             Refusal::NoMemory => 8,
             Refusal::ReadFault => 6,
-            Refusal::NotBuilt => 3,
+            Refusal::InputTooLong
+            | Refusal::BadJson
+            | Refusal::BadRequest(_)
+            | Refusal::BadHex(_)
+            | Refusal::BadTable(_)
+            | Refusal::NotBuilt => 3,
         }
     }
 
@@ -35,8 +53,44 @@ impl Refusal {
         match self {
             Refusal::NoMemory => "error: NoMemory\n",
             Refusal::ReadFault => "error: ReadFault\n",
+            Refusal::InputTooLong => "error: InputTooLong\n",
+            Refusal::BadJson => "error: BadJson\n",
+            Refusal::BadRequest(place) => place_line(*place),
+            Refusal::BadHex(Side::Filter) => "error: BadHex filter\n",
+            Refusal::BadHex(Side::Projection) => "error: BadHex projection\n",
+            Refusal::BadTable(refusal) => table_line(*refusal),
             Refusal::NotBuilt => "error: NotBuilt\n",
         }
+    }
+}
+
+/// The line of a place that doesn't hold what it has to.
+fn place_line(place: Place) -> &'static str
+    ensures { result.now ≡ refusal_line (request_refusal_name (requests.BadRequest place)) }
+{
+    match place {
+        Place::Top => "error: BadRequest top\n",
+        Place::Columns => "error: BadRequest columns\n",
+        Place::Blocks => "error: BadRequest blocks\n",
+        Place::Stats => "error: BadRequest stats\n",
+        Place::Filter => "error: BadRequest filter\n",
+        Place::Projection => "error: BadRequest projection\n",
+    }
+}
+
+/// The line of a table that is refused.
+fn table_line(refusal: TableRefusal) -> &'static str
+    ensures { result.now ≡ refusal_line (request_refusal_name (requests.BadTable refusal)) }
+{
+    match refusal {
+        TableRefusal::DuplicateName => "error: BadTable DuplicateName\n",
+        TableRefusal::DeepType => "error: BadTable DeepType\n",
+        TableRefusal::BadStatPath => "error: BadTable BadStatPath\n",
+        TableRefusal::DuplicateStat => "error: BadTable DuplicateStat\n",
+        TableRefusal::WrongStatCount => "error: BadTable WrongStatCount\n",
+        TableRefusal::WrongStatType => "error: BadTable WrongStatType\n",
+        TableRefusal::WrongLength => "error: BadTable WrongLength\n",
+        TableRefusal::WrongValue => "error: BadTable WrongValue\n",
     }
 }
 
@@ -49,6 +103,23 @@ impl From<InputError> for Refusal {
         match error {
             InputError::NoMemory => Refusal::NoMemory,
             InputError::ReadFault => Refusal::ReadFault,
+        }
+    }
+}
+
+impl From<RequestError> for Refusal {
+    ghost use Rattle.vx_query.specs.RefusalViews.{request_refusal};
+
+    ghost from_gives = { λ e r. r ≡ request_refusal e };
+
+    fn from(error: RequestError) -> Refusal {
+        match error {
+            RequestError::NoMemory => Refusal::NoMemory,
+            RequestError::InputTooLong => Refusal::InputTooLong,
+            RequestError::BadJson => Refusal::BadJson,
+            RequestError::BadRequest(place) => Refusal::BadRequest(place),
+            RequestError::BadHex(side) => Refusal::BadHex(side),
+            RequestError::BadTable(refusal) => Refusal::BadTable(refusal),
         }
     }
 }

@@ -7,13 +7,10 @@ ghost use Rattle.vx_query.specs.RefusalViews.{refusal_status, refusal_text};
 
 use crate::answers::answer;
 use crate::forms::{Form, form_of};
-use crate::reading::read_up_to;
 use crate::refusals::Refusal;
-use crate::requests::MOST_BYTES;
-use crate::sinks::Sink;
-use crate::sources::Source;
-use crate::writing::write_whole;
 use std::alloc::Global;
+use vx_io::{Sink, Source, read_up_to, write_whole};
+use vx_request::MOST_BYTES;
 use vx_scan::MemoryStore;
 
 const USAGE: &str = "error: Usage\n";
@@ -27,10 +24,10 @@ const VERSION: &str = "vx 0.1.0\n";
 ///
 /// The argument `scan` takes the input, at most 16,777,217 bytes of it, and writes the report of the scan that the
 /// request in it holds; `--help` and `--version` write their texts and take nothing. The exit status is 0 where the text
-/// was written whole; 2 where the arguments have none of these forms; 3 exactly where the input holds no scan of the form
-/// that is answered; 6 only where
-/// the source counted a fault; 7 only where the sink did, and then the first bytes of the text or line were written; 8
-/// where there was no memory. A refusal writes a line `error: ` and its name: Usage, NotBuilt, ReadFault or NoMemory.
+/// was written whole; 2 where the arguments have none of these forms; 3 exactly where the input is no request, or holds a
+/// scan of another form than is answered yet; 6 only where the source counted a fault; 7 only where the sink did, and
+/// then the first bytes of the text or line were written; 8 where there was no memory. A refusal writes a line `error: `
+/// and its name: Usage, ReadFault, NoMemory, NotBuilt, or that of the request's refusal with its place.
 ///
 /// Afterwards `used` holds the store that was scanned where a report was made, also where its writing failed; its reads
 /// are those of the scan. Else it is none.

@@ -2,4 +2,6 @@
 #![tactic(auto)]
 
 #[cfg(test)]
+mod io;
+#[cfg(test)]
 mod query;

@@ -5,10 +5,8 @@ use std::alloc::Global;
 use std::process::Abort;
 use std::test::Fail;
 use vx_dtype::FieldName;
-use vx_query::{
-    MemorySink, MemorySource, Source, StdinSource, StdoutSink, decode_request, read_up_to,
-    report_text, run, write_whole,
-};
+use vx_io::{MemorySink, MemorySource, Source};
+use vx_query::{report_text, run};
 use vx_scan::MemoryStore;
 
 const EXPRESSIONS: &str =
@@ -101,17 +99,17 @@ fn ends(
 #[test]
 fn inputs_end_with_a_report_or_a_line(rt: HostRuntime) -> Result<(), Fail> {
     let alloc = rt.alloc();
-    let line = "error: NotBuilt\n";
     let skipped = "rows 1\n11\nskipped 0\ncolumns \"x\"\nreads 1\n";
     for (table, status, text) in [
         (FIRST, 0, FIRST_REPORT),
         (SKIPPED, 0, skipped),
-        (FIRST_OF_I32, 3, line),
-        ("{", 3, line),
+        (FIRST_OF_I32, 3, "error: NotBuilt\n"),
+        ("{", 3, "error: BadRequest top\n"),
+        ("", 3, "error: BadJson\n"),
     ] {
         ends(&rt, alloc, &["scan"], request(alloc, table)?, status, text)?;
     }
-    ends(&rt, alloc, &["scan"], Vec::new(alloc), 3, line)
+    Ok(())
 }
 
 #[test]
@@ -123,7 +121,7 @@ fn no_more_than_the_most_is_taken(rt: HostRuntime) -> Result<(), Fail> {
     }
     let mut end = run_over(alloc, &["scan"], spaces, &[], 1000, &[])?;
     assert_eq!(rt; end.status, 3);
-    assert_eq!(rt; end.sink.written(), b"error: NotBuilt\n".as_slice());
+    assert_eq!(rt; end.sink.written(), b"error: InputTooLong\n".as_slice());
     let mut rest = [0u8; 8];
     assert_eq!(rt; end.source.read(&mut rest), Ok(2));
     Ok(())
@@ -161,113 +159,83 @@ fn faults_end_a_run(rt: HostRuntime) -> Result<(), Fail> {
 
 const COLUMNS: &str = "[{\"name\":\"x\",\"type\":\"i64\"}]";
 
-const BLOCKS: &str = "[{\"rows\":2,\"values\":[[1,12]]},{\"rows\":1,\"values\":[[20]]}]";
+const TWICE: &str = "[{\"name\":\"x\",\"type\":\"i64\"},{\"name\":\"x\",\"type\":\"i64\"}]";
 
-const FILTER: &str =
-    "\"0662696e617279010202086765745f6974656d0201780104726f6f740000076c69746572616c0c010007010a0000000000000000\"";
+const BLOCKS: &str = "[{\"rows\":1,\"values\":[[1]]}]";
 
-const PROJECTION: &str = "\"086765745f6974656d0201780104726f6f740000\"";
-
-const BOUNDS: &str =
-    "[{\"path\":[\"x\"],\"stat\":\"min\",\"values\":[0,null]},{\"path\":[\"x\"],\"stat\":\"max\",\"values\":[10,11]}]";
-
-/// The text of a request with these members.
-fn request_of(
-    alloc: Global,
-    columns: &str,
-    blocks: &str,
-    stats: &str,
-    filter: &str,
-) -> Result<String, Fail> {
+/// Checks that the request of these members is refused by this line.
+fn is_refused(rt: &impl Abort, alloc: Global, members: [&str; 5], line: &str) -> Result<(), Fail> {
+    let [columns, blocks, stats, filter, projection] = members;
     let text = format!(in alloc;
-        "{{\"columns\":{columns},\"blocks\":{blocks},\"stats\":{stats},\"filter\":{filter},\"projection\":{PROJECTION}}}"
+        "{{\"columns\":{columns},\"blocks\":{blocks},\"stats\":{stats},\"filter\":{filter},\"projection\":{projection}}}"
     )?;
-    Ok(text)
-}
-
-/// Whether a text holds a scan.
-fn holds_scan(alloc: Global, text: &str) -> Result<bool, Fail> {
-    Ok(decode_request(alloc, text.as_bytes())?.is_some())
-}
-
-/// Whether a request with these columns, blocks and statistics holds a scan.
-fn is_held(alloc: Global, columns: &str, blocks: &str, stats: &str) -> Result<bool, Fail> {
-    let text = request_of(alloc, columns, blocks, stats, FILTER)?;
-    holds_scan(alloc, text.as_str())
+    ends(
+        rt,
+        alloc,
+        &["scan"],
+        text.as_bytes().to_vec(alloc)?,
+        3,
+        line,
+    )
 }
 
 #[test]
-fn members_of_other_forms_hold_no_scan(rt: HostRuntime) -> Result<(), Fail> {
+fn lines_tell_the_refusal_and_its_place(rt: HostRuntime) -> Result<(), Fail> {
     let alloc = rt.alloc();
-    let two = "[{\"name\":\"x\",\"type\":\"i64\"},{\"name\":\"x\",\"type\":\"i64\"}]";
-    for (columns, blocks, stats, held) in [
-        (COLUMNS, BLOCKS, "[]", true),
-        (COLUMNS, BLOCKS, BOUNDS, true),
-        ("[{\"name\":\"x\",\"type\":\"i32\"}]", BLOCKS, "[]", false),
-        ("[{\"type\":\"i64\"}]", BLOCKS, "[]", false),
-        (two, "[{\"rows\":1,\"values\":[[1],[2]]}]", "[]", false),
-        (COLUMNS, "[{\"rows\":1,\"values\":[[\"1\"]]}]", "[]", false),
+    let stat = "[{\"path\":[\"y\"],\"stat\":\"min\",\"values\":[0]}]";
+    for (members, line) in [
+        (["7", "7", "7", "7", "7"], "error: BadRequest columns\n"),
+        ([COLUMNS, "7", "7", "7", "7"], "error: BadRequest blocks\n"),
         (
-            COLUMNS,
-            "[{\"rows\":1,\"values\":[[9223372036854775808]]}]",
-            "[]",
-            false,
+            [COLUMNS, BLOCKS, "7", "7", "7"],
+            "error: BadRequest stats\n",
         ),
         (
-            COLUMNS,
-            "[{\"rows\":2,\"values\":[[9223372036854775807,-9223372036854775808]]}]",
-            "[]",
-            true,
-        ),
-        (COLUMNS, "[{\"rows\":2,\"values\":[[1]]}]", "[]", false),
-        (COLUMNS, "[{\"rows\":1,\"values\":[[1],[2]]}]", "[]", false),
-        ("[]", "[{\"rows\":1048577,\"values\":[]}]", "[]", false),
-        (
-            COLUMNS,
-            BLOCKS,
-            "[{\"path\":[\"x\"],\"stat\":\"null_count\",\"values\":[0,0]}]",
-            false,
+            [COLUMNS, BLOCKS, "[]", "7", "7"],
+            "error: BadRequest filter\n",
         ),
         (
-            COLUMNS,
-            BLOCKS,
-            "[{\"path\":[\"x\",\"y\"],\"stat\":\"min\",\"values\":[0,0]}]",
-            false,
+            [TWICE, BLOCKS, "[]", "\"a\"", "7"],
+            "error: BadRequest projection\n",
         ),
         (
-            COLUMNS,
-            BLOCKS,
-            "[{\"path\":[\"y\"],\"stat\":\"min\",\"values\":[0,0]}]",
-            false,
+            [TWICE, BLOCKS, "[]", "\"a\"", "\"b\""],
+            "error: BadHex filter\n",
         ),
         (
-            COLUMNS,
-            BLOCKS,
-            "[{\"path\":[\"x\"],\"stat\":\"min\",\"values\":[0]}]",
-            false,
+            [TWICE, BLOCKS, "[]", "\"\"", "\"b\""],
+            "error: BadHex projection\n",
+        ),
+        (
+            [TWICE, BLOCKS, stat, "\"\"", "\"\""],
+            "error: BadTable DuplicateName\n",
+        ),
+        (
+            [COLUMNS, BLOCKS, stat, "\"\"", "\"\""],
+            "error: BadTable BadStatPath\n",
+        ),
+        (
+            [
+                COLUMNS,
+                "[{\"rows\":2,\"values\":[[true]]}]",
+                "[]",
+                "\"\"",
+                "\"\"",
+            ],
+            "error: BadTable WrongLength\n",
+        ),
+        (
+            [
+                COLUMNS,
+                "[{\"rows\":1,\"values\":[[true]]}]",
+                "[]",
+                "\"\"",
+                "\"\"",
+            ],
+            "error: BadTable WrongValue\n",
         ),
     ] {
-        assert_eq!(rt; is_held(alloc, columns, blocks, stats)?, held);
-    }
-    Ok(())
-}
-
-#[test]
-fn other_texts_hold_no_scan(rt: HostRuntime) -> Result<(), Fail> {
-    let alloc = rt.alloc();
-    assert!(rt; decode_request(alloc, b"\"\xff\"")?.is_none());
-    for (filter, held) in [("\"abc\"", false), ("\"xy\"", false), ("\"AB\"", true)] {
-        let text = request_of(alloc, COLUMNS, BLOCKS, "[]", filter)?;
-        assert_eq!(rt; holds_scan(alloc, text.as_str())?, held);
-    }
-    let whole = request_of(alloc, COLUMNS, BLOCKS, "[]", FILTER)?;
-    for (member, held) in [
-        ("\"more\":0,\"stats\":[],", false),
-        ("", false),
-        ("\"stats\":7,\"stats\":[],", true),
-    ] {
-        let text = whole.as_str().replace(alloc, "\"stats\":[],", member)?;
-        assert_eq!(rt; holds_scan(alloc, text.as_str())?, held);
+        is_refused(&rt, alloc, members, line)?;
     }
     Ok(())
 }
@@ -288,14 +256,12 @@ fn reports_tell_rows_blocks_columns_and_reads(rt: HostRuntime) -> Result<(), Fai
 #[test]
 fn ample(rt: HostRuntime) -> Result<(), Fail> {
     let alloc = rt.alloc();
-    let mut standard = StdoutSink::new(rt.stdout());
-    assert_eq!(rt; write_whole(&mut standard, b"to standard output\n"), Ok(()));
-    let mut empty = StdinSource::new(rt.stdin());
-    assert_eq!(rt; empty.read(&mut []).is_ok(), true);
-    let mut source = MemorySource::new(b"ab".to_vec(alloc)?, 1, Vec::new(alloc));
-    assert_eq!(rt;
-        read_up_to(alloc, 2, &mut source)?.as_slice(),
-        b"ab".as_slice()
-    );
-    Ok(())
+    ends(
+        &rt,
+        alloc,
+        &["scan"],
+        request(alloc, FIRST)?,
+        0,
+        FIRST_REPORT,
+    )
 }

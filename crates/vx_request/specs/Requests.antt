@@ -14,9 +14,9 @@ use Rattle.vx_dtype.specs.TypeRules.{field_names}
 use Rattle.vx_dtype.specs.StructTypes.{field_types}
 use Rattle.vx_column.specs.Columns.{Column}
 use Rattle.vx_semantics.specs.Tables.{ZoneStat, Zones}
-use Rattle.vx_prune.specs.Zoning.{broken_rule, leaf_type, statistic_type}
-use Rattle.vx_prune.specs.declared.errors.ZoneError.{ZoneError}
-use Rattle.vx_prune.specs.declared.errors.ZoneError.TheVariants as zones
+use Rattle.vx_zones.specs.Zoning.{broken_rule, leaf_type, statistic_type}
+use Rattle.vx_zones.specs.declared.errors.ZoneError.{ZoneError}
+use Rattle.vx_zones.specs.declared.errors.ZoneError.TheVariants as zones
 use Rattle.vx_request.specs.Objects.{object_of}
 use Rattle.vx_request.specs.Places.{BlockText, StatText, columns_in, blocks_in, stats_in}
 use Rattle.vx_request.specs.Cells.{stat_cells, blocks_of}

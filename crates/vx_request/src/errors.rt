@@ -3,7 +3,7 @@ ghost use Rattle.std.specs.Prelude.{◌≡◌};
 
 use std::alloc::{AllocError, AllocFailed};
 use vx_dtype::NoMemory;
-use vx_prune::ZoneError;
+use vx_zones::ZoneError;
 
 /// A place of a request, in the order in which they are read.
 #[derive(Clone, Copy, PartialEq, Eq, Debug)]

@@ -1,10 +1,10 @@
 // What a request holds: a scan.
 ghost use Rattle.std.specs.Prelude.{◌≡◌, ◌∷◌, [], ◌^◌, ◌<◌, codes, length, map, option_map, IfOk};
 ghost use Rattle.serde_json.specs.View.{view};
-ghost use Rattle.vx_prune.specs.ZoneAnswers.{Answers as ZonesAnswer};
+ghost use Rattle.vx_zones.specs.ZoneAnswers.{Answers as ZonesAnswer};
 ghost use Rattle.vx_request.specs.Objects.{object_of};
 ghost use Rattle.vx_request.specs.Requests.{value_in, member_names, hex_bytes, zones_of, sound_zones, scan_with, scan_in, scan_of, request_of};
-ghost use Rattle.vx_request.specs.RequestViews.{block_view, stat_view, columns_view, scan_view, Answers};
+ghost use Rattle.vx_request.specs.RequestViews.{block_view, stat_view, scan_view, Answers};
 
 use crate::columns::{are_rectangles, blocks_of};
 use crate::errors::{Place, RequestError, Side, TableRefusal};
@@ -16,58 +16,23 @@ use serde_json::Value;
 use std::alloc::Global;
 use vx_column::ColumnRef;
 use vx_dtype::{Mem, NoMemory, StructFields};
-use vx_prune::{ZoneError, ZoneMap};
+use vx_zones::{ZoneError, ZoneMap};
 
 /// The most bytes of a request.
-pub(crate) const MOST_BYTES: usize = 16777216;
+pub const MOST_BYTES: usize = 16777216;
 
 /// What a request holds: a scan of the zones of a table and the columns of its blocks, with the bytes of the filter
 /// and of the projection.
 #[derive(Drop)]
 pub struct ScanRequest {
-    pub(crate) zones: ZoneMap,
-    pub(crate) blocks: Vec<Vec<ColumnRef>>,
-    pub(crate) filter: Vec<u8>,
-    pub(crate) projection: Vec<u8>,
-}
-
-impl ScanRequest {
     /// The zones of the table.
-    pub fn zones(&self) -> &ZoneMap
-        ensures { result.now ≡ (scan_view self.now).zones }
-    {
-        &self.zones
-    }
-
+    pub zones: ZoneMap,
     /// The columns of each block.
-    pub fn blocks(&self) -> &[Vec<ColumnRef>]
-        ensures { map columns_view result.now ≡ (scan_view self.now).blocks }
-    {
-        self.blocks.as_slice()
-    }
-
+    pub blocks: Vec<Vec<ColumnRef>>,
     /// The bytes of the filter.
-    pub fn filter(&self) -> &[u8]
-        ensures { result.now ≡ (scan_view self.now).filter }
-    {
-        self.filter.as_slice()
-    }
-
+    pub filter: Vec<u8>,
     /// The bytes of the projection.
-    pub fn projection(&self) -> &[u8]
-        ensures { result.now ≡ (scan_view self.now).projection }
-    {
-        self.projection.as_slice()
-    }
-
-    /// The zones and the columns of each block, for a store of them.
-    pub fn into_table(self) -> (ZoneMap, Vec<Vec<ColumnRef>>)
-        ensures zones { result.0 ≡ (scan_view self).zones }
-        ensures blocks { map columns_view result.1.items ≡ (scan_view self).blocks }
-    {
-        let ScanRequest { zones, blocks, .. } = self;
-        (zones, blocks)
-    }
+    pub projection: Vec<u8>,
 }
 
 /// The value that bytes are the JSON text of.

@@ -2,8 +2,8 @@
 ghost use Rattle.std.specs.Prelude.{◌≡◌, map, option_map, option_and_then, IfOk};
 ghost use Rattle.serde_json.specs.View.{view, items_view};
 ghost use Rattle.vx_dtype.specs.TypeViews.{type_view};
-ghost use Rattle.vx_prune.specs.Zoning.{type_at, plain_only, leaf_type, statistic_type};
-ghost use Rattle.vx_prune.specs.ZoneViews.{stat_view as zone_stat_view};
+ghost use Rattle.vx_zones.specs.Zoning.{type_at, plain_only, leaf_type, statistic_type};
+ghost use Rattle.vx_zones.specs.ZoneViews.{stat_view as zone_stat_view};
 ghost use Rattle.vx_request.specs.Cells.{typed_in, no_value, stat_cell, cells_from, stat_cells};
 ghost use Rattle.vx_request.specs.Requests.{no_stat, typed_stat, stat_of};
 ghost use Rattle.vx_request.specs.RequestViews.{name_view, stat_view};
@@ -15,7 +15,7 @@ use std::alloc::Global;
 use vx_dtype::{
     DType, FieldName, FieldNames, FieldPath, Mem, Nullability, PType, Scalar, Stat, StructFields,
 };
-use vx_prune::{Scalars, ZoneStat};
+use vx_zones::{Scalars, ZoneStat};
 
 /// The type that names lead to, from a type on through fields of structs.
 fn type_at(alloc: Global, names: &[&str], dtype: &DType) -> Mem<Option<DType>>

@@ -387,11 +387,11 @@ fn ample(rt: HostRuntime) -> Result<(), Fail> {
     let text = request(alloc, [columns, blocks, stats, "\"00fF\"", "\"\""])?;
     match decode_request(alloc, text.as_str().as_bytes()) {
         Ok(found) => {
-            assert_eq!(rt; found.filter(), [0u8, 255].as_slice());
-            assert!(rt; found.projection().is_empty());
-            assert_eq!(rt; found.zones().lengths(), [2u32].as_slice());
-            assert_eq!(rt; found.zones().stats().len(), 2);
-            let (_zones, blocks) = found.into_table();
+            assert_eq!(rt; found.filter.as_slice(), [0u8, 255].as_slice());
+            assert!(rt; found.projection.is_empty());
+            assert_eq!(rt; found.zones.lengths(), [2u32].as_slice());
+            assert_eq!(rt; found.zones.stats().len(), 2);
+            let blocks = &found.blocks;
             assert!(rt; blocks.len() == 1 && blocks[0].len() == 2 && blocks[0][0].len() == 2);
             let number = blocks[0][0].scalar_at(alloc, 1)?;
             assert!(rt; *number.value() == ScalarValue::Int(-2));

@@ -20,7 +20,7 @@ use Rattle.vx_semantics.specs.Asked.{asked, asked_columns, column_in}
 use Rattle.vx_semantics.specs.Meaning.{mean}
 use Rattle.vx_semantics.specs.Scans.{matching_rows, block_rows, has_rows, block_reads}
 use Rattle.vx_semantics.specs.Tables.{Table, Zones, row_type}
-use Rattle.vx_prune.specs.Zoning.{broken_rule}
+use Rattle.vx_zones.specs.Zoning.{broken_rule}
 use Rattle.vx_scan.specs.FirstForm.{i64_ty, is_column_bound, are_plain_zones}
 use Rattle.vx_scan.specs.declared.plans.Plan.{Plan}
 use Rattle.vx_scan.specs.Planning.{filter_of, projection_of, IsPlan}

@@ -21,9 +21,9 @@ use Rattle.vx_expr.specs.Operators.{operator_of}
 use Rattle.vx_expr.specs.Trees.{root, literal, get_item, binary}
 use Rattle.vx_semantics.specs.Pruning.{is_joined, is_statistic, available, known, known_in, comparison_ruled_out, rules_out}
 use Rattle.vx_semantics.specs.Tables.{ZoneStat, Zones, same_stat, joined_name, row_type}
-use Rattle.vx_prune.specs.declared.ZoneError.{ZoneError}
-use Rattle.vx_prune.specs.declared.ZoneError.TheVariants as errors
-use Rattle.vx_prune.specs.Zoning.{broken_rule, are_shallow, counts_blocks, same_statistic, distinct_statistics, statistic_type, plain_only, type_at, values_have, type_of_statistic, has_its_type}
+use Rattle.vx_zones.specs.declared.ZoneError.{ZoneError}
+use Rattle.vx_zones.specs.declared.ZoneError.TheVariants as errors
+use Rattle.vx_zones.specs.Zoning.{broken_rule, are_shallow, counts_blocks, same_statistic, distinct_statistics, statistic_type, plain_only, type_at, values_have, type_of_statistic, has_its_type}
 use Rattle.vx_scan.specs.Bounds.{number_in, i64_value}
 use Rattle.vx_scan.specs.FirstForm.{i64_ty, is_column_bound, are_plain_zones}
 use Rattle.vx_scan.specs.declared.plans.Plan.{Plan}

@@ -12,7 +12,7 @@ use Rattle.vx_expr.specs.Trees.{Tree}
 use Rattle.vx_semantics.specs.Pruning.{rules_out}
 use Rattle.vx_semantics.specs.Scans.{block_rows, block_reads, kept_rows_of, reads_of}
 use Rattle.vx_semantics.specs.Tables.{Table, Zones, row_type, numbered_from}
-use Rattle.vx_scan.specs.Counts.{one_more}
+use Rattle.vx_io.specs.Counts.{one_more}
 use Rattle.vx_scan.specs.Stores.{Read, AgreesWith}
 use Rattle.vx_scan.specs.Scanning.{Seen, ReadFirst, IsSameStore, IsStoreFault}
 use Rattle.vx_scan.specs.Progress.{kept_left, skipped_left, reads_left, rows_left, AreReadTo, IsScannedTo, IsBrokenOff, Leaves, ReadsOf, IsToldFault}

@@ -17,7 +17,7 @@ use Rattle.vx_semantics.specs.Pruning.{rules_out}
 use Rattle.vx_semantics.specs.Scans.{block_reads, block_rows, reads_of}
 use Rattle.vx_semantics.specs.Tables.{Table, Zones, row_type, numbered_from}
 use Rattle.vx_semantics.specs.Typing.{typed_of, unless, and_then, item_type, duplicate_field, unknown_field}
-use Rattle.vx_prune.specs.Zoning.{broken_rule}
+use Rattle.vx_zones.specs.Zoning.{broken_rule}
 use Rattle.vx_wire.specs.declared.ExprEncoding.{ExprEncoding}
 use Rattle.vx_scan.specs.declared.plans.Plan.{Plan}
 use Rattle.vx_scan.specs.FirstForm.{i64_ty, is_column_bound, IsAsked}

@@ -1,4 +1,3 @@
-pub mod Counts
 pub mod Blocks
 pub mod Stores
 pub mod StoreViews

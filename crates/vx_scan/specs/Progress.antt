@@ -9,7 +9,7 @@ use Rattle.vx_expr.specs.Trees.{Tree}
 use Rattle.vx_semantics.specs.Pruning.{rules_out}
 use Rattle.vx_semantics.specs.Scans.{block_rows, block_reads, kept_blocks, skipped_blocks, kept_rows_of}
 use Rattle.vx_semantics.specs.Tables.{Table, Zones, row_type, numbered_from}
-use Rattle.vx_scan.specs.Counts.{one_more}
+use Rattle.vx_io.specs.Counts.{one_more}
 use Rattle.vx_scan.specs.Stores.{Read, AreHeld}
 use Rattle.vx_scan.specs.Scanning.{Seen, ReadFirst, IsSameStore, IsStoreFault}
 use Rattle.vx_scan.specs.declared.errors.StoreError.{StoreError}

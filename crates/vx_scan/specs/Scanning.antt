@@ -7,7 +7,7 @@ use Rattle.vx_semantics.specs.Typing.{typed_of}
 use Rattle.vx_semantics.specs.Asked.{asked_columns}
 use Rattle.vx_semantics.specs.Tables.{Table, Zones, row_type}
 use Rattle.vx_semantics.specs.Scans.{kept_blocks, skipped_blocks, kept_rows_of, reads_of}
-use Rattle.vx_scan.specs.Counts.{one_more}
+use Rattle.vx_io.specs.Counts.{one_more}
 use Rattle.vx_scan.specs.Stores.{Read}
 
 -- what a scan reports: the type of its rows, the rows, the numbers of the kept and of the skipped blocks, and the columns that filter and projection ask

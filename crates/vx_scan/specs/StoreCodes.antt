@@ -5,7 +5,7 @@ use Rattle.vx_dtype.specs.Codes.{coded_bytes}
 use Rattle.vx_column.specs.Columns.{Column}
 use Rattle.vx_column.specs.ValCodes.{coded_column}
 use Rattle.vx_semantics.specs.Tables.{Zones}
-use Rattle.vx_prune.specs.ZoneCodes.{coded_zones}
+use Rattle.vx_zones.specs.ZoneCodes.{coded_zones}
 use Rattle.vx_scan.specs.Stores.{Read}
 use Rattle.vx_scan.specs.StoreViews.{StoreState}
 

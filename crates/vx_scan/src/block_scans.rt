@@ -8,7 +8,7 @@ ghost use Rattle.vx_dtype.specs.Values.{Val};
 ghost use Rattle.vx_column.specs.Columns.{kept_rows, values_fit, seen_rows};
 ghost use Rattle.vx_semantics.specs.Scans.{block_reads, block_rows};
 ghost use Rattle.vx_semantics.specs.Tables.{Table, row_type};
-ghost use Rattle.vx_prune.specs.Zoning.{broken_rule};
+ghost use Rattle.vx_zones.specs.Zoning.{broken_rule};
 ghost use Rattle.vx_scan.specs.FirstForm.{i64_ty};
 ghost use Rattle.vx_scan.specs.Planning.{filter_of, projection_of, IsPlan};
 ghost use Rattle.vx_scan.specs.Progress.{KeptOf, ReadsOf, IsToldFault};

@@ -9,15 +9,15 @@ ghost use Rattle.vx_dtype.specs.TypeRules.{with_nullability};
 ghost use Rattle.vx_dtype.specs.Values.{value_of};
 ghost use Rattle.vx_semantics.specs.Pruning.{is_statistic, available, known, value_in, known_in, known_compare, comparison_ruled_out, rules_out};
 ghost use Rattle.vx_semantics.specs.Tables.{same_stat};
-ghost use Rattle.vx_prune.specs.Zoning.{broken_rule};
-ghost use Rattle.vx_prune.specs.ZoneViews.{stat_view};
+ghost use Rattle.vx_zones.specs.Zoning.{broken_rule};
+ghost use Rattle.vx_zones.specs.ZoneViews.{stat_view};
 ghost use Rattle.vx_scan.specs.Bounds.{number_in, i64_value, bounds};
 ghost use Rattle.vx_scan.specs.FirstForm.{i64_ty, are_plain_zones};
 ghost use Rattle.vx_scan.specs.Planning.{filter_of, IsPlan};
 
 use crate::plans::Plan;
 use vx_dtype::{CompareOperator, Field, FieldName, Scalar, ScalarValue, Stat};
-use vx_prune::{ZoneMap, ZoneStat};
+use vx_zones::{ZoneMap, ZoneStat};
 
 /// Whether the bounds of a plan's column rule a block out. Bounds that aren't known rule nothing out.
 pub(crate) fn is_ruled_out(zones: &ZoneMap, block: u32, plan: &Plan) -> bool

@@ -2,7 +2,7 @@
 ghost use Rattle.std.specs.Prelude.{◌≡◌, ◌-◌, ◌^◌, ◌<◌, ◌≤◌, true, false, cond, [], ◌∷◌, ◌++◌, length, map, Some, option_map, IfOk, IsErr, IsErrOf, All};
 ghost use Rattle.std.specs.List.{slice_get};
 ghost use Rattle.vx_dtype.specs.TypeRules.{has_name, field_names, field_type};
-ghost use Rattle.vx_scan.specs.Counts.{one_more, is_nothing, is_listed};
+ghost use Rattle.vx_io.specs.Counts.{one_more, is_nothing, is_listed};
 ghost use Rattle.vx_scan.specs.Blocks.{table_of};
 ghost use Rattle.vx_scan.specs.Stores.{AgreesWith, AreHeld};
 ghost use Rattle.vx_scan.specs.StoreViews.{block_view, entry_view};
@@ -15,7 +15,7 @@ use std::alloc::{AllocError, Global};
 use std::marker::Model;
 use vx_column::ColumnRef;
 use vx_dtype::FieldName;
-use vx_prune::ZoneMap;
+use vx_zones::ZoneMap;
 
 /// The columns of a table in memory as a store that tells it, and that fails at the reads whose numbers are listed.
 #[derive(Drop)]

@@ -5,7 +5,7 @@ ghost use Rattle.vx_dtype.specs.Equal.{ty_eq};
 ghost use Rattle.vx_dtype.specs.StructTypes.{field_types};
 ghost use Rattle.vx_dtype.specs.TypeRules.{field_names, has_name};
 ghost use Rattle.vx_dtype.specs.TypeViews.{type_view};
-ghost use Rattle.vx_prune.specs.ZoneViews.{stat_view};
+ghost use Rattle.vx_zones.specs.ZoneViews.{stat_view};
 ghost use Rattle.vx_wire_text.specs.WireViews.{tree_view};
 ghost use Rattle.vx_wire.specs.Registries.{registered};
 ghost use Rattle.vx_scan.specs.FirstForm.{i64_ty, is_i64, is_column_bound, are_plain_zones};
@@ -18,8 +18,8 @@ use vx_dtype::{
     StructFields,
 };
 use vx_expr::{Expr, ExprRef};
-use vx_prune::{ZoneMap, ZoneStat};
 use vx_wire::{BuildError, ExprRegistry, WireError, WireTree, deserialize_expr_proto, read_tree};
+use vx_zones::{ZoneMap, ZoneStat};
 
 /// A column that is compared with a constant, and the column whose values are given where the comparison is true.
 #[derive(Drop)]

@@ -4,7 +4,7 @@ ghost use Rattle.vx_dtype.specs.RawViews.{raw_view};
 ghost use Rattle.vx_dtype.specs.TypeViews.{type_view};
 ghost use Rattle.vx_column.specs.Columns.{raws_fit, values_fit, seen_rows};
 ghost use Rattle.vx_expr.specs.Trees.{Tree};
-ghost use Rattle.vx_prune.specs.Zoning.{broken_rule};
+ghost use Rattle.vx_zones.specs.Zoning.{broken_rule};
 ghost use Rattle.vx_wire.specs.Registries.{registered};
 ghost use Rattle.vx_scan.specs.FirstForm.{i64_ty, IsAsked};
 ghost use Rattle.vx_scan.specs.Planning.{filter_of, projection_of, IsPlan};

@@ -3,13 +3,13 @@ ghost use Rattle.std.specs.Prelude.{◌≡◌, ℕ, ◌<◌, ◌≤◌, true, Bo
 ghost use Rattle.std.specs.List.{slice_get};
 ghost use Rattle.vx_dtype.specs.TypeRules.{has_name, field_names, field_type};
 ghost use Rattle.vx_semantics.specs.Tables.{Table, Zones};
-ghost use Rattle.vx_scan.specs.Counts.{one_more};
+ghost use Rattle.vx_io.specs.Counts.{one_more};
 ghost use Rattle.vx_scan.specs.Stores.{Read, AgreesWith, AreHeld};
 
 use crate::errors::StoreError;
 use vx_column::ColumnRef;
 use vx_dtype::FieldName;
-use vx_prune::ZoneMap;
+use vx_zones::ZoneMap;
 
 /// A read of a column: the number of its block, counted from 0, and the column's name.
 #[derive(PartialEq, Eq, Debug, Drop)]

@@ -10,7 +10,7 @@ ghost use Rattle.vx_scan.specs.StoreViews.{block_view};
 
 use vx_column::ColumnRef;
 use vx_dtype::{FieldName, StructFields};
-use vx_prune::ZoneMap;
+use vx_zones::ZoneMap;
 
 /// The columns of zones.
 pub(crate) fn columns_of(zones: &ZoneMap) -> &StructFields

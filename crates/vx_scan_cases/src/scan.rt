@@ -7,9 +7,9 @@ use vx_dtype::Nullability::{NonNullable, Nullable};
 use vx_dtype::{
     DType, FieldName, FieldNames, FieldPath, PType, Scalar, ScalarValue, Stat, StructFields,
 };
-use vx_prune::{Scalars, ZoneMap, ZoneStat};
 use vx_scan::{MemoryStore, ReadEntry, ScanError, ScanReport, TableError, scan};
 use vx_wire::{ExprRegistry, ExprRegistryExt};
+use vx_zones::{Scalars, ZoneMap, ZoneStat};
 
 /// `($.x > 10i64)`
 const FILTER: [u8; 52] = [

@@ -18,8 +18,8 @@ returns-in-Ok-clause-scanned c =
     let told = scan_told a found.0 found.1 (store_view c.args.store) c.scan.new.store (report_view c.in-Ok.report) (string_bytes c.in_ok-text_of-in-Ok.field-0) (ap store_view c.requires) c.in-Ok.ensures.same found.3 c.in_ok-text_of-in-Ok.ensures in
     (found.0, found.1, spelled, told.0, told.1)
 
-pub returns-in-Err-NotBuilt-clause-not_built : goal.returns-in-Err-NotBuilt-clause-not_built
-returns-in-Err-NotBuilt-clause-not_built c = λ e f p spelled.
+pub returns-in-Err-NotBuilt-clause-refused : goal.returns-in-Err-NotBuilt-clause-refused
+returns-in-Err-NotBuilt-clause-refused c = λ f p spelled.
     let holds : registered c.default-registry.result ≡ is_default_kind = λ j k. (c.default-registry.ensures k) j in
     c.in-Err-NotBuilt.ensures.not_built (λ i. Err (c.in-Err-NotBuilt.field-0-is i)) f p
     (subst (λ (h : ExprEncoding → Bool). IsAsked h c.args.store.zones c.args.filter.now c.args.projection.now f p) (sym holds) spelled)

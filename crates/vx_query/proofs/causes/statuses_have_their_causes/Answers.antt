@@ -7,8 +7,8 @@ returns-clause-report c = reported
 pub returns-clause-usage : goal.returns-clause-usage
 returns-clause-usage c = unformed
 
-pub returns-clause-not_built : goal.returns-clause-not_built
-returns-clause-not_built c = unasked
+pub returns-clause-without_report : goal.returns-clause-without_report
+returns-clause-without_report c = unasked
 
 pub returns-clause-read_fault : goal.returns-clause-read_fault
 returns-clause-read_fault c = source_risen

@@ -1,5 +1,5 @@
 use Rattle.std.proofs.Common.{◌≡◌, map, take}
-use Rattle.vx_prune.specs.ZoneViews.{stat_view as zone_stat_view}
+use Rattle.vx_zones.specs.ZoneViews.{stat_view as zone_stat_view}
 use Rattle.vx_request.specs.Requests.{stat_of}
 use Rattle.vx_request.specs.RequestViews.{stat_view}
 use Rattle.vx_request.proofs.stats.stats_of.Given as goal

@@ -6,7 +6,7 @@ use Rattle.vx_dtype.specs.TypeRules.{with_nullability}
 use Rattle.vx_dtype.specs.Values.{Typed}
 use Rattle.vx_semantics.specs.Pruning.{is_statistic, value_in, known_in}
 use Rattle.vx_semantics.specs.Tables.{ZoneStat}
-use Rattle.vx_prune.specs.ZoneViews.{stat_view}
+use Rattle.vx_zones.specs.ZoneViews.{stat_view}
 use Rattle.vx_scan.specs.FirstForm.{i64_ty}
 use Rattle.vx_scan.proofs.BoundLemmas.{available_found, found_values}
 use Rattle.vx_scan.proofs.bounds.bound.Goals as goal

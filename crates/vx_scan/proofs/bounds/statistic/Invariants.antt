@@ -1,7 +1,7 @@
 use Rattle.std.proofs.Common.{◌≡◌, map, drop, [], ◌∷◌}
 use Rattle.std.specs.List.{find}
 use Rattle.vx_semantics.specs.Pruning.{is_statistic}
-use Rattle.vx_prune.specs.ZoneViews.{stat_view}
+use Rattle.vx_zones.specs.ZoneViews.{stat_view}
 use Rattle.vx_scan.proofs.bounds.statistic.Given as goal
 
 -- what is left to search

@@ -1,6 +1,6 @@
 use Rattle.std.proofs.Common.{◌≡◌, map, drop}
 use Rattle.std.specs.List.{list_all}
-use Rattle.vx_prune.specs.ZoneViews.{stat_view}
+use Rattle.vx_zones.specs.ZoneViews.{stat_view}
 use Rattle.vx_scan.specs.FirstForm.{is_column_bound}
 use Rattle.vx_scan.proofs.plans.are_bounds.Given as goal
 

@@ -1,0 +1,90 @@
+// A source over bytes in memory, for tests and for callers that have them all.
+ghost use Rattle.std.specs.Prelude.{◌≡◌, ◌-◌, ◌^◌, ◌<◌, ◌≤◌, ◌++◌, [], length, take, drop, min, Some, IfOk, IfErr, IsErr, IsTrue, ◌↔◌, All};
+ghost use Rattle.vx_io.specs.Counts.{one_more};
+ghost use Rattle.vx_io.specs.Ends.{HasCause, ReadsFrom};
+ghost use Rattle.vx_io.specs.Listed.{read_fails};
+
+use crate::sources::{ReadFailed, Source};
+use std::marker::Model;
+
+/// Bytes in memory as a source that gives at most so many a call, and fails at the calls whose numbers are listed.
+#[derive(Drop)]
+pub struct MemorySource {
+    bytes: Vec<u8>,
+    at: usize,
+    most: usize,
+    fail: Vec<u64>,
+    calls: u64,
+    faults: u64,
+}
+
+impl Model for MemorySource {
+    ghost use Rattle.std.specs.Prelude.{◌<◌, ◌≤◌, length, drop};
+    ghost use Rattle.vx_io.specs.Listed.{SourceState};
+
+    ghost Value = { SourceState };
+
+    ghost view = { λ s. record { bytes = drop s.at s.bytes.items; most = s.most; listed = s.fail.items; calls = s.calls; faults = s.faults } };
+
+    ghost invariant = { λ s. (s.at ≤ length s.bytes.items) × (0 < s.most) };
+}
+
+impl MemorySource {
+    /// A source of these bytes that gives at most `most` a call, and fails at the calls whose numbers, from 1, are
+    /// listed.
+    pub fn new(bytes: Vec<u8>, most: usize, fail: Vec<u64>) -> MemorySource
+        requires some { 0 < most }
+        requires countable { All (λ n. n < 2 ^ 64 - 1) fail.items }
+        ensures { result ≡ record { bytes = bytes.items; most = most; listed = fail.items; calls = 0; faults = 0 } }
+    {
+        MemorySource {
+            bytes,
+            at: 0,
+            most,
+            fail,
+            calls: 0,
+            faults: 0,
+        }
+    }
+
+    /// How many calls failed; at 2^64 - 1 the count stays.
+    pub fn faults(&self) -> u64
+        ensures { result ≡ self.now.faults }
+    {
+        self.faults
+    }
+}
+
+impl Source for MemorySource {
+    ghost left = { λ s. Some s.bytes };
+
+    ghost faults = { λ s. s.faults };
+
+    fn read(&mut self, into: &mut [u8]) -> Result<usize, ReadFailed>
+        ensures bound { IfOk result (λ n. n ≤ length into.old) }
+        ensures bytes { ReadsFrom (Some self.old.bytes) (Some self.new.bytes) into.new result }
+        ensures cause { HasCause self.old.faults self.new.faults result }
+        ensures fails { IsErr result ↔ IsTrue (read_fails self.old) }
+        ensures failure { IfErr result (λ _. self.new ≡ record self.old { calls = one_more self.old.calls; faults = one_more self.old.faults }) }
+        ensures count { IfOk result (λ n. n ≡ min self.old.most (min (length into.old) (length self.old.bytes))) }
+        ensures taken { IfOk result (λ n. self.new ≡ record self.old { bytes = drop n self.old.bytes; calls = one_more self.old.calls }) }
+    {
+        self.calls = self.calls.saturating_add(1);
+        if self.fail.contains(&self.calls) {
+            self.faults = self.faults.saturating_add(1);
+            return Err(ReadFailed);
+        }
+        let n = self.most.min(into.len().min(self.bytes.len() - self.at));
+        copy_front(into, &self.bytes[self.at..self.at + n]);
+        self.at += n;
+        Ok(n)
+    }
+}
+
+// Copies a piece to the front of a buffer.
+fn copy_front(into: &mut [u8], piece: &[u8])
+    requires { length piece.now ≤ length into.old }
+    ensures { into.new ≡ piece.now ++ drop (length piece.now) into.old }
+{
+    into[..piece.len()].copy_from_slice(piece);
+}

@@ -1,9 +1,0 @@
-use Rattle.std.proofs.Common.{◌≡◌, map, drop}
-use Rattle.std.specs.List.{list_all}
-use Rattle.vx_query.specs.Requests.{is_rectangle}
-use Rattle.vx_query.specs.RequestViews.{block_view}
-use Rattle.vx_query.proofs.requests.are_rectangles.Given as goal
-
--- what is left to test
-abbrev pub invariant-loop-block : goal.invariant-loop-block
-invariant-loop-block l = list_all (is_rectangle l.columns) (map block_view l.fn.blocks) ≡ list_all (is_rectangle l.columns) (map block_view (drop l.block-index l.fn.blocks))

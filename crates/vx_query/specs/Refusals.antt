@@ -1,0 +1,49 @@
+-- What the lines of refusals tell.
+use Rattle.std.specs.Prelude.{◌++◌, codes}
+use Rattle.vx_dtype.specs.Types.{Bytes}
+use Rattle.vx_request.specs.declared.errors.Place.{Place}
+use Rattle.vx_request.specs.declared.errors.Place.TheVariants.{Top, Columns, Blocks, Stats, Filter, Projection}
+use Rattle.vx_request.specs.declared.errors.Side.{Side}
+use Rattle.vx_request.specs.declared.errors.Side.TheVariants as sides
+use Rattle.vx_request.specs.declared.errors.TableRefusal.{TableRefusal}
+use Rattle.vx_request.specs.declared.errors.TableRefusal.TheVariants.{DuplicateName, DeepType, BadStatPath, DuplicateStat, WrongStatCount, WrongStatType, WrongLength, WrongValue}
+use Rattle.vx_request.specs.declared.errors.RequestError.{RequestError}
+use Rattle.vx_request.specs.declared.errors.RequestError.TheVariants.{NoMemory, InputTooLong, BadJson, BadRequest, BadHex, BadTable}
+
+-- the name of a place of a request
+abbrev pub place_name : Place → Bytes
+place_name Top = codes "top"
+place_name Columns = codes "columns"
+place_name Blocks = codes "blocks"
+place_name Stats = codes "stats"
+place_name Filter = codes "filter"
+place_name Projection = codes "projection"
+
+-- the name of one of the two expressions
+abbrev pub side_name : Side → Bytes
+side_name sides.Filter = codes "filter"
+side_name sides.Projection = codes "projection"
+
+-- the name of a table's refusal
+abbrev pub table_refusal_name : TableRefusal → Bytes
+table_refusal_name DuplicateName = codes "DuplicateName"
+table_refusal_name DeepType = codes "DeepType"
+table_refusal_name BadStatPath = codes "BadStatPath"
+table_refusal_name DuplicateStat = codes "DuplicateStat"
+table_refusal_name WrongStatCount = codes "WrongStatCount"
+table_refusal_name WrongStatType = codes "WrongStatType"
+table_refusal_name WrongLength = codes "WrongLength"
+table_refusal_name WrongValue = codes "WrongValue"
+
+-- what is told of a request that is refused: the refusal's name, and its place
+abbrev pub request_refusal_name : RequestError → Bytes
+request_refusal_name NoMemory = codes "NoMemory"
+request_refusal_name InputTooLong = codes "InputTooLong"
+request_refusal_name BadJson = codes "BadJson"
+request_refusal_name (BadRequest place) = codes "BadRequest " ++ place_name place
+request_refusal_name (BadHex side) = codes "BadHex " ++ side_name side
+request_refusal_name (BadTable refusal) = codes "BadTable " ++ table_refusal_name refusal
+
+-- the line of a refusal
+abbrev pub refusal_line : Bytes → Bytes
+refusal_line name = codes "error: " ++ (name ++ codes "\n")

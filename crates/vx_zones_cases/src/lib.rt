@@ -1,0 +1,5 @@
+//! Tests of the statistics of tables.
+#![tactic(auto)]
+
+#[cfg(test)]
+mod zones;
