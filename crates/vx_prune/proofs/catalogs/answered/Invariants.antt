@@ -1,0 +1,8 @@
+use Rattle.std.proofs.Common.{◌≡◌}
+use Rattle.std.specs.List.{filter}
+use Rattle.vx_passes.specs.Catalogs.{is_alone_among, statistic_path}
+use Rattle.vx_prune.proofs.catalogs.answered.Given as goal
+
+-- the available statistics so far
+abbrev pub invariant-loop-path : goal.invariant-loop-path
+invariant-loop-path l = l.kept.items ≡ filter (λ q. is_alone_among l.available (statistic_path q.0 q.1)) l.yielded

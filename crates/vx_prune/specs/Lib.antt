@@ -1,0 +1,10 @@
+pub mod CatalogViews
+pub mod Elements
+pub mod Finding
+pub mod Relations
+pub mod Required
+pub mod Separators
+pub use Rattle.vx_passes.specs.Catalogs
+pub use Rattle.vx_passes.specs.Falsifying
+pub use Rattle.vx_passes.specs.PruningTables
+pub use Rattle.vx_semantics.specs.Paths

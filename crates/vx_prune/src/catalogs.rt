@@ -1,0 +1,212 @@
+// Catalogs of statistics: what stands for a statistic of a path, and what was asked.
+ghost use Rattle.std.specs.Prelude.{◌≡◌, [], ◌∷◌, ◌++◌, List, length, IfOk, OnErr};
+ghost use Rattle.std.specs.List.{filter};
+ghost use Rattle.std.specs.Str.{bytes_eq};
+ghost use Rattle.vx_passes.specs.Catalogs.{Catalog, every_statistic, is_alone_among, joined_path, statistic_column, statistic_path, statistics_among};
+ghost use Rattle.vx_passes.specs.Falsifying.{Question};
+ghost use Rattle.vx_passes.specs.PruningTables.{answered_once};
+ghost use Rattle.vx_prune.specs.CatalogViews.{available_members, scope_questions, tracked_questions};
+ghost use Rattle.vx_prune.specs.Required.{Requires};
+
+use crate::joined_names::{field_path_stat_field_name, joined_path, statistic_path};
+use crate::relations::{Relation, RequiredStats};
+use std::alloc::Global;
+use vx_build::{get_item, root};
+use vx_dtype::{FieldPath, FieldPathSet, Mem, Stat};
+use vx_expr::ExprRef;
+
+/// A catalog of statistics, which notes what it is asked.
+pub trait StatsCatalog {
+    /// The expression that stands for a statistic of a path, if there is one.
+    ghost answer: { Self → Catalog };
+
+    /// What was asked, in order.
+    ghost asked: { Self → List Question };
+
+    /// The expression that stands for a statistic of a path, None where there is none. The statistic is noted as asked. No call
+    /// changes what the catalog answers, and one that lacks memory notes nothing.
+    fn stats_ref(
+        &mut self,
+        alloc: Global,
+        field_path: &FieldPath,
+        stat: Stat,
+    ) -> Mem<Option<ExprRef>>
+        ensures same { answer self.new ≡ answer self.old }
+        ensures found { IfOk result (λ found. found ≡ answer self.old field_path.now stat) }
+        ensures noted { IfOk result (λ _. asked self.new ≡ asked self.old ++ (field_path.now, stat) ∷ []) }
+        ensures err { OnErr result (asked self.new ≡ asked self.old) };
+}
+
+/// The catalog that answers every statistic: its column of a row of statistics, under its joined name.
+#[derive(Drop)]
+pub struct TrackingStatsCatalog {
+    asked: Vec<(FieldPath, Stat)>,
+}
+
+impl TrackingStatsCatalog {
+    /// The catalog of which nothing was asked.
+    pub fn new(alloc: Global) -> TrackingStatsCatalog
+        ensures { tracked_questions result ≡ [] }
+    {
+        TrackingStatsCatalog {
+            asked: Vec::new(alloc),
+        }
+    }
+
+    /// The statistics that were asked.
+    pub fn into_required(self, alloc: Global) -> Mem<RequiredStats>
+        ensures { IfOk result (Requires (answered_once every_statistic [] (tracked_questions self))) }
+    {
+        let TrackingStatsCatalog { asked } = self;
+        required_by(alloc, asked)
+    }
+}
+
+impl StatsCatalog for TrackingStatsCatalog {
+    ghost answer = { λ _. every_statistic };
+
+    ghost asked = { tracked_questions };
+
+    fn stats_ref(
+        &mut self,
+        alloc: Global,
+        field_path: &FieldPath,
+        stat: Stat,
+    ) -> Mem<Option<ExprRef>> {
+        let column = statistic_column(alloc, field_path, stat)?;
+        self.asked.push((field_path.clone()?, stat))?;
+        Ok(Some(column))
+    }
+}
+
+/// The catalog that answers the statistics of a set of paths: a statistic is available where its path, with its name behind, is in
+/// the set, and no other path of the set has the same joined name.
+#[derive(Drop)]
+pub struct ScopeStatsCatalog<'a> {
+    available: &'a FieldPathSet,
+    asked: Vec<(FieldPath, Stat)>,
+}
+
+impl<'a> ScopeStatsCatalog<'a> {
+    /// The catalog over these available statistics, of which nothing was asked.
+    pub fn new(alloc: Global, available: &'a FieldPathSet) -> ScopeStatsCatalog<'a>
+        ensures members { available_members result ≡ available.now }
+        ensures unasked { scope_questions result ≡ [] }
+    {
+        ScopeStatsCatalog {
+            available,
+            asked: Vec::new(alloc),
+        }
+    }
+
+    /// The statistics that were asked and are available.
+    pub fn into_required(self, alloc: Global) -> Mem<RequiredStats>
+        ensures { IfOk result (Requires (answered_once (statistics_among (available_members self.entry)) [] (scope_questions self.entry))) }
+    {
+        let ScopeStatsCatalog { available, asked } = self;
+        let answered = answered(alloc, available, asked)?;
+        required_by(alloc, answered)
+    }
+}
+
+impl<'a> StatsCatalog for ScopeStatsCatalog<'a> {
+    ghost answer = { λ c. statistics_among (available_members c) };
+
+    ghost asked = { scope_questions };
+
+    fn stats_ref(
+        &mut self,
+        alloc: Global,
+        field_path: &FieldPath,
+        stat: Stat,
+    ) -> Mem<Option<ExprRef>> {
+        let column = available_column(alloc, self.available, field_path, stat)?;
+        self.asked.push((field_path.clone()?, stat))?;
+        Ok(column)
+    }
+}
+
+/// These statistics, each once.
+fn required_by(alloc: Global, asked: Vec<(FieldPath, Stat)>) -> Mem<RequiredStats>
+    ensures { IfOk result (Requires asked.items) }
+{
+    let mut required = Relation::new(alloc);
+    for (path, stat) in asked {
+        required.insert(path, stat)?;
+    }
+    Ok(required)
+}
+
+/// Those of these statistics that are available.
+fn answered(
+    alloc: Global,
+    available: &FieldPathSet,
+    asked: Vec<(FieldPath, Stat)>,
+) -> Mem<Vec<(FieldPath, Stat)>>
+    ensures { IfOk result (λ kept. kept.items ≡ filter (λ q. is_alone_among available.now (statistic_path q.0 q.1)) asked.items) }
+{
+    let mut kept = Vec::new(alloc);
+    for (path, stat) in asked {
+        if is_available(alloc, available, &path, stat)? {
+            kept.push((path, stat))?;
+        }
+    }
+    Ok(kept)
+}
+
+/// A statistic of a path as a field of the row of statistics, under its joined name.
+fn statistic_column(alloc: Global, path: &FieldPath, stat: Stat) -> Mem<ExprRef>
+    ensures { IfOk result (λ made. made ≡ statistic_column path.now stat) }
+{
+    get_item(
+        alloc,
+        field_path_stat_field_name(alloc, path, stat)?,
+        root(alloc)?,
+    )
+}
+
+/// The same where the statistic is available.
+fn available_column(
+    alloc: Global,
+    available: &FieldPathSet,
+    path: &FieldPath,
+    stat: Stat,
+) -> Mem<Option<ExprRef>>
+    ensures { IfOk result (λ made. made ≡ statistics_among available.now path.now stat) }
+{
+    if is_available(alloc, available, path, stat)? {
+        return Ok(Some(statistic_column(alloc, path, stat)?));
+    }
+    Ok(None)
+}
+
+/// Whether a statistic is available.
+fn is_available(alloc: Global, available: &FieldPathSet, path: &FieldPath, stat: Stat) -> Mem<bool>
+    ensures { IfOk result (λ alone. alone ≡ is_alone_among available.now (statistic_path path.now stat)) }
+{
+    is_alone(alloc, available, &statistic_path(alloc, path, stat)?)
+}
+
+/// Whether a path is in the set, and no other path there has its joined name.
+fn is_alone(alloc: Global, available: &FieldPathSet, path: &FieldPath) -> Mem<bool>
+    ensures { IfOk result (λ alone. alone ≡ is_alone_among available.now path.now) }
+{
+    if !available.contains(path) {
+        return Ok(false);
+    }
+    Ok(namesakes(alloc, available.as_slice(), path)? == 1)
+}
+
+/// How many of these paths have the joined name of a path.
+fn namesakes(alloc: Global, paths: &[FieldPath], path: &FieldPath) -> Mem<usize>
+    ensures { IfOk result (λ count. count ≡ length (filter (λ p. bytes_eq (joined_path path.now) (joined_path p)) paths.now)) }
+{
+    let joined = joined_path(alloc, path)?;
+    let mut count = 0;
+    for other in paths {
+        if joined.as_str() == joined_path(alloc, other)?.as_str() {
+            count += 1;
+        }
+    }
+    Ok(count)
+}

@@ -1,0 +1,21 @@
+//! Which statistics of a table a filter needs, and its pruning expression: an expression over these statistics that is true only
+//! where the filter is true at no row.
+#![tactic(auto)]
+
+mod analysis;
+mod bounds;
+mod catalogs;
+mod comparisons;
+mod falsify;
+mod joined_names;
+mod joins;
+mod lists;
+mod pruning;
+mod ranges;
+mod relations;
+
+pub use analysis::AnalysisExpr;
+pub use catalogs::{ScopeStatsCatalog, StatsCatalog, TrackingStatsCatalog};
+pub use joined_names::field_path_stat_field_name;
+pub use pruning::checked_pruning_expr;
+pub use relations::{Relation, RequiredStats};

@@ -1,0 +1,56 @@
+// Relations between keys and values: which values stand beside a key.
+ghost use Rattle.std.specs.Prelude.{◌≡◌, ◌&&◌, ◌||◌, false, OnOk, OnErr};
+ghost use Rattle.vx_prune.specs.Relations.{has_pair, relation_map};
+
+use std::alloc::Global;
+use std::collections::{HashMap, HashSet};
+use std::hash::Hash;
+use vx_dtype::{FieldPath, Mem, Stat};
+
+/// A relation between keys and values: a map from each key to the set of values that stand beside it.
+#[derive(Drop)]
+pub struct Relation<K: Eq + Hash, V: Eq + Hash> {
+    map: HashMap<K, HashSet<V>>,
+}
+
+/// The statistics that an expression needs: those of each path.
+pub type RequiredStats = Relation<FieldPath, Stat>;
+
+impl<K: Eq + Hash, V: Eq + Hash> Relation<K, V> {
+    /// The relation without pairs.
+    pub fn new(alloc: Global) -> Relation<K, V>
+        ensures { (k : K) (v : V) → has_pair K.eq V.eq (relation_map result) k v ≡ false }
+    {
+        Relation {
+            map: HashMap::new(alloc),
+        }
+    }
+
+    /// Puts the value beside the key, where it may stand already. Without memory the relation has the pairs that it had.
+    pub fn insert(&mut self, k: K, v: V) -> Mem<()>
+    where
+        K: Drop,
+        V: Drop,
+        ensures ok { OnOk result ((q : K) (w : V) → has_pair K.eq V.eq (relation_map self.new) q w
+            ≡ (K.eq k q && V.eq v w || has_pair K.eq V.eq (relation_map self.old) q w)) }
+        ensures err { OnErr result ((q : K) (w : V) → has_pair K.eq V.eq (relation_map self.new) q w ≡ has_pair K.eq V.eq (relation_map self.old) q w) }
+    {
+        let set = self.map.entry(k)?.or_default();
+        set.insert(v)?;
+        Ok(())
+    }
+
+    /// The map from keys to the sets of values beside them.
+    pub fn map(&self) -> &HashMap<K, HashSet<V>>
+        ensures { result.now ≡ relation_map self.now }
+    {
+        &self.map
+    }
+
+    /// The relation of a map from keys to the sets of values beside them.
+    pub fn from_map(map: HashMap<K, HashSet<V>>) -> Relation<K, V>
+        ensures { relation_map result ≡ map }
+    {
+        Relation { map }
+    }
+}
