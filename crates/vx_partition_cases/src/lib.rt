@@ -1,0 +1,5 @@
+//! Tests of annotations and of partition.
+#![tactic(auto)]
+
+#[cfg(test)]
+mod partition;
