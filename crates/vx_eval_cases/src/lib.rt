@@ -4,11 +4,7 @@
 #[cfg(test)]
 mod evaluation;
 #[cfg(test)]
-mod evaluation_refusals;
-#[cfg(test)]
 mod samples;
-#[cfg(test)]
-mod tables;
 #[cfg(test)]
 mod typing;
 #[cfg(test)]

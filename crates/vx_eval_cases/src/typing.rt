@@ -1,6 +1,5 @@
 //! The types of expressions over a scope, and one refusal of each kind.
 use crate::samples::{col, int, names, pair, truth};
-use crate::tables::{column_a, gives, sample_table};
 use std::alloc::Global;
 use std::process::Abort;
 use std::test::Fail;
@@ -211,7 +210,5 @@ fn ample(rt: HostRuntime) -> Result<(), Fail> {
     assert!(rt; col(alloc, "b")?.return_dtype(alloc, &scope)? == int());
     let rows = Scope::empty(alloc, 3)?;
     assert!(rt; rows.len() == 3 && rows.slots().is_empty());
-    let rows = Scope::new(sample_table(alloc)?);
-    assert!(rt; gives(alloc, &col(alloc, "a")?, &rows, &column_a(alloc)?));
     Ok(())
 }
