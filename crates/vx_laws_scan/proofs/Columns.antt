@@ -17,12 +17,13 @@ use Rattle.vx_semantics.specs.Breaks.{break_of}
 use Rattle.vx_semantics.specs.Asked.{Asking, asks_node, asks_column, node_in, column_in, asked, asked_nodes, asked_columns}
 use Rattle.vx_semantics.specs.Tables.{Zones, row_type, numbered_from}
 use Rattle.vx_semantics.specs.Pruning.{rules_out}
-use Rattle.vx_semantics.specs.Scans.{matching_rows, block_rows, has_rows, block_reads}
+use Rattle.vx_semantics.specs.Scans.{matching_rows, block_rows, has_rows, reads_in, further_columns}
 use Rattle.vx_laws.proofs.Inverting.{bytes_same, bytes_eq-itself}
 use Rattle.vx_laws.proofs.Fitting.{fits-but_for_faults}
 use Rattle.vx_laws_scan.specs.Agreeing.{AgreeOn, AreAlike, AgreeingRowsMeanTheSame, AgreeingRowsBreakTheSame, BlocksAgree, IsTyped, all_rows_fit, TablesAgree, table_of, AgreeingTablesHaveTheSameRows, AgreeingTablesHaveTheSameReads}
 use Rattle.vx_laws_scan.proofs.Alike.{AskedAgree, NodesSame, Outcome, mean-agreeing}
 use Rattle.vx_laws_scan.proofs.Keeping.{kept_rows_are_all}
+use Rattle.vx_laws_scan.proofs.BlockReads.{block_reads, reads_by_block}
 
 -- what holds of each name that a filter keeps holds of a name that passes
 kept-name : (P : Bytes → Type 0) (test : Bytes → Bool) (names : List Bytes) (c : Bytes) → AllByRecursion P (filter test names) → has_name c names ≡ true → test c ≡ true → P c
@@ -179,9 +180,10 @@ agreeing_tables_rows zones columns slots f p blocks others h x y =
 pub agreeing_tables_reads : AgreeingTablesHaveTheSameReads
 agreeing_tables_reads zones columns slots f p blocks others h =
     let t = row_type columns in
-    same-answers zones slots t f p (block_reads t slots f p)
+    reads_by_block (table_of columns blocks) zones slots f p
+    ∙ (same-answers zones slots t f p (block_reads t slots f p)
     (λ n rows os s.
-    ap (λ (x : Bool). map (λ (c : Bytes). (n, c)) (asked_columns t f)
-    ++ cond x (map (λ (c : Bytes). (n, c)) (filter (λ c. not (has_name c (asked_columns t f))) (asked_columns t p))) [])
+    ap (λ (x : Bool). reads_in n (asked_columns t f) ++ cond x (reads_in n (further_columns t f p)) [])
     (same-has_rows t slots p (matching_rows t slots f rows) (matching_rows t slots f os) s))
     0 blocks others (tables-same zones columns slots f p blocks others h)
+    ∙ sym (reads_by_block (table_of columns others) zones slots f p))

@@ -3,6 +3,7 @@ pub mod Bounds
 pub mod HonestRows
 pub mod Ruling
 pub mod Keeping
+pub mod BlockReads
 pub mod Alike
 pub mod Columns
 pub mod Constants

@@ -3,16 +3,16 @@ use Rattle.std.proofs.Common.{◌≡◌, ℕ, suc, refl, sym, ◌∙◌, Bool, t
 use Rattle.std.specs.Prelude.{map}
 use Rattle.std.specs.List.{list_any, list_all, filter, flat_map}
 use Rattle.std.proofs.lemmas.Bool.{and_parts, and_from, or_parts, or_from}
-use Rattle.vx_dtype.specs.Types.{Ty}
+use Rattle.vx_dtype.specs.Types.{Bytes, Ty}
 use Rattle.vx_dtype.specs.Values.{Val}
 use Rattle.vx_dtype.specs.Fits.{val_fits, holds_fault}
 use Rattle.vx_dtype.specs.Logic.{is_true_val}
 use Rattle.vx_expr.specs.Trees.{Tree}
 use Rattle.vx_semantics.specs.Meaning.{Slots, mean}
-use Rattle.vx_semantics.specs.Asked.{some_asked_breaks}
+use Rattle.vx_semantics.specs.Asked.{asked_columns, some_asked_breaks}
 use Rattle.vx_semantics.specs.Tables.{Table, row_type, numbered_from}
 use Rattle.vx_semantics.specs.Pruning.{rules_out}
-use Rattle.vx_semantics.specs.Scans.{matching_rows, block_rows, has_rows, Phase, block_phases, phase_breaks}
+use Rattle.vx_semantics.specs.Scans.{matching_rows, block_rows, has_rows, Phase, reads_in, further_columns, block_phases, phase_breaks}
 use Rattle.vx_laws.proofs.Faultless.{no_break_no_fault}
 use Rattle.vx_laws_scan.specs.Agreeing.{IsTyped, all_rows_fit}
 use Rattle.vx_laws_scan.specs.Quiet.{QuietRowsHoldNoFault}
@@ -55,8 +55,8 @@ any-append test (x ∷ xs) ys = by-test (test x) (any-append test xs ys)
     by-test false r = r
 
 -- the second phase of a block with these matching rows
-abbrev second : Tree → List Val → List Phase
-second p rows = cond (has_rows rows) (record { expression = p; rows = rows } ∷ []) []
+abbrev second : Tree → List (ℕ × Bytes) → List Val → List Phase
+second p reads rows = cond (has_rows rows) (record { expression = p; reads = reads; rows = rows } ∷ []) []
 
 -- the answer of a block whose phases do not break
 block-faultless : (table : Table) (slots : Slots) (f p : Tree) (u : Ty) (b : ℕ × List Val) → IsTyped table.columns slots p u → list_all (λ row. val_fits row (row_type table.columns)) b.1 ≡ true
@@ -64,16 +64,17 @@ block-faultless : (table : Table) (slots : Slots) (f p : Tree) (u : Ty) (b : ℕ
     → list_any holds_fault (block_rows (row_type table.columns) slots f p b.1) ≡ false
 block-faultless table slots f p u b i h k =
     let t = row_type table.columns in
-    let first : Phase = record { expression = f; rows = b.1 } in
-    by-rows (matching_rows t slots f b.1) (all-kept (λ row. is_true_val (mean t slots row f)) (λ row. val_fits row t) b.1 h)
-    (or_parts (phase_breaks t slots first) (list_any (phase_breaks t slots) (second p (matching_rows t slots f b.1))) k).1
+    let first : Phase = record { expression = f; reads = reads_in b.0 (asked_columns t f); rows = b.1 } in
+    let reads = reads_in b.0 (further_columns t f p) in
+    by-rows reads (matching_rows t slots f b.1) (all-kept (λ row. is_true_val (mean t slots row f)) (λ row. val_fits row t) b.1 h)
+    (or_parts (phase_breaks t slots first) (list_any (phase_breaks t slots) (second p reads (matching_rows t slots f b.1))) k).1
   where
-    by-rows : (rows : List Val) → list_all (λ row. val_fits row (row_type table.columns)) rows ≡ true → list_any (phase_breaks (row_type table.columns) slots) (second p rows) ≡ false
+    by-rows : (reads : List (ℕ × Bytes)) (rows : List Val) → list_all (λ row. val_fits row (row_type table.columns)) rows ≡ true → list_any (phase_breaks (row_type table.columns) slots) (second p reads rows) ≡ false
         → list_any holds_fault (map (λ row. mean (row_type table.columns) slots row p) rows) ≡ false
-    by-rows [] g j = refl
-    by-rows (row ∷ rows) g j =
+    by-rows reads [] g j = refl
+    by-rows reads (row ∷ rows) g j =
         let t = row_type table.columns in
-        let phase : Phase = record { expression = p; rows = row ∷ rows } in
+        let phase : Phase = record { expression = p; reads = reads; rows = row ∷ rows } in
         let own = or_parts (phase_breaks t slots phase) false j in
         phase-faultless table slots p u (row ∷ rows) i g own.0
 

@@ -1,18 +1,13 @@
 -- What a scan answers where none of its phases breaks.
-use Rattle.std.specs.Prelude.{◌≡◌, Bool, true, false}
+use Rattle.std.specs.Prelude.{◌≡◌, true, false}
 use Rattle.std.specs.List.{list_any}
 use Rattle.vx_dtype.specs.Types.{Ty}
 use Rattle.vx_dtype.specs.Fits.{holds_fault}
 use Rattle.vx_expr.specs.Trees.{Tree}
 use Rattle.vx_semantics.specs.Meaning.{Slots}
 use Rattle.vx_semantics.specs.Tables.{Table, Zones, row_type}
-use Rattle.vx_semantics.specs.Scans.{kept_rows_of, phases_of, phase_breaks}
+use Rattle.vx_semantics.specs.Scans.{kept_rows_of, some_phase_breaks}
 use Rattle.vx_laws_scan.specs.Agreeing.{IsTyped, all_rows_fit}
-
--- whether some phase of a scan breaks
-abbrev pub some_phase_breaks : Table → Zones → Slots → Tree → Tree → Bool
-some_phase_breaks table zones slots filter_expr projection =
-    list_any (phase_breaks (row_type table.columns) slots) (phases_of table zones slots filter_expr projection)
 
 -- where no phase breaks, no row of the kept blocks' answer holds a fault
 abbrev pub QuietRowsHoldNoFault : Type 0

@@ -18,7 +18,8 @@ use Rattle.vx_expr.specs.Operators.{operator_of}
 use Rattle.vx_expr.specs.Trees.{root, literal, get_item, binary}
 use Rattle.vx_semantics.specs.Asked.{asked, asked_columns, column_in}
 use Rattle.vx_semantics.specs.Meaning.{mean}
-use Rattle.vx_semantics.specs.Scans.{matching_rows, block_rows, has_rows, block_reads}
+use Rattle.vx_semantics.specs.Scans.{matching_rows, block_rows, has_rows}
+use Rattle.vx_laws_scan.proofs.BlockReads.{block_reads}
 use Rattle.vx_semantics.specs.Tables.{Table, Zones, row_type}
 use Rattle.vx_zones.specs.Zoning.{broken_rule}
 use Rattle.vx_scan.specs.FirstForm.{i64_ty, is_column_bound, are_plain_zones}

@@ -10,7 +10,8 @@ use Rattle.vx_column.specs.Columns.{seen_rows, values_fit}
 use Rattle.vx_scan.specs.FirstForm.{i64_ty}
 use Rattle.vx_expr.specs.Trees.{Tree}
 use Rattle.vx_semantics.specs.Pruning.{rules_out}
-use Rattle.vx_semantics.specs.Scans.{block_rows, block_reads, kept_rows_of, reads_of}
+use Rattle.vx_semantics.specs.Scans.{block_rows, kept_rows_of, reads_of}
+use Rattle.vx_laws_scan.proofs.BlockReads.{block_reads, reads_by_block}
 use Rattle.vx_semantics.specs.Tables.{Table, Zones, row_type, numbered_from}
 use Rattle.vx_io.specs.Counts.{one_more}
 use Rattle.vx_scan.specs.Stores.{Read, AgreesWith}
@@ -225,7 +226,7 @@ keep_block f p i before middle after was now keeps skips more (Err errors.NoMemo
 -- before the first block nothing was done
 unread_yet : (held : Option Table) (zones : Zones) (f p : Tree) (log : List Read) → AreReadTo held zones f p 0 log log []
 unread_yet None zones f p log = tt
-unread_yet (Some table) zones f p log = (([], sym (append-nil log), refl), refl)
+unread_yet (Some table) zones f p log = (([], sym (append-nil log), reads_by_block table zones [] f p), refl)
 
 pub start_scan : (f p : Tree) (start : Seen) → IsScannedTo f p 0 start start [] [] []
 start_scan f p start = record { same = same_store start; unfailed = refl; reads = unread_yet start.held start.zones f p start.log; kept = refl; skipped = refl }

@@ -14,7 +14,8 @@ use Rattle.vx_dtype.specs.Types.{Bytes, Ty, Fields, no_fields, field}
 use Rattle.vx_dtype.specs.Values.{Val}
 use Rattle.vx_expr.specs.Trees.{Tree}
 use Rattle.vx_semantics.specs.Pruning.{rules_out}
-use Rattle.vx_semantics.specs.Scans.{block_reads, block_rows, reads_of}
+use Rattle.vx_semantics.specs.Scans.{block_rows, reads_of}
+use Rattle.vx_laws_scan.proofs.BlockReads.{block_reads}
 use Rattle.vx_semantics.specs.Tables.{Table, Zones, row_type, numbered_from}
 use Rattle.vx_semantics.specs.Typing.{typed_of, unless, and_then, item_type, duplicate_field, unknown_field}
 use Rattle.vx_zones.specs.Zoning.{broken_rule}

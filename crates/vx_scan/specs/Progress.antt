@@ -7,7 +7,8 @@ use Rattle.vx_dtype.specs.Values.{Val}
 use Rattle.vx_column.specs.Columns.{kept_rows}
 use Rattle.vx_expr.specs.Trees.{Tree}
 use Rattle.vx_semantics.specs.Pruning.{rules_out}
-use Rattle.vx_semantics.specs.Scans.{block_rows, block_reads, kept_blocks, skipped_blocks, kept_rows_of}
+use Rattle.vx_semantics.specs.Scans.{block_rows, kept_blocks, skipped_blocks, kept_rows_of}
+use Rattle.vx_laws_scan.proofs.BlockReads.{block_reads}
 use Rattle.vx_semantics.specs.Tables.{Table, Zones, row_type, numbered_from}
 use Rattle.vx_io.specs.Counts.{one_more}
 use Rattle.vx_scan.specs.Stores.{Read, AreHeld}

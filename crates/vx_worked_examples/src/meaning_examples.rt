@@ -170,20 +170,23 @@ pub fn breaks_phases_by_either_cause()
     ensures sum { phase_breaks (row_type two_small.columns) []
         (record {
           expression = col "x" ⟨ Add ⟩ col "y";
+          reads = [];
           rows = (struct_val (member (codes "x") (int_val I8 (pos 127)) (member (codes "y") (int_val I8 (pos 5)) no_members))) ∷ [];
         })
         ≡ true }
     ensures casting { phase_breaks (row_type two_small.columns) []
         (record {
           expression = cast (col "x") (bool_ty NonNullable);
+          reads = [];
           rows = (struct_val (member (codes "x") (int_val I8 (pos 127)) (member (codes "y") (int_val I8 (pos 5)) no_members))) ∷ [];
         })
         ≡ true }
     ensures sound { phase_breaks (row_type two_small.columns) []
         (record {
           expression = col "x" ⟨ Sub ⟩ col "y";
+          reads = [];
           rows = (struct_val (member (codes "x") (int_val I8 (pos 127)) (member (codes "y") (int_val I8 (pos 5)) no_members))) ∷ [];
         })
         ≡ false }
-    ensures no_row { phase_breaks (row_type two_small.columns) [] (record { expression = col "x" ⟨ Add ⟩ col "y"; rows = [] }) ≡ false }
+    ensures no_row { phase_breaks (row_type two_small.columns) [] (record { expression = col "x" ⟨ Add ⟩ col "y"; reads = []; rows = [] }) ≡ false }
 {}

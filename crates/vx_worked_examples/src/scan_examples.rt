@@ -64,14 +64,15 @@ pub fn sorts_blocks()
 /// A phase breaks by a sum or by a cast.
 pub fn phases_that_break()
     ensures sum { phase_breaks (row_type (number_table I8 "x" []).columns) []
-        (record { expression = col "x" ⟨ Add ⟩ number I8 (pos 1); rows = rows_of_numbers I8 "x" (pos 1 ∷ pos 127 ∷ []) })
+        (record { expression = col "x" ⟨ Add ⟩ number I8 (pos 1); reads = []; rows = rows_of_numbers I8 "x" (pos 1 ∷ pos 127 ∷ []) })
         ≡ true }
     ensures casting { phase_breaks (row_type (number_table I8 "x" []).columns) []
-        (record { expression = cast (col "x") (int_ty U8 NonNullable); rows = rows_of_numbers I8 "x" (pos 1 ∷ negsuc 0 ∷ []) })
+        (record { expression = cast (col "x") (int_ty U8 NonNullable); reads = []; rows = rows_of_numbers I8 "x" (pos 1 ∷ negsuc 0 ∷ []) })
         ≡ true }
     ensures none { phase_breaks (row_type (number_table I8 "x" []).columns) []
         (record {
           expression = cast (col "x" ⟨ Add ⟩ number I8 (pos 1)) (int_ty U8 NonNullable);
+          reads = [];
           rows = rows_of_numbers I8 "x" (pos 1 ∷ pos 126 ∷ []);
         })
         ≡ false }

@@ -2,7 +2,8 @@ use Rattle.std.proofs.Common.{◌∙◌, sym, ap, refl, [], ◌∷◌, ◌++◌,
 use Rattle.std.specs.Str.{bytes_eq}
 use Rattle.vx_dtype.specs.Structs.{field_of}
 use Rattle.vx_column.specs.Columns.{seen_rows}
-use Rattle.vx_semantics.specs.Scans.{matching_rows, block_reads}
+use Rattle.vx_semantics.specs.Scans.{matching_rows}
+use Rattle.vx_laws_scan.proofs.BlockReads.{block_reads}
 use Rattle.vx_semantics.specs.Tables.{row_type}
 use Rattle.vx_scan.specs.FirstForm.{i64_ty}
 use Rattle.vx_scan.specs.Planning.{filter_of, projection_of}
