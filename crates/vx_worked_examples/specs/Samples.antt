@@ -126,6 +126,10 @@ broken_cast = (false, true)
 abbrev pub two_blocks : Table
 two_blocks = number_table I32 "x" ((pos 1 ∷ pos 12 ∷ []) ∷ (pos 20 ∷ []) ∷ [])
 
+-- a table of small numbers, the greatest among them, in two blocks
+abbrev pub up_to_127 : Table
+up_to_127 = number_table I8 "x" ((pos 1 ∷ pos 127 ∷ []) ∷ (pos 5 ∷ []) ∷ [])
+
 -- the filter of the first example: the column is above ten
 abbrev pub above_ten : Tree
 above_ten = col "x" ⟨ Operator.Gt ⟩ number I32 (pos 10)

@@ -11,11 +11,12 @@ ghost use Rattle.vx_expr.specs.declared.Operator.TheVariants.{Eq, Gt, Gte, Lt, L
 ghost use Rattle.vx_expr.specs.declared.FieldSelection.TheVariants.{Include, Exclude};
 ghost use Rattle.vx_expr.specs.Trees.{get_item, not_of, is_null_of, cast, list_contains, merge, select, no_trees, tree};
 ghost use Rattle.vx_semantics.specs.Typing.{typed_of, not_struct, nullable_select, unknown_field, duplicate_field};
+ghost use Rattle.vx_semantics.specs.Breaks.{by_sum, by_cast};
 ghost use Rattle.vx_semantics.specs.Tables.{row_type};
-ghost use Rattle.vx_semantics.specs.Scans.{kept_blocks, skipped_blocks, phase_breaks, rows_of};
+ghost use Rattle.vx_semantics.specs.Scans.{kept_blocks, skipped_blocks, phase_breaks, phases_of, first_breaks_by, reads_to_break, rows_of};
 ghost use Rattle.vx_semantics.specs.Honest.{IsHonest};
 ghost use Rattle.vx_worked_examples.specs.Samples.{col, only, number, boolean, null_of, ◌⟨◌⟩◌, numbers, rows_of_numbers, number_table, zones_of, bounds};
-ghost use Rattle.vx_worked_examples.specs.Samples.{statistic, answer_of, breaks_in_order, sound, broken_sum, broken_cast, types_of, two_blocks, above_ten};
+ghost use Rattle.vx_worked_examples.specs.Samples.{statistic, answer_of, breaks_in_order, sound, broken_sum, broken_cast, types_of, two_blocks, up_to_127, above_ten};
 ghost use Rattle.vx_worked_examples.specs.Samples.{two_structs, joined_twice, two_small, pack_one, pack_two, number_list, reads_in};
 ghost use Rattle.vx_worked_examples.specs.Catalog.{catalog, brief_columns, catalog_statistics, dear_in_oslo, brief, brief_of, filter_reads, all_reads};
 
@@ -59,6 +60,19 @@ pub fn sorts_blocks()
         (statistic ("x" ∷ []) Max (bounds I32 (pos 10 ∷ pos 11 ∷ [])) ∷ []))
         [] above_ten
         ≡ 0 ∷ [] }
+{}
+
+/// A scan reads up to the end of the first phase that breaks, and all where none does.
+pub fn reads_up_to_a_break()
+    ensures sum { first_breaks_by by_sum (row_type up_to_127.columns) []
+        (phases_of up_to_127 (zones_of up_to_127 []) [] ((col "x" ⟨ Add ⟩ number I8 (pos 1)) ⟨ Gt ⟩ number I8 (pos 0)) (col "x"))
+        ≡ true }
+    ensures casting { first_breaks_by by_cast (row_type up_to_127.columns) []
+        (phases_of up_to_127 (zones_of up_to_127 []) [] ((col "x" ⟨ Add ⟩ number I8 (pos 1)) ⟨ Gt ⟩ number I8 (pos 0)) (col "x"))
+        ≡ false }
+    ensures first { reads_to_break up_to_127 (zones_of up_to_127 []) [] ((col "x" ⟨ Add ⟩ number I8 (pos 1)) ⟨ Gt ⟩ number I8 (pos 0)) (col "x")
+        ≡ reads_in "x" (0 ∷ []) }
+    ensures all { reads_to_break up_to_127 (zones_of up_to_127 []) [] (col "x" ⟨ Gt ⟩ number I8 (pos 0)) (col "x") ≡ reads_in "x" (0 ∷ 1 ∷ []) }
 {}
 
 /// A phase breaks by a sum or by a cast.
