@@ -32,11 +32,12 @@ cond-none : (b : Bool) (e : ZoneError) (o : Option ZoneError) → cond (not b) (
 cond-none true e o h = (refl, h)
 cond-none false e o h = let no : ⊥ = cc in absurd no
 
--- no struct of the table has a name twice, each statistic is of a plain field and has one value per block, and each of its values has its type
+-- no struct of the table has a name twice, each statistic is of a plain field, stands once and has one value per block, and each of its values has its type
 pub record FollowsRules (zones : Zones) : Type 0 where
   pub distinct : no_name_twice (row_type zones.columns) ≡ true
   pub counts : list_all (counts_blocks zones.lengths) zones.stats ≡ true
   pub leads : list_all (λ s. is_some (type_of_statistic zones.columns s)) zones.stats ≡ true
+  pub apart : distinct_statistics zones.stats ≡ true
   pub have : list_all (has_its_type zones.columns) zones.stats ≡ true
 
 pub follows_rules : (zones : Zones) → broken_rule zones ≡ None → FollowsRules zones
@@ -48,7 +49,7 @@ follows_rules zones h =
     let d = cond-none (distinct_statistics zones.stats) errors.DuplicateStat _ c.1 in
     let e = cond-none (list_all (counts_blocks zones.lengths) zones.stats) errors.WrongStatCount _ d.1 in
     let f = cond-none (list_all (has_its_type zones.columns) zones.stats) errors.WrongStatType _ e.1 in
-    record { distinct = a.0; counts = e.0; leads = c.0; have = f.0 }
+    record { distinct = a.0; counts = e.0; leads = c.0; apart = d.0; have = f.0 }
 
 -- what holds of all holds at a place
 list-at : {X : Type 0} (holds : X → Bool) (xs : List X) (i : ℕ) (x : X) → slice_get xs i ≡ Some x → list_all holds xs ≡ true → holds x ≡ true

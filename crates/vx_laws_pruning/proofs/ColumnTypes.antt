@@ -113,7 +113,8 @@ plain-statistic stat (Some t) w h = by-plain (is_plain t) refl h
     by-plain true p e = by-stat stat p e
     by-plain false p e = let no : ⊥ = cc in absurd no
 
-first-plain : (columns : Fields) (z : ZoneStat) → has_its_type columns z ≡ true → no_name_twice (first_type z.values (int_ty U64 Nullable)) ≡ true
+-- the type of the column of a statistic has no struct with a name twice
+pub first-plain : (columns : Fields) (z : ZoneStat) → has_its_type columns z ≡ true → no_name_twice (first_type z.values (int_ty U64 Nullable)) ≡ true
 first-plain columns z h = by-values z.values (type_of_statistic columns z) refl h
   where
     by-values : (values : List Typed) (o : Option Ty) → type_of_statistic columns z ≡ o → values_have values o ≡ true → no_name_twice (first_type values (int_ty U64 Nullable)) ≡ true

@@ -48,7 +48,7 @@ names_eq-behind (f ∷ g ∷ fs) [] a b = and-false (bytes_eq f b)
 names_eq-behind (f ∷ fs) (g ∷ gs) a b = ap (λ (x : Bool). bytes_eq f g && x) (names_eq-behind fs gs a b) ∙ sym (and_assoc (bytes_eq f g) (names_eq fs gs) (bytes_eq a b))
 
 -- two statistics have one path where they are of one path and kind
-statistic_path-same : (path : List Bytes) (stat : Stat) (z : ZoneStat) → names_eq (statistic_path path stat) (statistic_path z.path z.stat) ≡ is_statistic path stat z
+pub statistic_path-same : (path : List Bytes) (stat : Stat) (z : ZoneStat) → names_eq (statistic_path path stat) (statistic_path z.path z.stat) ≡ is_statistic path stat z
 statistic_path-same path stat z =
     names_eq-behind path z.path (stat_name stat) (stat_name z.stat) ∙ ap (λ (x : Bool). names_eq path z.path && x) (stat_name-same stat z.stat)
 

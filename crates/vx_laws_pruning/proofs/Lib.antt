@@ -8,3 +8,5 @@ pub mod Bounded
 pub mod Calmness
 pub mod ColumnTypes
 pub mod TreeTypes
+pub mod SlotsKept
+pub mod AvailableStatistics

@@ -24,9 +24,9 @@ use Rattle.vx_semantics.specs.Tables.{Zones, ZoneStat, row_type}
 use Rattle.vx_semantics.specs.Paths.{path_of}
 use Rattle.vx_semantics.specs.Pruning.{available}
 use Rattle.vx_zones.specs.Zoning.{leaf_type, statistic_type}
-use Rattle.vx_passes.specs.Catalogs.{statistic_column}
+use Rattle.vx_passes.specs.Catalogs.{statistic_column, available_paths}
 use Rattle.vx_passes.specs.Falsifying.{Question, Found, found_by, found_in, unasked, asked_for, count_of, is_zero_count, bound_of, compared_by, compared_where, one_value, bounds_falsified, are_numbers, behind_guard, comparison_falsified, outside, all_outside_after, and_of, or_of, joined_known, elements_falsified, list_falsified, contains_falsified, dynamic_falsified, falsified, negation_falsified}
-use Rattle.vx_passes.specs.PruningTables.{pruning_where, pruning_fields}
+use Rattle.vx_passes.specs.PruningTables.{pruning_where, pruning_over, pruning_fields}
 use Rattle.vx_laws.proofs.Comparing.{same_ptype-same}
 use Rattle.vx_laws.proofs.Fitting.{same_ptype-itself}
 use Rattle.vx_laws.proofs.Inverting.{and_then-ok, unless-ok}
@@ -515,3 +515,11 @@ pruning_tree_never_breaks zones slots e p =
         → MatchOption (pruning_where (catalog_of zones) o asked) (Unit {0}) (λ x. (row : Val) (places : List ℕ) (node : Tree) → node_at places x.tree ≡ Some node → break_of (scope_of zones) slots row node ≡ None)
     by-tree None asked i = tt
     by-tree (Some x) asked i = λ row places node h. no_node_breaks (scope_of zones) slots row places x node i.calm h
+
+-- the pruning expression has no sum, difference or cast
+pub pruning_tree_is_calm : (zones : Zones) (e : Tree) (u : Ty) → AreAccepted zones → typed_of (row_type zones.columns) e ≡ Ok u → MatchOption (pruning_over (available_paths zones) e) (Unit {0}) (λ p. is_calm p.tree ≡ true)
+pruning_tree_is_calm zones e u a h = by-tree (falsified (catalog_of zones) e).tree (falsified (catalog_of zones) e).asked (falsified-tested zones e u a h)
+  where
+    by-tree : (o : Option Tree) (asked : List Question) → Tested zones o → MatchOption (pruning_where (catalog_of zones) o asked) (Unit {0}) (λ x. is_calm x.tree ≡ true)
+    by-tree None asked i = tt
+    by-tree (Some x) asked i = i.calm

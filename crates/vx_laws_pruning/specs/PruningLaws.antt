@@ -1,8 +1,6 @@
 -- What pruning expressions over the statistics of accepted zones say.
 use Rattle.std.specs.Prelude.{ℕ, ◌≡◌, Bool, true, false, None, Ok, MatchOption}
-use Rattle.std.specs.List.{list_all}
 use Rattle.vx_dtype.specs.Types.{Ty}
-use Rattle.vx_dtype.specs.Fits.{fits}
 use Rattle.vx_dtype.specs.Logic.{is_true_val}
 use Rattle.vx_expr.specs.Trees.{Tree}
 use Rattle.vx_semantics.specs.Typing.{typed_of}
@@ -12,11 +10,7 @@ use Rattle.vx_semantics.specs.Tables.{Zones, row_type}
 use Rattle.vx_semantics.specs.Pruning.{rules_out}
 use Rattle.vx_passes.specs.Catalogs.{available_paths}
 use Rattle.vx_passes.specs.PruningTables.{pruning_over, pruning_fields, pruning_row}
-use Rattle.vx_zones.specs.Zoning.{broken_rule}
-
--- whether each value of each statistic is one of its type
-abbrev pub values_fit : Zones → Bool
-values_fit zones = list_all (λ z. list_all (λ s. fits s.value s.ty) z.values) zones.stats
+use Rattle.vx_zones.specs.Zoning.{broken_rule, values_fit}
 
 -- zones that break no rule and whose values fit
 pub record AreAccepted (zones : Zones) : Type 0 where

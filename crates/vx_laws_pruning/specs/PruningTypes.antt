@@ -1,5 +1,5 @@
 -- What pruning expressions over the statistics of accepted zones are: strictly typed booleans that never break.
-use Rattle.std.specs.Prelude.{ℕ, ◌≡◌, ◌<◌, List, [], ◌∷◌, length, slice_get, Option, Some, None, Ok, MatchOption}
+use Rattle.std.specs.Prelude.{ℕ, ◌≡◌, true, ◌<◌, List, [], ◌∷◌, length, slice_get, Option, Some, None, Ok, MatchOption}
 use Rattle.std.specs.Option.{option_and_then}
 use Rattle.vx_dtype.specs.declared.Nullability.{Nullability}
 use Rattle.vx_dtype.specs.Types.{Ty, bool_ty}
@@ -7,6 +7,7 @@ use Rattle.vx_dtype.specs.Values.{Val}
 use Rattle.vx_expr.specs.Trees.{Tree, children_of}
 use Rattle.vx_semantics.specs.Typing.{typed_of}
 use Rattle.vx_semantics.specs.Meaning.{Slots}
+use Rattle.vx_semantics.specs.Slots.{slots_fit}
 use Rattle.vx_semantics.specs.Breaks.{break_of}
 use Rattle.vx_semantics.specs.Tables.{Zones, row_type}
 use Rattle.vx_passes.specs.Catalogs.{available_paths}
@@ -37,3 +38,9 @@ PruningTreeNeverBreaks =
     (λ p.
     (row : Val) (places : List ℕ) (node : Tree) → node_at places p.tree ≡ Some node
     → break_of (row_type (pruning_fields zones)) slots row node ≡ None)
+
+-- the slots that fit a filter fit its pruning expression
+abbrev pub PruningSlotsFit : Type 0
+PruningSlotsFit =
+    (zones : Zones) (slots : Slots) (filter_expr : Tree) → slots_fit slots filter_expr ≡ true
+    → MatchOption (pruning_over (available_paths zones) filter_expr) (Unit {0}) (λ p. slots_fit slots p.tree ≡ true)

@@ -5,4 +5,6 @@ mod bounds;
 mod trees;
 
 pub use bounds::{accepted_pruning_is_exact, known_bounds_are_bounds};
-pub use trees::{pruning_tree_is_typed, pruning_tree_never_breaks, pruning_tree_rules_out};
+pub use trees::{
+    pruning_slots_fit, pruning_tree_is_typed, pruning_tree_never_breaks, pruning_tree_rules_out,
+};

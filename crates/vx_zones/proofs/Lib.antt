@@ -1,3 +1,4 @@
 pub mod DepthLemmas
 pub mod DistinctLemmas
 pub mod LeafLemmas
+pub mod ValueLemmas

@@ -1,11 +1,11 @@
 -- How statistics are seen, and which paths stand for them.
-use Rattle.std.specs.Prelude.{◌≡◌, ℕ, ◌^◌, ◌<◌, List, [], ◌∷◌, ◌++◌, length, fold, None}
+use Rattle.std.specs.Prelude.{◌≡◌, true, ℕ, ◌^◌, ◌<◌, List, [], ◌∷◌, ◌++◌, length, fold, None}
 use Rattle.vx_dtype.specs.Types.{Bytes, Ty}
 use Rattle.vx_dtype.specs.TypeRules.{fields_of}
 use Rattle.vx_dtype.specs.StatNames.{stat_name}
 use Rattle.vx_dtype.specs.Paths.{with_path}
 use Rattle.vx_semantics.specs.Tables as tables
-use Rattle.vx_zones.specs.Zoning.{broken_rule}
+use Rattle.vx_zones.specs.Zoning.{broken_rule, values_fit}
 use Rattle.vx_zones.specs.declared.zones.ZoneStat.{ZoneStat}
 
 -- the statistic of a table that this one stands for
@@ -16,9 +16,11 @@ stat_view z = record { path = z.path; stat = z.stat; values = z.values }
 abbrev pub zones_with : Ty → List ℕ → List tables.ZoneStat → tables.Zones
 zones_with t lengths stats = record { columns = fields_of t; lengths = lengths; stats = stats }
 
--- the rows are structs that are never null, there are fewer than 2^32 blocks, and no rule of zones is broken
+-- the rows are structs that are never null, there are fewer than 2^32 blocks, no rule of zones is broken, and each value is one of its type
 abbrev pub AreZones : Ty → List ℕ → List tables.ZoneStat → Type 0
-AreZones t lengths stats = (t ≡ tables.row_type (fields_of t)) × (length lengths < 2 ^ 32) × (broken_rule (zones_with t lengths stats) ≡ None)
+AreZones t lengths stats =
+    (t ≡ tables.row_type (fields_of t)) × (length lengths < 2 ^ 32) × (broken_rule (zones_with t lengths stats) ≡ None)
+    × (values_fit (zones_with t lengths stats) ≡ true)
 
 -- the path that stands for a statistic: its own with the statistic's name at the end
 abbrev pub statistic_path : tables.ZoneStat → List Bytes

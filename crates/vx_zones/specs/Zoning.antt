@@ -9,6 +9,7 @@ use Rattle.vx_dtype.specs.declared.Stat.TheVariants.{Min, Max, NaNCount, NullCou
 use Rattle.vx_dtype.specs.Types.{Bytes, Ty, int_ty, struct_ty, Fields, no_fields, field}
 use Rattle.vx_dtype.specs.TypeRules.{with_nullability, is_plain, field_type, no_name_twice, depth_of, most_deep}
 use Rattle.vx_dtype.specs.Values.{Typed}
+use Rattle.vx_dtype.specs.Fits.{fits}
 use Rattle.vx_dtype.specs.Equal.{ty_eq, names_eq}
 use Rattle.vx_semantics.specs.Tables.{ZoneStat, Zones, row_type, same_stat}
 use Rattle.vx_zones.specs.declared.errors.ZoneError.{ZoneError}
@@ -65,6 +66,14 @@ values_have values (Some t) = list_all (λ s. ty_eq s.ty (with_nullability t Nul
 -- whether the type of each value of a statistic is the statistic's, made nullable
 abbrev pub has_its_type : Fields → ZoneStat → Bool
 has_its_type columns z = values_have z.values (type_of_statistic columns z)
+
+-- whether each value is one of its type
+abbrev pub scalars_fit : List Typed → Bool
+scalars_fit values = list_all (λ s. fits s.value s.ty) values
+
+-- whether each value of each statistic is one of its type
+abbrev pub values_fit : Zones → Bool
+values_fit zones = list_all (λ z. scalars_fit z.values) zones.stats
 
 -- the first rule that columns, lengths and statistics break: names that stand twice, a type that is too deep,
 -- a path to no plain field, one statistic twice, another number of values than of blocks, a value of another type

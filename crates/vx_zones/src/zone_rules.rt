@@ -1,9 +1,10 @@
 // The rules that make columns, lengths and statistics zones.
-ghost use Rattle.std.specs.Prelude.{◌≡◌, true, false, length, map, is_some, option_map, IfOk};
+ghost use Rattle.std.specs.Prelude.{◌≡◌, true, false, None, length, map, is_some, option_map, IfOk};
 ghost use Rattle.std.specs.List.{list_all};
 ghost use Rattle.vx_dtype.specs.Equal.{ty_eq};
 ghost use Rattle.vx_dtype.specs.TypeViews.{type_view};
-ghost use Rattle.vx_zones.specs.Zoning.{broken_rule, are_shallow, distinct_statistics, counts_blocks, values_have};
+ghost use Rattle.vx_dtype.specs.Fits.{fits};
+ghost use Rattle.vx_zones.specs.Zoning.{broken_rule, are_shallow, distinct_statistics, counts_blocks, values_have, scalars_fit};
 ghost use Rattle.vx_zones.specs.Leaves.{leaf_in, type_by, broken_statistic, nullable};
 ghost use Rattle.vx_zones.specs.ZoneViews.{stat_view};
 
@@ -22,7 +23,8 @@ pub(crate) fn broken_rule(
     lengths: &[u32],
     stats: &[ZoneStat],
 ) -> Mem<Option<ZoneError>>
-    ensures { IfOk result (λ rule. rule ≡ broken_rule (record { columns = columns.now; lengths = lengths.now; stats = map stat_view stats.now })) }
+    ensures rule { IfOk result (λ rule. rule ≡ broken_rule (record { columns = columns.now; lengths = lengths.now; stats = map stat_view stats.now })) }
+    ensures fit { IfOk result (λ rule. rule ≡ None → list_all (λ z. scalars_fit z.values) (map stat_view stats.now) ≡ true) }
 {
     if !columns.has_distinct_names(alloc)? {
         return Ok(Some(ZoneError::DuplicateName));
@@ -41,7 +43,8 @@ fn broken_statistic(
     lengths: &[u32],
     stats: &[ZoneStat],
 ) -> Mem<Option<ZoneError>>
-    ensures { IfOk result (λ rule. rule ≡ broken_statistic (leaf_in leaves.now) lengths.now (map stat_view stats.now)) }
+    ensures rule { IfOk result (λ rule. rule ≡ broken_statistic (leaf_in leaves.now) lengths.now (map stat_view stats.now)) }
+    ensures fit { IfOk result (λ rule. rule ≡ None → list_all (λ z. scalars_fit z.values) (map stat_view stats.now) ≡ true) }
 {
     if !lead_to_fields(leaves, stats) {
         return Ok(Some(ZoneError::BadStatPath));
@@ -124,9 +127,10 @@ fn count_blocks(lengths: &[u32], stats: &[ZoneStat]) -> bool
     true
 }
 
-/// Whether each value of each statistic has the statistic's type, made nullable.
+/// Whether each value of each statistic has the statistic's type, made nullable. A value that was looked at is one of its type.
 fn have_their_types(leaves: &HashMap<FieldPath, DType>, stats: &[ZoneStat]) -> Mem<bool>
-    ensures { IfOk result (λ b. b ≡ list_all (λ z. values_have z.values (type_by (leaf_in leaves.now) z)) (map stat_view stats.now)) }
+    ensures have { IfOk result (λ b. b ≡ list_all (λ z. values_have z.values (type_by (leaf_in leaves.now) z)) (map stat_view stats.now)) }
+    ensures fit { IfOk result (λ b. b ≡ true → list_all (λ z. scalars_fit z.values) (map stat_view stats.now) ≡ true) }
 {
     for stat in stats {
         if !has_its_type(leaves, stat)? {
@@ -138,7 +142,8 @@ fn have_their_types(leaves: &HashMap<FieldPath, DType>, stats: &[ZoneStat]) -> M
 
 /// Whether each value of a statistic has the statistic's type, made nullable.
 fn has_its_type(leaves: &HashMap<FieldPath, DType>, stat: &ZoneStat) -> Mem<bool>
-    ensures { IfOk result (λ b. b ≡ values_have (stat_view stat.now).values (type_by (leaf_in leaves.now) (stat_view stat.now))) }
+    ensures have { IfOk result (λ b. b ≡ values_have (stat_view stat.now).values (type_by (leaf_in leaves.now) (stat_view stat.now))) }
+    ensures fit { IfOk result (λ b. b ≡ true → scalars_fit (stat_view stat.now).values ≡ true) }
 {
     match type_of_values(leaves, stat)? {
         Some(dtype) => Ok(all_have(stat.values.as_slice(), &dtype)),
@@ -163,12 +168,23 @@ fn type_of_values(leaves: &HashMap<FieldPath, DType>, stat: &ZoneStat) -> Mem<Op
 
 /// Whether each value is of this type.
 fn all_have(values: &[Scalar], dtype: &DType) -> bool
-    ensures { result ≡ list_all (λ s. ty_eq s.ty (type_view dtype.now)) values.now }
+    ensures have { result ≡ list_all (λ s. ty_eq s.ty (type_view dtype.now)) values.now }
+    ensures fit { result ≡ true → scalars_fit values.now ≡ true }
 {
     for value in values {
-        if value.dtype() != dtype {
+        if !is_of_type(value, dtype) {
             return false;
         }
     }
     true
+}
+
+/// Whether a scalar's type is this one. Its value is one of its own type.
+fn is_of_type(scalar: &Scalar, dtype: &DType) -> bool
+    ensures same { result ≡ ty_eq scalar.now.ty (type_view dtype.now) }
+    ensures fit { fits scalar.now.value scalar.now.ty ≡ true }
+{
+    // What a scalar holds is one of its type: the scalar's own promise, which comes with its value.
+    let _value = scalar.value();
+    scalar.dtype() == dtype
 }

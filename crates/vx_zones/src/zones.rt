@@ -1,8 +1,8 @@
 // The statistics of a table's blocks.
-ghost use Rattle.std.specs.Prelude.{◌≡◌, ◌^◌, ◌<◌, None, length, map, IfOk};
+ghost use Rattle.std.specs.Prelude.{◌≡◌, true, ◌^◌, ◌<◌, None, length, map, IfOk};
 ghost use Rattle.vx_dtype.specs.TypeViews.{type_view};
 ghost use Rattle.vx_semantics.specs.Tables.{row_type};
-ghost use Rattle.vx_zones.specs.Zoning.{broken_rule};
+ghost use Rattle.vx_zones.specs.Zoning.{broken_rule, values_fit};
 ghost use Rattle.vx_zones.specs.ZoneViews.{stat_view, statistic_path, statistic_paths};
 ghost use Rattle.vx_zones.specs.ZoneAnswers.{Answers};
 
@@ -119,6 +119,7 @@ impl ZoneMap {
     pub fn dtype(&self) -> &DType
         ensures dtype { type_view result.now ≡ row_type self.now.columns }
         ensures rules { broken_rule self.now ≡ None }
+        ensures fit { values_fit self.now ≡ true }
     {
         &self.dtype
     }
@@ -128,6 +129,7 @@ impl ZoneMap {
         ensures lengths { result.now ≡ self.now.lengths }
         ensures few { length self.now.lengths < 2 ^ 32 }
         ensures rules { broken_rule self.now ≡ None }
+        ensures fit { values_fit self.now ≡ true }
     {
         self.lengths.as_slice()
     }
@@ -136,6 +138,7 @@ impl ZoneMap {
     pub fn stats(&self) -> &[ZoneStat]
         ensures stats { map stat_view result.now ≡ self.now.stats }
         ensures rules { broken_rule self.now ≡ None }
+        ensures fit { values_fit self.now ≡ true }
     {
         self.stats.as_slice()
     }

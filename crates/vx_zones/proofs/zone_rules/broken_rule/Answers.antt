@@ -7,12 +7,12 @@ use Rattle.vx_zones.specs.ZoneViews.{stat_view}
 use Rattle.vx_zones.proofs.LeafLemmas.{rule_of_statistics}
 use Rattle.vx_zones.proofs.zone_rules.broken_rule.Goals as goal
 
-pub returns : goal.returns
+pub returns-clause-rule : goal.returns-clause-rule
 unfolding no_name_twice
-returns c =
+returns-clause-rule c =
     let stats = map stat_view c.args.stats.now in
     let distinct : no_name_twice (row_type c.args.columns.now) ≡ true = search rules in
     let shallow : are_shallow c.args.columns.now ≡ true = search rules in
     let by_map = ap (λ types. broken_statistic types c.args.lengths.now stats) (λ i q. c.in_ok-leaves.ensures q i) in
     let rule = by_map ∙ rule_of_statistics (record { columns = c.args.columns.now; lengths = c.args.lengths.now; stats = stats }) distinct shallow in
-    subst (λ b. IfOk c.broken_statistic.result (λ rule. rule ≡ b)) rule c.broken_statistic.ensures
+    subst (λ b. IfOk c.broken_statistic.result (λ rule. rule ≡ b)) rule c.broken_statistic.ensures.rule

@@ -1,0 +1,5 @@
+pub mod TruthLemmas
+pub mod StandingLemmas
+pub mod ColumnLemmas
+pub mod TableLemmas
+pub mod RulingLemmas

@@ -1,0 +1,11 @@
+use Rattle.std.proofs.Common.{◌≡◌, map, take}
+use Rattle.std.specs.List.{filter}
+use Rattle.std.specs.HashMap.{get}
+use Rattle.std.specs.Str.{bytes_eq}
+use Rattle.vx_zones.specs.ZoneViews.{stat_view}
+use Rattle.vx_block_pruning.specs.Standing.{name_of, is_alone_by}
+use Rattle.vx_block_pruning.proofs.tables.available_names.Given as goal
+
+-- those of the statistics so far that stand alone
+abbrev pub invariant-loop-stat : goal.invariant-loop-stat
+invariant-loop-stat l = l.names.items ≡ map name_of (filter (is_alone_by (get bytes_eq l.fn.standing)) (map stat_view (take l.stat-index l.fn.stats)))

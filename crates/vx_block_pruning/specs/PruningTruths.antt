@@ -1,0 +1,44 @@
+-- For the checker: no public clause cites this.
+-- The table of the available statistics, a row for each block, and the truths of an expression over it.
+use Rattle.std.specs.Prelude.{◌≡◌, ◌<◌, Bool, true, false, List, map, length, Ok}
+use Rattle.std.specs.List.{range_with_len}
+use Rattle.vx_dtype.specs.Types.{Ty}
+use Rattle.vx_dtype.specs.Values.{Raw, raw_bool, Val}
+use Rattle.vx_dtype.specs.Logic.{is_true_val}
+use Rattle.vx_expr.specs.Trees.{Tree}
+use Rattle.vx_semantics.specs.Meaning.{Slots, mean}
+use Rattle.vx_semantics.specs.Slots.{slots_fit}
+use Rattle.vx_semantics.specs.Breaks.{Cause, by_sum, by_cast}
+use Rattle.vx_semantics.specs.Nodes.{some_node_breaks}
+use Rattle.vx_semantics.specs.Tables.{Zones, row_type}
+use Rattle.vx_passes.specs.PruningTables.{pruning_fields, pruning_row}
+use Rattle.vx_column.specs.Columns.{Column, column}
+use Rattle.vx_eval.specs.Evaluating.{checked_type}
+use Rattle.vx_laws_pruning.specs.PruningTypes.{IsBooleanOver}
+
+-- the table of the available statistics, a row for each block
+abbrev pub pruning_table : Zones → Column
+pruning_table zones = column (row_type (pruning_fields zones)) (map (pruning_row zones) (range_with_len 0 (length zones.lengths)))
+
+-- of each block, whether an expression over the statistics is true there
+abbrev pub pruning_truths : Zones → Slots → Tree → List Bool
+pruning_truths zones slots e =
+    map (λ block. is_true_val (mean (row_type (pruning_fields zones)) slots (pruning_row zones block) e)) (range_with_len 0 (length zones.lengths))
+
+-- an expression over the statistics that has a type where there are blocks, whose slots fit, and of which no node breaks
+pub record IsEvaluable (zones : Zones) (slots : Slots) (e : Tree) : Type 0 where
+  pub typed : 0 < length zones.lengths → IsBooleanOver (row_type (pruning_fields zones)) e
+  pub fitting : slots_fit slots e ≡ true
+  pub unbroken : (c : Cause) (rows : List Val) → some_node_breaks c (row_type (pruning_fields zones)) slots rows e ≡ false
+
+-- an expression that has a column over rows: it has a type, its slots fit, and no node breaks
+pub record GivesColumn (t : Ty) (slots : Slots) (rows : List Val) (e : Tree) : Type 0 where
+  pub ty : Ty
+  pub typed : checked_type t slots e ≡ Ok ty
+  pub summed : some_node_breaks by_sum t slots rows e ≡ false
+  pub cast : some_node_breaks by_cast t slots rows e ≡ false
+
+-- whether a raw value is the boolean true
+abbrev pub is_raw_true : Raw → Bool
+is_raw_true (raw_bool b) = b
+is_raw_true _ = false

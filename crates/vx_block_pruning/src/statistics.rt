@@ -1,0 +1,47 @@
+// The columns of statistics.
+ghost use Rattle.std.specs.Prelude.{◌≡◌, map, IfOk};
+ghost use Rattle.vx_dtype.specs.Types.{int_ty};
+ghost use Rattle.vx_dtype.specs.declared.PType.TheVariants.{U64 as U64Type};
+ghost use Rattle.vx_dtype.specs.declared.Nullability.TheVariants.{Nullable as NullableType};
+ghost use Rattle.vx_dtype.specs.RawViews.{raw_view};
+ghost use Rattle.vx_dtype.specs.TypeViews.{type_view};
+ghost use Rattle.vx_passes.specs.PruningTables.{first_type};
+ghost use Rattle.vx_zones.specs.ZoneViews.{stat_view};
+ghost use Rattle.vx_block_pruning.specs.StatisticColumns.{column_of, IsUniform};
+
+use crate::making::made;
+use std::alloc::Global;
+use vx_column::ColumnRef;
+use vx_dtype::{DType, Mem, Nullability, PType, Scalar, ScalarValue};
+use vx_zones::ZoneStat;
+
+/// The column of a statistic's values, of the type of the first one.
+pub(crate) fn column_of(alloc: Global, stat: &ZoneStat) -> Mem<ColumnRef>
+    requires { IsUniform (stat_view stat.now) }
+    ensures { IfOk result (λ c. c ≡ column_of (stat_view stat.now)) }
+{
+    let scalars = stat.values.as_slice();
+    let values = values_of(alloc, scalars)?;
+    made(ColumnRef::from_values(alloc, type_of(scalars)?, values.as_slice()))
+}
+
+/// The type of the first of these scalars, that of a count where there is none.
+fn type_of(scalars: &[Scalar]) -> Mem<DType>
+    ensures { IfOk result (λ t. type_view t ≡ first_type scalars.now (int_ty U64Type NullableType)) }
+{
+    match scalars.first() {
+        Some(scalar) => Ok(scalar.dtype().clone()?),
+        None => Ok(DType::Primitive(PType::U64, Nullability::Nullable)),
+    }
+}
+
+/// What these scalars hold.
+fn values_of(alloc: Global, scalars: &[Scalar]) -> Mem<Vec<ScalarValue>>
+    ensures { IfOk result (λ values. map raw_view values.items ≡ map (λ s. s.value) scalars.now) }
+{
+    let mut values = Vec::with_capacity(alloc, scalars.len())?;
+    for scalar in scalars {
+        values.push(scalar.value().clone()?)?;
+    }
+    Ok(values)
+}
