@@ -76,6 +76,36 @@ pub enum EvalError {
     BadCast,
 }
 
+impl From<AllocError> for EvalError {
+    ghost use Rattle.vx_eval.specs.declared.errors.EvalError.TheVariants.{NoMemory as OutOfMemory};
+
+    ghost from_gives = { λ _ e. e ≡ OutOfMemory };
+
+    fn from(_error: AllocError) -> EvalError {
+        EvalError::NoMemory
+    }
+}
+
+impl<T: Drop> From<AllocFailed<T>> for EvalError {
+    ghost use Rattle.vx_eval.specs.declared.errors.EvalError.TheVariants.{NoMemory as OutOfMemory};
+
+    ghost from_gives = { λ _ e. e ≡ OutOfMemory };
+
+    fn from(_error: AllocFailed<T>) -> EvalError {
+        EvalError::NoMemory
+    }
+}
+
+impl From<NoMemory> for EvalError {
+    ghost use Rattle.vx_eval.specs.declared.errors.EvalError.TheVariants.{NoMemory as OutOfMemory};
+
+    ghost from_gives = { λ _ e. e ≡ OutOfMemory };
+
+    fn from(_error: NoMemory) -> EvalError {
+        EvalError::NoMemory
+    }
+}
+
 /// Why one node gives no column over those of its operands.
 #[derive(Debug, Drop)]
 pub(crate) enum Failure {

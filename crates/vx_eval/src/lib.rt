@@ -24,4 +24,5 @@ mod versions;
 pub use errors::{EvalError, TypeError};
 pub use eval::ExprEval;
 pub use scopes::Scope;
+pub use slots::slots_fit;
 pub use versions::{DynamicExprUpdates, VersionError};

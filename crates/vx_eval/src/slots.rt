@@ -41,10 +41,11 @@ fn own_slot_fits(slots: &[Option<Scalar>], expr: &ExprRef) -> bool
     }
 }
 
-/// Whether the slot of each comparison with a slot in an expression fits.
+/// Whether the slot of each comparison with a slot in an expression fits: it holds nothing, or a constant of the type that the comparison
+/// names but for nullability, which is null only where that type is nullable.
 #[cycle(slots_fit)]
 #[tactic(auto, using(crate::proofs::NodeSplits::slots_split))]
-pub(crate) fn slots_fit(slots: &[Option<Scalar>], expr: &ExprRef) -> bool
+pub fn slots_fit(slots: &[Option<Scalar>], expr: &ExprRef) -> bool
     ensures { result ≡ slots_fit slots.now expr.now }
 {
     own_slot_fits(slots, expr) && children_slots_fit(slots, expr)

@@ -1,10 +1,9 @@
-//! Expressions over the rows of a table, ready to be evaluated over the columns that they ask alone.
+//! Expressions over the rows of a table, ready to be evaluated block by block over the columns that they ask.
 #![tactic(auto)]
 
-use std::alloc::Global;
-use vx_dtype::{FieldName, Mem};
+mod counting;
+mod evaluating;
+mod prepared;
+mod splitting;
 
-/// One.
-pub fn one(alloc: Global) -> Mem<FieldName> {
-    FieldName::new(alloc, "one")
-}
+pub use prepared::{PreparedExpr, prepare};
