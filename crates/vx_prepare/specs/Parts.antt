@@ -14,6 +14,7 @@ use Rattle.vx_semantics.specs.Meaning.{Slots}
 use Rattle.vx_eval.specs.Evaluating.{Evaluates}
 use Rattle.vx_eval.specs.declared.errors.EvalError.{EvalError}
 use Rattle.vx_eval.specs.declared.errors.EvalError.TheVariants.{NoMemory, Typing, Overflow, BadCast}
+use Rattle.vx_eval.specs.declared.errors.TypeError.TheVariants.{NoMemory as NoMemoryForType}
 use Rattle.vx_passes.specs.Splitting.{Split}
 use Rattle.vx_partition.specs.Splits.{SplitColumns, first_of, in_columns}
 
@@ -21,8 +22,9 @@ use Rattle.vx_partition.specs.Splits.{SplitColumns, first_of, in_columns}
 abbrev pub IsSplitAs : Result (Split Bytes) Refusal → SplitColumns Bytes → Type 0
 IsSplitAs split s = (made : Split Bytes) × (split ≡ Ok made) × (s ≡ in_columns (λ c. c) made)
 
--- an expression gives this over the rows of a column
+-- an expression gives this over the rows of a column; want of memory is no refusal of its typing
 abbrev pub GivenBy : Slots → Column → Tree → Result ColumnRef EvalError → Type 0
+GivenBy slots c e (Err (Typing NoMemoryForType)) = ⊥
 GivenBy slots c e result = Evaluates c.ty slots c.rows e result
 
 -- a column of so many rows stands under a name

@@ -95,8 +95,9 @@ impl PreparedExpr {
         slots: &[Option<Scalar>],
     ) -> Result<ColumnRef, EvalError>
         requires columns { CanBeOver slots.now self.now len columns.now }
-        ensures known { (fs : Fields) (e : Tree) (rows : List Val) → IsPrepared fs slots.now e self.now → no_name_twice (row_type fs) ≡ true →
-            HaveColumns fs len self.now.columns columns.now rows → EvaluatesAsked fs slots.now e (type_view self.now.dtype) rows result }
+        ensures known { (fs : Fields) (e : Tree) → IsPrepared fs slots.now e self.now → no_name_twice (row_type fs) ≡ true →
+            AreOf fs len self.now.columns columns.now → (rows : List Val) → HaveColumns fs len self.now.columns columns.now rows →
+            EvaluatesAsked fs slots.now e (type_view self.now.dtype) rows result }
         ensures rows { (fs : Fields) (e : Tree) → IsPrepared fs slots.now e self.now → no_name_twice (row_type fs) ≡ true →
             AreOf fs len self.now.columns columns.now → (rows : List Val) × HaveColumns fs len self.now.columns columns.now rows }
         ensures len { IfOk result (λ c. length c.rows ≡ len) }
