@@ -39,24 +39,24 @@ PartGives len slots names columns a e result =
 -- the parts, of the columns under these names, give these columns
 abbrev pub AreGiven : ℕ → Slots → List Bytes → List Column → List Bytes → List Tree → List Column → Type 0
 AreGiven len slots names columns [] [] [] = Unit {0}
-AreGiven len slots names columns (a ∷ as) (e ∷ es) (c ∷ cs) =
-    PartGives len slots names columns a e (Ok c) × AreGiven len slots names columns as es cs
+AreGiven len slots names columns (a ∷ keys) (e ∷ es) (c ∷ cs) =
+    PartGives len slots names columns a e (Ok c) × AreGiven len slots names columns keys es cs
 AreGiven len slots names columns _ _ _ = ⊥
 
 -- some part gives no column, by this refusal
 abbrev pub SomeRefuses : ℕ → Slots → List Bytes → List Column → List Bytes → List Tree → EvalError → Type 0
-SomeRefuses len slots names columns as es r =
-    (i : ℕ) × (a : Bytes) × (e : Tree) × (slice_get as i ≡ Some a) × (slice_get es i ≡ Some e) × PartGives len slots names columns a e (Err r)
+SomeRefuses len slots names columns keys es r =
+    (i : ℕ) × (a : Bytes) × (e : Tree) × (slice_get keys i ≡ Some a) × (slice_get es i ≡ Some e) × PartGives len slots names columns a e (Err r)
 
 -- the same, but that want of memory may come at any time
 abbrev pub RefusesAtPart : ℕ → Slots → List Bytes → List Column → List Bytes → List Tree → EvalError → Type 0
-RefusesAtPart len slots names columns as es NoMemory = Unit {0}
-RefusesAtPart len slots names columns as es r = SomeRefuses len slots names columns as es r
+RefusesAtPart len slots names columns keys es NoMemory = Unit {0}
+RefusesAtPart len slots names columns keys es r = SomeRefuses len slots names columns keys es r
 
 -- what the parts give, one after the other
 abbrev pub PartsGive : ℕ → Slots → List Bytes → List Column → List Bytes → List Tree → Result (Vec ColumnRef Global) EvalError → Type 0
-PartsGive len slots names columns as es (Ok cs) = AreGiven len slots names columns as es cs.items
-PartsGive len slots names columns as es (Err r) = RefusesAtPart len slots names columns as es r
+PartsGive len slots names columns keys es (Ok cs) = AreGiven len slots names columns keys es cs.items
+PartsGive len slots names columns keys es (Err r) = RefusesAtPart len slots names columns keys es r
 
 -- the root gives this over what the parts give
 abbrev pub RootGives : ℕ → Slots → List Bytes → List Column → SplitColumns Bytes → Result ColumnRef EvalError → Type 0
