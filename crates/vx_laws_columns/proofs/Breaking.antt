@@ -1,20 +1,18 @@
 -- Where an expression that is split by its columns breaks, a partition breaks, or the root does.
-use Rattle.std.proofs.Common.{◌≡◌, refl, ap, sym, ◌∙◌, Bool, true, false, ◌||◌, subst, List, [], ◌∷◌, map, Result, Ok}
+use Rattle.std.proofs.Common.{◌≡◌, refl, ap, sym, ◌∙◌, Bool, true, false, ◌||◌, subst, List, [], ◌∷◌, map, Ok}
 use Rattle.std.specs.List.{AllByRecursion, list_any}
 use Rattle.std.specs.Str.{bytes_eq}
 use Rattle.std.proofs.lemmas.Bool.{and_from}
 use Rattle.vx_dtype.specs.declared.Nullability.TheVariants.{NonNullable}
-use Rattle.vx_dtype.specs.Types.{Bytes, Ty, struct_ty}
+use Rattle.vx_dtype.specs.Types.{Bytes, Ty}
 use Rattle.vx_dtype.specs.Values.{Val, struct_val}
-use Rattle.vx_dtype.specs.Zipped.{zipped}
 use Rattle.vx_expr.specs.Trees.{Tree, pack, Trees, trees_of, listed}
-use Rattle.vx_semantics.specs.Typing.{Refusal, and_then, typed_of, all_typed}
+use Rattle.vx_semantics.specs.Typing.{typed_of}
 use Rattle.vx_semantics.specs.Meaning.{Slots, zip_members, mean, meanings}
 use Rattle.vx_semantics.specs.Slots.{slots_fit, all_slots_fit}
 use Rattle.vx_semantics.specs.Breaks.{Cause, by_sum, by_cast, breaks_by}
 use Rattle.vx_semantics.specs.Tables.{row_type}
-use Rattle.vx_passes.specs.Annotating.{Entry, column_annotation}
-use Rattle.vx_passes.specs.Replacing.{root_replaced}
+use Rattle.vx_passes.specs.Annotating.{Entry}
 use Rattle.vx_passes.specs.TypedSimplifying.{simplified_typed}
 use Rattle.vx_passes.specs.Splitting.{Share, packed_parts, part_names, Partition, partitions_type}
 use Rattle.vx_laws.proofs.Inverting.{Ok-same}
@@ -24,32 +22,27 @@ use Rattle.vx_laws_passes.specs.Asking.{breaks_along}
 use Rattle.vx_laws_passes.proofs.Observing.{breaking, breaking-observes, breaking-along, or-comm, or-false}
 use Rattle.vx_laws_removing.proofs.Composed.{simplified_typed-kept}
 use Rattle.vx_laws_preserving.specs.Preserved.{some_node}
-use Rattle.vx_laws_preserving.proofs.RootKept.{preserved-kept}
 use Rattle.vx_laws_preserving.proofs.Outcomes.{preserved_breaks}
 use Rattle.vx_laws_parts.specs.Taking.{packed_shares}
 use Rattle.vx_laws_parts.specs.Recombining.{partitions_row}
 use Rattle.vx_laws_parts.proofs.SharesHold.{map-twice, SharesHold}
-use Rattle.vx_laws_parts.proofs.Taken.{pack-is, all-stand, taken-stands}
+use Rattle.vx_laws_parts.proofs.Taken.{all-stand, taken_typed}
 use Rattle.vx_laws_parts.proofs.PartsFit.{SharesFit, taken-fits}
-use Rattle.vx_laws_parts.proofs.PartsTyped.{parts_are_typed}
 use Rattle.vx_laws_parts.proofs.Recombined.{mean-list}
 use Rattle.vx_laws_columns.specs.Columns.{PartitionsBreak, PartitionsBreakAsked}
 use Rattle.vx_laws_columns.proofs.Rows.{IsRowless}
 use Rattle.vx_laws_columns.proofs.Entries.{columns_map, columns-known}
 use Rattle.vx_laws_columns.proofs.AskedColumns.{IsSimple}
-use Rattle.vx_laws_columns.proofs.Partitions.{listed-trees, pack-simple, pack-rowless, Part, own_name, taken_by_columns, parts-of, IsOfColumn}
+use Rattle.vx_laws_columns.proofs.Partitions.{listed-trees, pack-simple, pack-rowless, Part, own_name, taken_by_columns, parts-of}
 use Rattle.vx_laws_columns.proofs.Remade.{some-by_children}
 use Rattle.vx_laws_columns.proofs.SameBreaks.{each-asked}
-use Rattle.vx_laws_columns.proofs.ByColumn.{ready, splits-of, is-split}
+use Rattle.vx_laws_columns.proofs.ByColumn.{ready, prepared-fits, is-split}
 use Rattle.vx_laws_columns.proofs.LeftOver.{stays-simple, left-breaks}
+use Rattle.vx_laws_columns.proofs.RootScope.{packs, root-scope}
 
 any-map : {X Y : Type 0} (test : Y → Bool) (f : X → Y) (xs : List X) → list_any (λ x. test (f x)) xs ≡ list_any test (map f xs)
 any-map test f [] = refl
 any-map test f (x ∷ xs) = ap (λ (b : Bool). test (f x) || b) (any-map test f xs)
-
--- the packs of the parts of shares
-abbrev packs : List (Share Bytes) → List Tree
-packs ss = map (λ x. packed_parts x.annotation x.parts) ss
 
 module _ (t : Ty) (slots : Slots) (row : Val) (cause : Cause) where
   abbrev node_breaks : Tree → Bool
@@ -76,14 +69,6 @@ module _ (t : Ty) (slots : Slots) (row : Val) (cause : Cause) where
       ap (λ (b : Bool). b || list_any asked_breaks (packs xs)) (share-breaks x.annotation x.parts h.0 k.0)
       ∙ ap (λ (b : Bool). list_any (some_node node_breaks) x.parts || b) (shares-break m xs h.1 k.1)
 
--- the types of partitions
-their-types : (t : Ty) (ps : List (Partition Bytes)) → AllByRecursion (IsOfColumn t) ps → all_typed t (trees_of (map (λ p. p.expression) ps)) ≡ Ok (map (λ p. p.ty) ps)
-unfolding typed_of
-their-types t [] h = refl
-their-types t (p ∷ ps) h =
-    ap (λ (x : Result Ty Refusal). and_then x (λ a. and_then (all_typed t (trees_of (map (λ q. q.expression) ps))) (λ us. Ok (a ∷ us)))) h.0.typed
-    ∙ ap (λ (x : Result (List Ty) Refusal). and_then x (λ us. Ok (p.ty ∷ us))) (their-types t ps h.1)
-
 packs-fit : (slots : Slots) (m : List (Entry Bytes)) (ss : List (Share Bytes)) → SharesFit slots bytes_eq own_name m ss → all_slots_fit slots (trees_of (packs ss)) ≡ true
 unfolding slots_fit
 packs-fit slots m [] h = refl
@@ -108,41 +93,34 @@ partitions_break fs slots row e u d s cause h g f =
     let ss = x.shares in
     let ps = s.partitions in
     let sp = is-split fs e u d s h in
-    let j = parts_are_typed Bytes bytes_eq own_name (column_annotation t) t d r.typed.0 (splits-of fs e u d h.prepared) in
-    let v = j.0 in
+    let o = root-scope fs e u d s h in
+    let v = o.ty in
     let over = packed_shares own_name ss in
     let made = mean t slots row over in
-    let kept = preserved-kept fs slots row (breaking by_sum t slots row) (breaking-observes by_sum t slots row) g e u f q.typed in
-    let fit : slots_fit slots d ≡ true = subst (λ (z : Tree). slots_fit slots z ≡ true) (Ok-same (simplified_typed t (root_replaced fs e)) kept.made d kept.is q.made) kept.kept.fitting in
+    let fit = prepared-fits fs slots e u d q f in
     let k = taken-fits slots bytes_eq own_name m d [] fit tt in
     let known = columns-known t d r.rowless in
-    let whole = left-breaks t v slots row made cause m d r.rowless known [] (all-stand bytes_eq own_name m t slots row ss v j.1.typed) in
+    let whole = left-breaks t v slots row made cause m d r.rowless known [] (all-stand bytes_eq own_name m t slots row ss v o.takes.typed) in
     let simple = stays-simple t v slots row made cause m d r.rowless known r.simple [] in
     let of_parts : list_any (λ (p : Partition Bytes). asked_breaks t slots row cause p.expression) ps ≡ list_any (λ y. list_any (some_node (node_breaks t slots row cause)) y.parts) ss =
     any-map (asked_breaks t slots row cause) (λ (p : Partition Bytes). p.expression) ps
     ∙ (ap (list_any (asked_breaks t slots row cause)) sp.expressions
-    ∙ shares-break t slots row cause m ss (subst (AllByRecursion (IsTyped t)) (listed-trees (packs ss)) (children-typed t over (v, j.1.typed))) (parts-of t d r.typed r.simple r.rowless)) in
-    let i = pack-is t (map (λ y. y.annotation) ss) (trees_of (packs ss)) v j.1.typed in
-    let types : i.types ≡ map (λ p. p.ty) ps =
-    Ok-same (all_typed t (trees_of (packs ss))) i.types (map (λ p. p.ty) ps) i.typed (ap (λ (es : List Tree). all_typed t (trees_of es)) (sym sp.expressions) ∙ their-types t ps sp.of_columns) in
-    let scope : partitions_type own_name ps ≡ v =
-    ap (λ (cs : List Bytes). struct_ty (zipped cs (map (λ p. p.ty) ps)) NonNullable) sp.annotations_same
-    ∙ (ap (λ (us : List Ty). struct_ty (zipped (map (λ (y : Share Bytes). y.annotation) ss) us) NonNullable) (sym types) ∙ sym i.is) in
+    ∙ shares-break t slots row cause m ss (subst (AllByRecursion (IsTyped t)) (listed-trees (packs ss)) (children-typed t over (v, o.takes.typed))) (parts-of t d r.typed r.simple r.rowless)) in
     let values : map (λ p. mean t slots row p.expression) ps ≡ meanings t slots row (trees_of (packs ss)) =
     sym (map-twice (mean t slots row) (λ (p : Partition Bytes). p.expression) ps) ∙ (ap (map (mean t slots row)) sp.expressions ∙ sym (mean-list t slots row (packs ss))) in
     let at : partitions_row own_name t slots row ps ≡ made =
     ap (λ (cs : List Bytes). struct_val (zip_members cs (map (λ p. mean t slots row p.expression) ps))) sp.annotations_same
     ∙ (ap (λ (vs : List Val). struct_val (zip_members (map (λ (y : Share Bytes). y.annotation) ss) vs)) values ∙ sym (packs-mean t slots row ss)) in
-    let typed : typed_of v x.expression ≡ Ok r.typed.0 = (taken-stands bytes_eq own_name m t slots row d v j.1).typed ∙ r.typed.1 in
-    let fits = mean-fits t slots row over v g (all-fit slots ss (packs-fit slots m ss k.shares)) j.1.typed in
+    let typed : typed_of v x.expression ≡ Ok r.typed.0 = taken_typed Bytes bytes_eq own_name m t d v o.takes ∙ r.typed.1 in
+    let fits = mean-fits t slots row over v g (all-fit slots ss (packs-fit slots m ss k.shares)) o.takes.typed in
     let z = simplified_typed-kept v slots made (breaking cause v slots made) (breaking-observes cause v slots made) x.expression r.typed.0 fits k.expression typed in
-    let root : z.made ≡ s.root_expression = Ok-same (simplified_typed v x.expression) z.made s.root_expression z.is (ap (λ (c : Ty). simplified_typed c x.expression) (sym scope) ∙ sp.root_is) in
+    let root : z.made ≡ s.root_expression = Ok-same (simplified_typed v x.expression) z.made s.root_expression z.is (ap (λ (c : Ty). simplified_typed c x.expression) (sym o.is) ∙ sp.root_is) in
     let of_root : breaks_along cause v slots made s.root_expression [] ≡ some_node (node_breaks v slots made cause) x.expression =
     ap (λ (c : Tree). breaks_along cause v slots made c []) (sym root)
     ∙ (breaking-along cause v slots made z.made []
     ∙ (z.kept.sees [] refl ∙ (sym (breaking-along cause v slots made x.expression []) ∙ each-asked v slots made cause x.expression (r.typed.0, typed) simple.simple simple.rowless))) in
     ap (λ (b : Bool). b || breaks_along cause (partitions_type own_name ps) slots (partitions_row own_name t slots row ps) s.root_expression []) of_parts
-    ∙ (ap (λ (c : Ty). list_any (λ y. list_any (some_node (node_breaks t slots row cause)) y.parts) ss || breaks_along cause c slots (partitions_row own_name t slots row ps) s.root_expression []) scope
+    ∙ (ap (λ (c : Ty). list_any (λ y. list_any (some_node (node_breaks t slots row cause)) y.parts) ss || breaks_along cause c slots (partitions_row own_name t slots row ps) s.root_expression []) o.is
     ∙ (ap (λ (w : Val). list_any (λ y. list_any (some_node (node_breaks t slots row cause)) y.parts) ss || breaks_along cause v slots w s.root_expression []) at
     ∙ (ap (λ (b : Bool). list_any (λ y. list_any (some_node (node_breaks t slots row cause)) y.parts) ss || b) of_root
     ∙ (or-comm (list_any (λ y. list_any (some_node (node_breaks t slots row cause)) y.parts) ss) (some_node (node_breaks v slots made cause) x.expression)

@@ -14,7 +14,6 @@ use Rattle.vx_dtype.specs.Structs.{field_of, first_names}
 use Rattle.vx_expr.specs.Trees.{Tree, root, get_item}
 use Rattle.vx_semantics.specs.Typing.{Refusal, unknown_field, duplicate_field, unless, and_then, item_type, typed_of, names_in}
 use Rattle.vx_semantics.specs.Meaning.{Slots, mean}
-use Rattle.vx_semantics.specs.Slots.{slots_fit}
 use Rattle.vx_semantics.specs.Asked.{asked_columns}
 use Rattle.vx_semantics.specs.Breaks.{Cause, by_sum}
 use Rattle.vx_semantics.specs.Tables.{row_type}
@@ -23,10 +22,11 @@ use Rattle.vx_passes.specs.Replacing.{root_replaced}
 use Rattle.vx_passes.specs.TypedSimplifying.{simplified_typed}
 use Rattle.vx_passes.specs.Splitting.{packed_parts, part_names, Partition, Split, with_root, partitions_type}
 use Rattle.vx_laws.proofs.Inverting.{and_then-ok, Ok-same, bytes_same, bytes_eq-itself}
-use Rattle.vx_laws.proofs.EachNode.{IsTyped, all-map}
+use Rattle.vx_laws.proofs.EachNode.{IsTyped, SlotsFit, all-map}
 use Rattle.vx_laws_removing.proofs.Settled.{simplified_simple}
 use Rattle.vx_laws_passes.specs.Asking.{breaks_along}
 use Rattle.vx_laws_passes.proofs.Observing.{breaking, breaking-observes, or-false, or-twice}
+use Rattle.vx_laws_simplifying.proofs.Passes.{some_row, some_row-fits}
 use Rattle.vx_laws_preserving.specs.Preserved.{Simplifies}
 use Rattle.vx_laws_preserving.proofs.Outcomes.{preserved_rowless, preserved_type, preserved_asked_columns, preserved_meaning}
 use Rattle.vx_laws_preserving.proofs.RootKept.{preserved-kept}
@@ -75,14 +75,19 @@ pub splits_by_columns : SplitsByColumns
 splits_by_columns fs e u d h =
     let k = splits_without_refusal Bytes bytes_eq own_name (column_annotation (row_type fs)) (row_type fs) d (ready fs e u d h.simplifies).typed.0 (splits-of fs e u d h) in (k.0, k.1)
 
+-- slots that fit in an expression fit in it once it is prepared
+pub prepared-fits : (fs : Fields) (slots : Slots) (e : Tree) (u : Ty) (d : Tree) → Simplifies fs e u d → SlotsFit slots e → SlotsFit slots d
+prepared-fits fs slots e u d h f =
+    let t = row_type fs in
+    let k = preserved-kept fs slots (some_row t) (breaking by_sum t slots (some_row t)) (breaking-observes by_sum t slots (some_row t)) (some_row-fits t) e u f h.typed in
+    subst (SlotsFit slots) (Ok-same (simplified_typed t (root_replaced fs e)) k.made d k.is h.made) k.kept.fitting
+
 pub columns_recombine : ColumnsRecombine
 columns_recombine fs slots row e u d s h g f =
     let t = row_type fs in
-    let k = preserved-kept fs slots row (breaking by_sum t slots row) (breaking-observes by_sum t slots row) g e u f h.prepared.simplifies.typed in
-    let same : k.made ≡ d = Ok-same (simplified_typed t (root_replaced fs e)) k.made d k.is h.prepared.simplifies.made in
-    split_recombines Bytes bytes_eq own_name (column_annotation t) t slots row d (ready fs e u d h.prepared.simplifies).typed.0 s (splits-of fs e u d h.prepared) g
-    (subst (λ (z : Tree). slots_fit slots z ≡ true) same k.kept.fitting) h.made
-    ∙ preserved_meaning fs slots row e u d h.prepared.simplifies g f
+    let q = h.prepared.simplifies in
+    split_recombines Bytes bytes_eq own_name (column_annotation t) t slots row d (ready fs e u d q).typed.0 s (splits-of fs e u d h.prepared) g (prepared-fits fs slots e u d q f) h.made
+    ∙ preserved_meaning fs slots row e u d q g f
 
 -- a split by columns: its partitions are those of the shares, and its root is what simplifying makes of what is left
 pub record IsSplit (t : Ty) (d : Tree) (s : Split Bytes) : Type 0 where
@@ -256,7 +261,7 @@ column-same fs gs slots row other c h k same value = record {
   means = value;
 }
 
-stands-alone : (fs gs : Fields) (p : Partition Bytes) → IsOfColumn (row_type fs) p → no_name_twice (row_type gs) ≡ true → StandsAlone fs gs p
+pub stands-alone : (fs gs : Fields) (p : Partition Bytes) → IsOfColumn (row_type fs) p → no_name_twice (row_type gs) ≡ true → StandsAlone fs gs p
 stands-alone fs gs p k h same = (typed, λ slots row other value. (meaning slots row other value, λ cause. breaking-same cause slots row other value))
   where
     facts : Touches (row_type fs) p

@@ -9,5 +9,10 @@ pub mod SameBreaks
 pub mod ByColumn
 pub mod Remade
 pub mod LeftOver
+pub mod RootScope
 pub mod Breaking
 pub mod OneColumn
+pub mod RootType
+pub mod PartSlots
+pub mod DistinctParts
+pub mod NodesBreak
