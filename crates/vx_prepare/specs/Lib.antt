@@ -14,4 +14,4 @@ pub use Rattle.vx_semantics.specs.Asked
 pub use Rattle.vx_eval.specs.TypingAnswers
 pub use Rattle.vx_eval.specs.Evaluating
 pub use Rattle.vx_laws_simplifying.specs.Narrowing
-pub use Rattle.vx_laws_columns.specs.Columns
+pub use Rattle.vx_laws_columns.specs.Columns as SplitLaws

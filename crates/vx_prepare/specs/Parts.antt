@@ -1,12 +1,12 @@
 -- For the checker: no public clause cites this. What the parts of a split expression give, and what it gives by them.
-use Rattle.std.specs.Prelude.{◌≡◌, ◌⊎◌, ℕ, List, [], ◌∷◌, length, Option, Some, None, Result, Ok, Err}
-use Rattle.std.specs.List.{slice_get}
+use Rattle.std.specs.Prelude.{◌≡◌, ◌⊎◌, ℕ, Bool, List, [], ◌∷◌, length, Option, Some, None, Result, Ok, Err}
+use Rattle.std.specs.List.{slice_get, list_all}
 use Rattle.std.specs.Str.{bytes_eq}
 use Rattle.std.specs.declared.vec.Vec.{Vec}
 use Rattle.std.specs.declared.alloc.Global.{Global}
 use Rattle.vx_dtype.specs.Types.{Bytes}
 use Rattle.vx_expr.specs.Trees.{Tree}
-use Rattle.vx_column.specs.Columns.{Column}
+use Rattle.vx_column.specs.Columns.{Column, rows_fit}
 use Rattle.vx_column.specs.StructColumns.{made_struct}
 use Rattle.vx_column.specs.declared.columns.ColumnRef.{ColumnRef}
 use Rattle.vx_semantics.specs.Typing.{Refusal}
@@ -21,6 +21,10 @@ use Rattle.vx_partition.specs.Splits.{SplitColumns, first_of, in_columns}
 -- what was split is seen as these columns
 abbrev pub IsSplitAs : Result (Split Bytes) Refusal → SplitColumns Bytes → Type 0
 IsSplitAs split s = (made : Split Bytes) × (split ≡ Ok made) × (s ≡ in_columns (λ c. c) made)
+
+-- columns hold values of their types
+abbrev pub columns_fit : List Column → Bool
+columns_fit cs = list_all (λ c. rows_fit c.ty c.rows) cs
 
 -- an expression gives this over the rows of a column; want of memory is no refusal of its typing
 abbrev pub GivenBy : Slots → Column → Tree → Result ColumnRef EvalError → Type 0

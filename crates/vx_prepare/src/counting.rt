@@ -1,5 +1,5 @@
 // How many nodes an expression has.
-ghost use Rattle.std.specs.Prelude.{◌≡◌, length, IfOk};
+ghost use Rattle.std.specs.Prelude.{◌≡◌, ◌<◌, ◌^◌, length, IfOk};
 ghost use Rattle.vx_expr.specs.Trees.{children_of, trees_of};
 ghost use Rattle.vx_semantics.specs.Nodes.{nodes_of, nodes_of_all};
 
@@ -10,7 +10,8 @@ use vx_expr::{ExprRef, VortexExpr};
 /// shares its nodes may have more than could ever be walked.
 #[cycle(count_nodes)]
 pub(crate) fn count_nodes(expr: &ExprRef) -> Mem<u64>
-    ensures { IfOk result (λ n. n ≡ length (nodes_of expr.now)) }
+    ensures number { IfOk result (λ n. n ≡ length (nodes_of expr.now)) }
+    ensures few { IfOk result (λ n. n < 2 ^ 64) }
 {
     match count_below(expr)?.checked_add(1) {
         Some(number) => Ok(number),

@@ -5,7 +5,7 @@ ghost use Rattle.std.specs.Str.{bytes_eq};
 ghost use Rattle.vx_column.specs.StructColumns.{all_have_rows, made_struct};
 ghost use Rattle.vx_dtype.specs.TypeRules.{distinct_names};
 ghost use Rattle.vx_partition.specs.Splits.{first_of, split_view};
-ghost use Rattle.vx_prepare.specs.Parts.{GivenBy, IsHeld, PartsGive, SplitGives};
+ghost use Rattle.vx_prepare.specs.Parts.{columns_fit, GivenBy, IsHeld, PartsGive, SplitGives};
 
 use std::alloc::Global;
 use vx_column::{ColumnError, ColumnRef};
@@ -32,6 +32,15 @@ pub(crate) fn evaluate_split(
     let parts = evaluate_parts(alloc, split, names, columns, len, slots)?;
     let rows = struct_of(alloc, split.partition_names.clone()?, parts, len)?;
     evaluate_over(alloc, &split.root, rows, slots)
+}
+
+/// Each column holds values of its type: so much is known of a column once it shows its type.
+pub(crate) fn hold_values(columns: &[ColumnRef])
+    ensures { columns_fit columns.now ≡ true }
+{
+    for column in columns {
+        let _dtype = column.dtype();
+    }
 }
 
 /// What the parts give, in order, each over the rows of its column alone.

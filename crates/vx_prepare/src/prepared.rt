@@ -11,11 +11,11 @@ ghost use Rattle.vx_semantics.specs.Tables.{row_type};
 ghost use Rattle.vx_prepare.specs.Preparing.{Prepares, IsPrepared, AreOf, HaveColumns, CanBeOver, EvaluatesAsked, HasCauseIn};
 
 use crate::counting::count_nodes;
-use crate::evaluating::evaluate_split;
+use crate::evaluating::{evaluate_split, hold_values};
 use crate::splitting::{columns_among, simplified_over, split_over};
 use std::alloc::Global;
 use vx_column::ColumnRef;
-use vx_dtype::{DType, FieldName, FieldNames, Scalar};
+use vx_dtype::{DType, FieldName, FieldNames, Scalar, StructFields};
 use vx_eval::{EvalError, ExprEval, TypeError, slots_fit};
 use vx_expr::ExprRef;
 use vx_partition::PartitionedExpr;
@@ -47,9 +47,23 @@ pub fn prepare(
     requires rows { type_view scope.now ≡ row_type (fields_of (type_view scope.now)) }
     ensures { Prepares (fields_of (type_view scope.now)) slots.now expr.now result }
 {
-    let DType::Struct(fields, _) = scope else {
-        unreachable!();
-    };
+    match scope {
+        DType::Struct(fields, _) => prepare_over(alloc, expr, fields, scope, slots),
+        _ => unreachable!(),
+    }
+}
+
+/// The same over rows of these fields, which are those of the scope.
+fn prepare_over(
+    alloc: Global,
+    expr: &ExprRef,
+    fields: &StructFields,
+    scope: &DType,
+    slots: &[Option<Scalar>],
+) -> Result<PreparedExpr, TypeError>
+    requires rows { type_view scope.now ≡ row_type fields.now }
+    ensures { Prepares fields.now slots.now expr.now result }
+{
     let dtype = expr.typed(alloc, scope)?;
     if !slots_fit(slots, expr) {
         return Err(TypeError::TypeMismatch);
@@ -105,6 +119,7 @@ impl PreparedExpr {
         ensures causes { (fs : Fields) (e : Tree) → IsPrepared fs slots.now e self.now → no_name_twice (row_type fs) ≡ true →
             AreOf fs len self.now.columns columns.now → HasCauseIn (asked_nodes (row_type fs) e) result }
     {
+        hold_values(columns);
         evaluate_split(alloc, &self.split, &self.columns, columns, len, slots)
     }
 }

@@ -8,7 +8,6 @@ ghost use Rattle.vx_partition.specs.Splits.{split_view};
 ghost use Rattle.vx_passes.specs.Replacing.{root_replaced};
 ghost use Rattle.vx_passes.specs.TypedSimplifying.{simplified_typed};
 ghost use Rattle.vx_semantics.specs.Tables.{row_type};
-ghost use Rattle.vx_semantics.specs.Typing.{typed_of};
 ghost use Rattle.vx_prepare.specs.Parts.{IsSplitAs};
 
 use std::alloc::Global;
@@ -17,7 +16,7 @@ use vx_expr::ExprRef;
 use vx_partition::{PartitionedExpr, annotate_scope_access, partition};
 use vx_transform::{TransformError, replace_root_fields, simplify_typed};
 
-/// A typed expression over rows of these fields, simplified by types with the pack of the fields for the row.
+/// An expression over rows of these fields, simplified by types with the pack of the fields for the row, which refuses no typed one.
 pub(crate) fn simplified_over(
     alloc: Global,
     expr: &ExprRef,
@@ -25,7 +24,7 @@ pub(crate) fn simplified_over(
     scope: &DType,
 ) -> Mem<ExprRef>
     requires rows { type_view scope.now ≡ row_type fields.now }
-    requires typed { is_ok (typed_of (row_type fields.now) expr.now) ≡ true }
+    requires simplifies { is_ok (simplified_typed (row_type fields.now) (root_replaced fields.now expr.now)) ≡ true }
     ensures { IfOk result (λ made. simplified_typed (row_type fields.now) (root_replaced fields.now expr.now) ≡ Ok made) }
 {
     let replaced = replace_root_fields(alloc, expr.clone()?, fields)?;
