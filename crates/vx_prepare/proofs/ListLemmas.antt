@@ -1,6 +1,6 @@
 -- Tests on the elements of lists, and what stands at a place.
-use Rattle.std.proofs.Common.{◌≡◌, refl, ap, sym, ◌∙◌, ℕ, zero, suc, ◌<◌, Bool, true, false, ◌||◌, List, [], ◌∷◌, map, length, All, Some, None, arith, get_or}
-use Rattle.std.specs.List.{list_any, slice_get, AllZip}
+use Rattle.std.proofs.Common.{◌≡◌, refl, ap, sym, ◌∙◌, ℕ, zero, suc, ◌+◌, ◌<◌, Bool, true, false, ◌||◌, List, [], ◌∷◌, map, length, All, Some, None, arith, get_or}
+use Rattle.std.specs.List.{list_any, slice_get, AllZip, range_with_len}
 use Rattle.std.proofs.lemmas.Option.{same_Some, none-some}
 use Rattle.vx_dtype.specs.Values.{Val, null_val}
 
@@ -52,3 +52,13 @@ all_rest P x xs h = λ k d below. h (suc k) d (omega (arith, below))
 pub any_same : {A : Type 0} (f g : A → Bool) → ((x : A) → f x ≡ g x) → (xs : List A) → list_any f xs ≡ list_any g xs
 any_same f g same [] = refl
 any_same f g same (x ∷ xs) = λ i. same x i || any_same f g same xs i
+
+pub range_length : (a n : ℕ) → length (range_with_len a n) ≡ n
+range_length a zero = refl
+range_length a (suc n) = ap suc (range_length (a + 1) n)
+
+-- what is read at a place stands there
+pub read_at : {A : Type 0} (xs : List A) (i : ℕ) (x : A) → i < length xs → x ≡ get_or xs i x → slice_get xs i ≡ Some x
+read_at [] i x below e = absurd (omega (arith, below))
+read_at (y ∷ ys) zero x below e = ap Some (sym e)
+read_at (y ∷ ys) (suc i) x below e = read_at ys i x (omega (arith, below)) e

@@ -20,7 +20,7 @@ use Rattle.vx_semantics.specs.Tables.{row_type}
 use Rattle.vx_laws.proofs.Distinct.{AreDistinct, struct-distinct, not-has}
 use Rattle.vx_prepare.specs.Preparing.{IsOf, AreOf, HaveColumns}
 use Rattle.vx_prepare.specs.Parts.{columns_fit}
-use Rattle.vx_prepare.proofs.ListLemmas.{length_mapped, map_mapped}
+use Rattle.vx_prepare.proofs.ListLemmas.{length_mapped, map_mapped, range_length}
 
 -- ---- a value of each type
 
@@ -105,10 +105,6 @@ at_place : (xs : List Val) (i : ℕ) (x : Val) → slice_get xs i ≡ Some x →
 at_place [] i x at = absurd (none-some x at)
 at_place (y ∷ ys) zero x at = same_Some y x at
 at_place (y ∷ ys) (suc i) x at = at_place ys i x at
-
-range_length : (a n : ℕ) → length (range_with_len a n) ≡ n
-range_length a zero = refl
-range_length a (suc n) = ap suc (range_length (a + 1) n)
 
 or_behind : (a b : Bool) → b ≡ true → (a || b) ≡ true
 or_behind true b h = refl

@@ -3,4 +3,4 @@ use Rattle.vx_dtype.specs.TypeRules.{has_name}
 use Rattle.vx_prepare.proofs.splitting.columns_among.Given as goal
 
 abbrev pub invariant-loop-name : goal.invariant-loop-name
-invariant-loop-name l = l.kept.items ≡ filter (λ name. has_name name l.fn.others.now) (take l.name-index l.names)
+invariant-loop-name l = l.kept.items ≡ filter (λ name. has_name name l.fn.others) (take l.name-index l.names)
