@@ -1,5 +1,5 @@
 -- Which nodes break by which cause.
-use Rattle.std.proofs.Common.{◌≡◌, refl, ap, sym, ◌∙◌, Bool, true, false, cond, not, ◌&&◌, ◌||◌, List, [], ◌∷◌, Option, Some, None, Result, Ok, Err}
+use Rattle.std.proofs.Common.{◌≡◌, refl, Bool, true, false, cond, not, ◌&&◌, ◌||◌, List, [], ◌∷◌, Some, None, Result, Ok, Err}
 use Rattle.std.specs.List.{list_any}
 use Rattle.std.proofs.lemmas.Bool.{false≢true, or_left}
 use Rattle.vx_dtype.specs.Types.{Ty, Fields}
@@ -9,7 +9,7 @@ use Rattle.vx_expr.specs.Trees.{Tree, root, literal, get_item, binary, not_of, i
 use Rattle.vx_column.specs.declared.columns.ColumnRef.{ColumnRef}
 use Rattle.vx_semantics.specs.Tables.{row_type}
 use Rattle.vx_semantics.specs.Meaning.{Slots, mean}
-use Rattle.vx_semantics.specs.Breaks.{Cause, by_sum, by_cast, is_cause, is_fault, cause_where, breaks_by}
+use Rattle.vx_semantics.specs.Breaks.{by_sum, by_cast, is_cause, is_fault, breaks_by}
 use Rattle.vx_semantics.specs.Asked.{asked_nodes}
 use Rattle.vx_eval.specs.declared.errors.EvalError.{EvalError}
 use Rattle.vx_eval.specs.declared.errors.EvalError.TheVariants.{NoMemory, Typing, Overflow, BadCast}

@@ -1,8 +1,8 @@
 -- The columns that a split expression asks, in the table's order.
-use Rattle.std.proofs.Common.{◌≡◌, refl, ap, sym, ◌∙◌, ℕ, suc, ◌<◌, Bool, true, false, cond, ◌&&◌, ◌||◌, List, [], ◌∷◌, map, length, get_or, subst, All, filter}
-use Rattle.std.specs.List.{list_any, flat_map}
+use Rattle.std.proofs.Common.{◌≡◌, refl, ap, sym, ◌∙◌, ℕ, Bool, true, false, cond, ◌&&◌, ◌||◌, List, [], ◌∷◌, map, get_or, All, filter}
+use Rattle.std.specs.List.{flat_map}
 use Rattle.std.specs.Str.{bytes_eq}
-use Rattle.std.proofs.lemmas.Bool.{or_left}
+use Rattle.std.proofs.lemmas.Bool.{or_left, or_right}
 use Rattle.std.proofs.lemmas.List.Folds.{list_any_at}
 use Rattle.std.proofs.lemmas.Slice.Eq.{bytes_eq-Decides}
 use Rattle.vx_dtype.specs.declared.Nullability.TheVariants.{NonNullable}
@@ -13,7 +13,7 @@ use Rattle.vx_column.specs.Columns.{Column}
 use Rattle.vx_semantics.specs.Tables.{row_type}
 use Rattle.vx_semantics.specs.Asked.{asked, column_in, asked_columns}
 use Rattle.vx_passes.specs.Splitting.{Partition, Split}
-use Rattle.vx_laws.proofs.Distinct.{AreDistinct, struct-distinct, distinct-filter}
+use Rattle.vx_laws.proofs.Distinct.{struct-distinct, distinct-filter}
 use Rattle.vx_laws_columns.specs.Columns.{SplitByColumns, PartitionsOfAskedColumns}
 use Rattle.vx_prepare.specs.Preparing.{AreOf}
 use Rattle.vx_prepare.specs.Parts.{IsHeld}
@@ -43,15 +43,11 @@ kept a test (n ∷ names) = kept_by a n names test (bytes_eq a n) (test n) refl 
 same_kept_by : (n : Bytes) (p q : Bool) (xs ys : List Bytes) → p ≡ q → xs ≡ ys → cond p (n ∷ xs) xs ≡ cond q (n ∷ ys) ys
 same_kept_by n p q xs ys e k = λ i. cond (e i) (n ∷ k i) (k i)
 
-or_behind : (a b : Bool) → b ≡ true → (a || b) ≡ true
-or_behind true b h = refl
-or_behind false b h = h
-
 same_kept : (p q : Bytes → Bool) (names : List Bytes) → ((n : Bytes) → has_name n names ≡ true → p n ≡ q n) → filter p names ≡ filter q names
 same_kept p q [] same = refl
 same_kept p q (n ∷ names) same =
     let own = same n (or_left (bytes_eq n n) (has_name n names) ((bytes_eq-Decides n n).1 refl)) in
-    same_kept_by n (p n) (q n) (filter p names) (filter q names) own (same_kept p q names (λ m some. same m (or_behind (bytes_eq m n) (has_name m names) some)))
+    same_kept_by n (p n) (q n) (filter p names) (filter q names) own (same_kept p q names (λ m some. same m (or_right (bytes_eq m n) (has_name m names) some)))
 
 and_true : (b : Bool) → (b && true) ≡ b
 and_true true = refl

@@ -1,5 +1,5 @@
 -- What a prepared expression gives over the columns that it asks.
-use Rattle.std.proofs.Common.{◌≡◌, refl, ap, sym, ◌∙◌, ℕ, Bool, true, List, map, length, Result, Ok, Err, IfOk, subst, All}
+use Rattle.std.proofs.Common.{◌≡◌, ap, sym, ◌∙◌, ℕ, true, List, map, length, Result, Ok, Err, IfOk, subst, All}
 use Rattle.vx_dtype.specs.Types.{Bytes, Ty, Fields}
 use Rattle.vx_dtype.specs.TypeRules.{distinct_names, no_name_twice}
 use Rattle.vx_dtype.specs.TypeViews.{type_view}
@@ -9,9 +9,8 @@ use Rattle.vx_column.specs.Columns.{Column}
 use Rattle.vx_column.specs.declared.columns.ColumnRef.{ColumnRef}
 use Rattle.vx_semantics.specs.Tables.{row_type}
 use Rattle.vx_semantics.specs.Meaning.{Slots, mean}
-use Rattle.vx_semantics.specs.Asked.{asked_nodes, asked_columns}
+use Rattle.vx_semantics.specs.Asked.{asked_nodes}
 use Rattle.vx_eval.specs.declared.errors.EvalError.{EvalError}
-use Rattle.vx_eval.specs.declared.errors.EvalError.TheVariants.{NoMemory, Typing, Overflow, BadCast}
 use Rattle.vx_passes.specs.Splitting.{Partition}
 use Rattle.vx_partition.specs.Splits.{split_view}
 use Rattle.vx_laws_simplifying.specs.Narrowing.{narrows}

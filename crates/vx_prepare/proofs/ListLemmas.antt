@@ -1,6 +1,6 @@
 -- Tests on the elements of lists, and what stands at a place.
-use Rattle.std.proofs.Common.{◌≡◌, refl, ap, sym, ◌∙◌, ℕ, zero, suc, ◌+◌, ◌<◌, Bool, true, false, ◌||◌, List, [], ◌∷◌, map, length, All, Some, None, arith, get_or}
-use Rattle.std.specs.List.{list_any, slice_get, AllZip, range_with_len}
+use Rattle.std.proofs.Common.{◌≡◌, refl, ap, sym, ◌∙◌, ℕ, zero, suc, ◌+◌, ◌<◌, Bool, true, false, ◌||◌, List, [], ◌∷◌, map, length, All, Some, arith, get_or}
+use Rattle.std.specs.List.{list_any, slice_get, range_with_len}
 use Rattle.std.proofs.lemmas.Option.{same_Some, none-some}
 use Rattle.vx_dtype.specs.Values.{Val, null_val}
 

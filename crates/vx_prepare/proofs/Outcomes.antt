@@ -1,5 +1,5 @@
 -- What an expression gives over rows, by its meaning and its breaks at each row.
-use Rattle.std.proofs.Common.{◌≡◌, refl, ap, sym, ◌∙◌, Bool, true, false, List, map, Result, Ok, Err, is_ok}
+use Rattle.std.proofs.Common.{◌≡◌, ap, sym, ◌∙◌, Bool, true, false, List, map, Result, Ok, Err, is_ok}
 use Rattle.std.specs.List.{list_any}
 use Rattle.std.proofs.lemmas.Bool.{true≢false}
 use Rattle.vx_dtype.specs.Types.{Ty}

@@ -1,12 +1,10 @@
 -- What a part gives over the rows of its column alone: what it means, and where it breaks, at the table's rows.
-use Rattle.std.proofs.Common.{◌≡◌, refl, ap, sym, ◌∙◌, ℕ, Bool, true, false, cond, List, [], ◌∷◌, map, length, Some, None, Result, Ok, Err, unwrap_or, subst}
-use Rattle.std.specs.List.{list_any, slice_get}
-use Rattle.std.specs.Str.{bytes_eq}
+use Rattle.std.proofs.Common.{◌≡◌, refl, ap, ◌∙◌, ℕ, true, cond, List, [], ◌∷◌, map, length, Some, None, Result, unwrap_or, subst}
 use Rattle.std.proofs.lemmas.Slice.Eq.{bytes_eq-Decides}
 use Rattle.vx_dtype.specs.declared.Nullability.TheVariants.{NonNullable}
-use Rattle.vx_dtype.specs.Types.{Bytes, Ty, Fields, no_fields, field, struct_ty}
+use Rattle.vx_dtype.specs.Types.{Bytes, Fields, no_fields, field}
 use Rattle.vx_dtype.specs.TypeRules.{field_type}
-use Rattle.vx_dtype.specs.Values.{Val, null_val, struct_val, fault, no_members, member}
+use Rattle.vx_dtype.specs.Values.{Val, struct_val, fault, no_members, member}
 use Rattle.vx_dtype.specs.Structs.{field_of, member_named}
 use Rattle.vx_column.specs.Columns.{Column, column, row_at}
 use Rattle.vx_column.specs.StructColumns.{made_struct}

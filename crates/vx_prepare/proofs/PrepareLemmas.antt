@@ -1,6 +1,6 @@
 -- What the passes that prepare an expression make, and that they refuse no typed one.
-use Rattle.std.proofs.Common.{◌≡◌, refl, ap, sym, ◌∙◌, ℕ, ◌<◌, ◌^◌, Bool, true, false, List, map, length, Result, Ok, Err, is_ok, filter, subst}
-use Rattle.vx_dtype.specs.Types.{Bytes, Ty, Fields}
+use Rattle.std.proofs.Common.{◌≡◌, refl, ap, sym, ◌∙◌, ℕ, ◌<◌, ◌^◌, Bool, true, false, length, Result, Ok, Err, is_ok, filter, subst}
+use Rattle.vx_dtype.specs.Types.{Ty, Fields}
 use Rattle.vx_dtype.specs.TypeRules.{field_names, has_name}
 use Rattle.vx_dtype.specs.TypeViews.{type_view}
 use Rattle.vx_expr.specs.Trees.{Tree}
@@ -15,9 +15,7 @@ use Rattle.vx_eval.specs.declared.errors.TypeError.{TypeError}
 use Rattle.vx_eval.specs.declared.errors.TypeError.TheVariants as refusals
 use Rattle.vx_passes.specs.Replacing.{root_replaced}
 use Rattle.vx_passes.specs.TypedSimplifying.{simplified_typed}
-use Rattle.vx_passes.specs.Splitting.{Partition}
-use Rattle.vx_partition.specs.Splits.{split_view, in_columns}
-use Rattle.vx_laws_preserving.specs.Preserved.{Simplifies}
+use Rattle.vx_partition.specs.Splits.{split_view}
 use Rattle.vx_laws_preserving.proofs.Outcomes.{preserved_type}
 use Rattle.vx_laws_columns.specs.Columns.{Prepared, SplitByColumns, split_by_columns}
 use Rattle.vx_laws_columns.proofs.ByColumn.{splits_by_columns, partitions_of_asked_columns}

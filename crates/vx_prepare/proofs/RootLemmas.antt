@@ -1,10 +1,11 @@
 -- What the parts of a split expression give over the columns, and the rows that the root is evaluated over.
-use Rattle.std.proofs.Common.{◌≡◌, refl, ap, sym, ◌∙◌, ℕ, zero, suc, ◌+◌, ◌<◌, Bool, true, false, ◌||◌, List, [], ◌∷◌, map, length, Some, None, Result, Ok, Err, subst, All, arith}
+use Rattle.std.proofs.Common.{◌≡◌, refl, ap, sym, ◌∙◌, ℕ, zero, suc, Bool, true, List, [], ◌∷◌, map, length, Some, None, Result, Ok, Err, subst, All}
 use Rattle.std.specs.List.{list_any, slice_get, AllZip}
+use Rattle.std.proofs.lemmas.Bool.{or_left, or_right}
 use Rattle.std.proofs.lemmas.Option.{same_Some, none-some}
 use Rattle.vx_dtype.specs.declared.Nullability.TheVariants.{NonNullable}
-use Rattle.vx_dtype.specs.Types.{Bytes, Ty, Fields, struct_ty}
-use Rattle.vx_dtype.specs.Values.{Val, null_val, member}
+use Rattle.vx_dtype.specs.Types.{Bytes, Fields, struct_ty}
+use Rattle.vx_dtype.specs.Values.{Val, member}
 use Rattle.vx_dtype.specs.Zipped.{zipped}
 use Rattle.vx_expr.specs.Trees.{Tree}
 use Rattle.vx_column.specs.Columns.{Column, column, row_at}
@@ -12,7 +13,6 @@ use Rattle.vx_column.specs.StructColumns.{made_struct, row_members, column_types
 use Rattle.vx_column.specs.declared.columns.ColumnRef.{ColumnRef}
 use Rattle.vx_semantics.specs.Tables.{row_type}
 use Rattle.vx_semantics.specs.Meaning.{Slots, mean, zip_members}
-use Rattle.vx_semantics.specs.Breaks.{Cause}
 use Rattle.vx_eval.specs.declared.errors.EvalError.{EvalError}
 use Rattle.vx_eval.proofs.StructRows.{struct_made}
 use Rattle.vx_passes.specs.Splitting.{Partition, partitions_type}
@@ -72,13 +72,6 @@ module _ (fs : Fields) (slots : Slots) (rows : List Val) where
       pub refuses : PartOutcome part (Err r)
       pub among : (test : Partition Bytes → Bool) → test part ≡ true → list_any test ps ≡ true
 
-    or_so : (a b : Bool) → a ≡ true → (a || b) ≡ true
-    or_so a b h = ap (λ x. x || b) h
-
-    or_behind : (a b : Bool) → b ≡ true → (a || b) ≡ true
-    or_behind true b h = refl
-    or_behind false b h = h
-
     refusing_at : (ps : List (Partition Bytes)) (r : EvalError) → All IsReady ps → (i : ℕ) (a : Bytes) (e : Tree) → slice_get (map (λ (p : Partition Bytes). p.annotation) ps) i ≡ Some a
         → slice_get (map (λ (p : Partition Bytes). p.expression) ps) i ≡ Some e → PartGives len slots names columns a e (Err r) → RefusingPart ps r
     refusing_at [] r ready i a e at here g = absurd (none-some a at)
@@ -86,10 +79,10 @@ module _ (fs : Fields) (slots : Slots) (rows : List Val) where
         let own : PartGives len slots names columns p.annotation p.expression (Err r) =
         subst (λ x. PartGives len slots names columns p.annotation x (Err r)) (sym (same_Some p.expression e here))
         (subst (λ x. PartGives len slots names columns x e (Err r)) (sym (same_Some p.annotation a at)) g) in
-        record { part = p; refuses = all_first IsReady p ps ready (Err r) own; among = λ test h. or_so (test p) (list_any test ps) h }
+        record { part = p; refuses = all_first IsReady p ps ready (Err r) own; among = λ test h. or_left (test p) (list_any test ps) h }
     refusing_at (p ∷ ps) r ready (suc i) a e at here g =
         let behind = refusing_at ps r (all_rest IsReady p ps ready) i a e at here g in
-        record { part = behind.part; refuses = behind.refuses; among = λ test h. or_behind (test p) (list_any test ps) (behind.among test h) }
+        record { part = behind.part; refuses = behind.refuses; among = λ test h. or_right (test p) (list_any test ps) (behind.among test h) }
 
     pub refusing_part : (ps : List (Partition Bytes)) (r : EvalError) → All IsReady ps
         → SomeRefuses len slots names columns (map (λ p. p.annotation) ps) (map (λ p. p.expression) ps) r → RefusingPart ps r

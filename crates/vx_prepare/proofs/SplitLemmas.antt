@@ -1,9 +1,10 @@
 -- What a split expression gives over the columns of a table, by the laws of such splits.
-use Rattle.std.proofs.Common.{◌≡◌, refl, ap, sym, ◌∙◌, ℕ, Bool, true, false, cond, ◌||◌, ◌&&◌, List, [], ◌∷◌, map, length, Option, Some, None, is_some, Result, Ok, Err, subst, All, get_or, inl, inr, ◌⊎◌}
-use Rattle.std.specs.List.{list_any, AllZip}
+use Rattle.std.proofs.Common.{◌≡◌, refl, ap, sym, ◌∙◌, ℕ, Bool, true, false, cond, ◌||◌, ◌&&◌, List, [], ◌∷◌, map, Option, Some, None, is_some, Result, Ok, Err, subst, All, get_or, inl, inr}
+use Rattle.std.specs.List.{list_any}
 use Rattle.std.specs.Cmp.{first_so, second_so}
 use Rattle.std.specs.Str.{bytes_eq}
 use Rattle.std.proofs.lemmas.Slice.Eq.{bytes_eq-Decides}
+use Rattle.std.proofs.lemmas.Bool.{or_right}
 use Rattle.std.proofs.lemmas.Option.{same_Some, none-some}
 use Rattle.vx_dtype.specs.Types.{Bytes, Ty, Fields, no_fields, field}
 use Rattle.vx_dtype.specs.TypeRules.{field_type, field_names, distinct_names, no_name_twice, no_name_twice_below}
@@ -27,13 +28,13 @@ use Rattle.vx_laws_simplifying.specs.Narrowing.{narrows}
 use Rattle.vx_laws_parts.specs.Recombining.{partitions_row}
 use Rattle.vx_laws_columns.specs.Columns.{SplitByColumns, PartitionsStandAlone, ColumnsRecombine}
 use Rattle.vx_laws_columns.specs.Evaluable.{node_breaks_at, split_nodes_break, RootIsTyped, NodesBreakAsAsked, PartitionNodesStandAlone, SplitSlotsFit}
-use Rattle.vx_prepare.specs.Parts.{GivenBy, PartGives, AreGiven, RefusesAtPart, RootGives, SplitGives}
+use Rattle.vx_prepare.specs.Parts.{GivenBy, RefusesAtPart, RootGives, SplitGives}
 use Rattle.vx_prepare.specs.Preparing.{IsOf, AreOf, HaveColumns, asked_breaks_by, EvaluatesAsked}
 use Rattle.vx_prepare.proofs.ListLemmas.{any_or, any_same, any_swap}
 use Rattle.vx_prepare.proofs.Outcomes.{Outcome, outcome, carried}
 use Rattle.vx_prepare.proofs.Lookups.{under_name}
 use Rattle.vx_prepare.proofs.PartLemmas.{single_field, part_outcome}
-use Rattle.vx_prepare.proofs.RootLemmas.{PartOutcome, PartsMade, IsReady, root_rows, parts_made, RefusingPart, refusing_part}
+use Rattle.vx_prepare.proofs.RootLemmas.{PartsMade, IsReady, root_rows, parts_made, refusing_part}
 
 -- the laws of splits by columns that are cited
 pub record Laws : Type 0 where
@@ -91,10 +92,6 @@ asked_by_cause t slots e rows =
     (λ row. any_same (breaks t slots row) (λ n. breaks_by by_sum t slots row n || breaks_by by_cast t slots row n) (λ n. some_cause (break_of t slots row n)) (asked_nodes t e)
     ∙ any_or (breaks_by by_sum t slots row) (breaks_by by_cast t slots row) (asked_nodes t e)) rows
     ∙ any_or (λ row. list_any (breaks_by by_sum t slots row) (asked_nodes t e)) (λ row. list_any (breaks_by by_cast t slots row) (asked_nodes t e)) rows
-
-or_right_so : (a b : Bool) → b ≡ true → (a || b) ≡ true
-or_right_so true b h = refl
-or_right_so false b h = h
 
 module _ (laws : Laws) (fs : Fields) (slots : Slots) (e : Tree) (u : Ty) (d : Tree) (s : Split Bytes) (splits : SplitByColumns fs e u d s) (fit : slots_fit slots e ≡ true)
     (distinct : no_name_twice (row_type fs) ≡ true) (len : ℕ) (names : List Bytes) (columns : List Column) (are : AreOf fs len names columns)
@@ -165,8 +162,8 @@ module _ (laws : Laws) (fs : Fields) (slots : Slots) (e : Tree) (u : Ty) (d : Tr
       let quiet = λ (cause : Cause). both_false cause (list_any (part_breaks cause) s.partitions) (list_any (root_breaks cause) rows) (asked_split cause) (none_broken s.partitions cs made cause) (o.2 cause) in
       let none = asked_by_cause (row_type fs) slots e rows ∙ ap (λ b. b || asked_breaks_by by_cast (row_type fs) slots e rows) (quiet by_sum) ∙ quiet by_cast in
       (narrow, means, none)
-  by_root cs made (Err Overflow) o = asked_split by_sum ∙ or_right_so (list_any (part_breaks by_sum) s.partitions) (list_any (root_breaks by_sum) rows) o
-  by_root cs made (Err BadCast) o = asked_split by_cast ∙ or_right_so (list_any (part_breaks by_cast) s.partitions) (list_any (root_breaks by_cast) rows) o
+  by_root cs made (Err Overflow) o = asked_split by_sum ∙ or_right (list_any (part_breaks by_sum) s.partitions) (list_any (root_breaks by_sum) rows) o
+  by_root cs made (Err BadCast) o = asked_split by_cast ∙ or_right (list_any (part_breaks by_cast) s.partitions) (list_any (root_breaks by_cast) rows) o
   by_root cs made (Err NoMemory) o = tt
   by_root cs made (Err (Typing r)) o = absurd o
 

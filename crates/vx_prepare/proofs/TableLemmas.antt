@@ -1,10 +1,10 @@
 -- There are rows of a table that have given columns: in the columns that aren't given stands some value of their types.
-use Rattle.std.proofs.Common.{◌≡◌, refl, ap, sym, ◌∙◌, ℕ, zero, suc, ◌+◌, ◌<◌, ◌≤◌, Bool, true, false, cond, not, ◌||◌, ◌&&◌, List, [], ◌∷◌, map, length, Option, Some, None, unwrap_or, subst, arith, get_or, pos}
-use Rattle.std.specs.List.{list_any, list_all, slice_get, AllZip, range_with_len}
+use Rattle.std.proofs.Common.{◌≡◌, refl, ap, sym, ◌∙◌, ℕ, zero, suc, ◌+◌, ◌<◌, ◌≤◌, Bool, true, false, cond, not, ◌&&◌, List, [], ◌∷◌, map, length, Option, Some, None, unwrap_or, subst, arith, get_or, pos}
+use Rattle.std.specs.List.{slice_get, AllZip, range_with_len}
 use Rattle.std.specs.Cmp.{first_so, second_so}
 use Rattle.std.specs.Cmp.Derive.{both_true}
 use Rattle.std.specs.Str.{bytes_eq}
-use Rattle.std.proofs.lemmas.Bool.{false≢true, or_parts, or_left}
+use Rattle.std.proofs.lemmas.Bool.{false≢true, or_left, or_right}
 use Rattle.std.proofs.lemmas.Slice.Eq.{bytes_eq-Decides}
 use Rattle.std.proofs.lemmas.Option.{same_Some, none-some}
 use Rattle.vx_dtype.specs.declared.Nullability.TheVariants.{NonNullable}
@@ -15,9 +15,9 @@ use Rattle.vx_dtype.specs.TypeRules.{field_type, field_names, has_name, distinct
 use Rattle.vx_dtype.specs.Values.{Val, null_val, bool_val, int_val, text_val, list_val, struct_val, fault, no_vals, Members, no_members, member}
 use Rattle.vx_dtype.specs.Fits.{val_fits, members_fit, in_range}
 use Rattle.vx_dtype.specs.Structs.{field_of, member_named}
-use Rattle.vx_column.specs.Columns.{Column, column, rows_fit, row_at}
+use Rattle.vx_column.specs.Columns.{Column, rows_fit, row_at}
 use Rattle.vx_semantics.specs.Tables.{row_type}
-use Rattle.vx_laws.proofs.Distinct.{AreDistinct, struct-distinct, not-has}
+use Rattle.vx_laws.proofs.Distinct.{struct-distinct, not-has}
 use Rattle.vx_prepare.specs.Preparing.{IsOf, AreOf, HaveColumns}
 use Rattle.vx_prepare.specs.Parts.{columns_fit}
 use Rattle.vx_prepare.proofs.ListLemmas.{length_mapped, map_mapped, range_length}
@@ -106,10 +106,6 @@ at_place [] i x at = absurd (none-some x at)
 at_place (y ∷ ys) zero x at = same_Some y x at
 at_place (y ∷ ys) (suc i) x at = at_place ys i x at
 
-or_behind : (a b : Bool) → b ≡ true → (a || b) ≡ true
-or_behind true b h = refl
-or_behind false b h = h
-
 other_column : (n f : Bytes) (ns : List Bytes) (cs : List Column) (c : Column) (b : Bool) → bytes_eq f n ≡ b → has_name n ns ≡ false → has_name f ns ≡ true → cond b (Some c) (found f ns cs) ≡ found f ns cs
 other_column n f ns cs c false e none some = refl
 other_column n f ns cs c true e none some = absurd (false≢true (sym none ∙ subst (λ x. has_name x ns ≡ true) ((bytes_eq-Decides f n).0 e) some))
@@ -174,7 +170,7 @@ module _ (names : List Bytes) (columns : List Column) where
         let named : has_name f (f ∷ field_names fs) ≡ true = or_left (bytes_eq f f) (has_name f (field_names fs)) (same_bytes f) in
         let typed : field_type f all ≡ Some t = same f named ∙ ap (λ b. cond b (Some t) (field_type f fs)) (same_bytes f) in
         let rest : (g : Bytes) → has_name g (field_names fs) ≡ true → field_type g all ≡ field_type g fs =
-        λ g some. same g (or_behind (bytes_eq g f) (has_name g (field_names fs)) some) ∙ other_name f g fs t (bytes_eq g f) refl none some in
+        λ g some. same g (or_right (bytes_eq g f) (has_name g (field_names fs)) some) ∙ other_name f g fs t (bytes_eq g f) refl none some in
         both_true (same_bytes f) (both_true (value_of_field f t i below typed (found f names columns) refl)
         (members_of_fit fs i below rest (second_so (not (has_name f (field_names fs))) (distinct_names (field_names fs)) distinct)))
 
@@ -196,7 +192,7 @@ module _ (fs : Fields) (len : ℕ) (names : List Bytes) (columns : List Column) 
       let none = not-has (has_name n ns) (first_so (not (has_name n ns)) (distinct_names ns) distinct) in
       let at : found n names columns ≡ Some c = same n (or_left (bytes_eq n n) (has_name n ns) (same_bytes n)) ∙ ap (λ b. cond b (Some c) (found n ns cs)) (same_bytes n) in
       let rest : (f : Bytes) → has_name f ns ≡ true → found f names columns ≡ found f ns cs =
-      λ f some. same f (or_behind (bytes_eq f n) (has_name f ns) some) ∙ other_column n f ns cs c (bytes_eq f n) refl none some in
+      λ f some. same f (or_right (bytes_eq f n) (has_name f ns) some) ∙ other_column n f ns cs c (bytes_eq f n) refl none some in
       (column_is names columns fs len n c.ty c h.0.0 at h.0.1, each_is ns cs h.1 (second_so (not (has_name n ns)) (distinct_names ns) distinct) rest)
 
   -- there are rows that have the columns

@@ -1,5 +1,5 @@
 -- For the checker: no public clause cites this. What the parts of a split expression give, and what it gives by them.
-use Rattle.std.specs.Prelude.{◌≡◌, ◌⊎◌, ℕ, Bool, List, [], ◌∷◌, length, Option, Some, None, Result, Ok, Err}
+use Rattle.std.specs.Prelude.{◌≡◌, ◌⊎◌, ℕ, Bool, List, [], ◌∷◌, length, Some, None, Result, Ok, Err}
 use Rattle.std.specs.List.{slice_get, list_all}
 use Rattle.std.specs.Str.{bytes_eq}
 use Rattle.std.specs.declared.vec.Vec.{Vec}
@@ -13,7 +13,7 @@ use Rattle.vx_semantics.specs.Typing.{Refusal}
 use Rattle.vx_semantics.specs.Meaning.{Slots}
 use Rattle.vx_eval.specs.Evaluating.{Evaluates}
 use Rattle.vx_eval.specs.declared.errors.EvalError.{EvalError}
-use Rattle.vx_eval.specs.declared.errors.EvalError.TheVariants.{NoMemory, Typing, Overflow, BadCast}
+use Rattle.vx_eval.specs.declared.errors.EvalError.TheVariants.{NoMemory, Typing}
 use Rattle.vx_eval.specs.declared.errors.TypeError.TheVariants.{NoMemory as NoMemoryForType}
 use Rattle.vx_passes.specs.Splitting.{Split}
 use Rattle.vx_partition.specs.Splits.{SplitColumns, first_of, in_columns}

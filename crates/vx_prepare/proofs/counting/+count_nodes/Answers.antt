@@ -1,9 +1,8 @@
-use Rattle.std.proofs.Common.{◌≡◌, ◌+◌, ap, sym, ◌∙◌, length, drop, arith}
+use Rattle.std.proofs.Common.{ap, length, arith}
 use Rattle.vx_expr.specs.Trees.{children_of}
 use Rattle.vx_eval.proofs.NodeSplits.{nodes_split}
 use Rattle.vx_eval.proofs.TypeLists.{child_lower}
-use Rattle.vx_semantics.specs.Nodes.{nodes_of}
-use Rattle.vx_prepare.proofs.CountLemmas.{count, count_step, count_end}
+use Rattle.vx_prepare.proofs.CountLemmas.{count_step, count_end}
 use Rattle.vx_prepare.proofs.counting.+count_nodes.Goals as goal
 
 pub count_below-count_nodes-requires : goal.count_below-count_nodes-requires

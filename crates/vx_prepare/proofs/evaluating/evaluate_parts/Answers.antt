@@ -1,9 +1,6 @@
-use Rattle.std.proofs.Common.{◌≡◌, ◌<◌, ap, sym, ◌∙◌, arith, length, subst, Some, None, option_copied, Err}
-use Rattle.std.specs.Str.{bytes_eq}
+use Rattle.std.proofs.Common.{◌<◌, ap, sym, ◌∙◌, arith, length, subst, option_copied}
 use Rattle.std.proofs.lemmas.Option.{none-some}
 use Rattle.std.proofs.lemmas.Result.{err_from_is_err_and}
-use Rattle.vx_dtype.specs.Types.{Bytes}
-use Rattle.vx_partition.specs.Splits.{first_of}
 use Rattle.vx_prepare.specs.Parts.{IsHeld}
 use Rattle.vx_prepare.proofs.GivenLemmas.{given_more, refuses_at, held_long}
 use Rattle.vx_prepare.proofs.ListLemmas.{read_at}

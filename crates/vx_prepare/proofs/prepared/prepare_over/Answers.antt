@@ -1,12 +1,9 @@
 use Rattle.std.proofs.Common.{◌≡◌, ap, sym, ◌∙◌, subst, true, Ok, filter}
 use Rattle.vx_dtype.specs.TypeViews.{type_view}
-use Rattle.vx_dtype.specs.Types.{Ty}
-use Rattle.vx_passes.specs.Replacing.{root_replaced}
-use Rattle.vx_passes.specs.TypedSimplifying.{simplified_typed}
 use Rattle.vx_semantics.specs.Slots.{slots_fit}
 use Rattle.vx_semantics.specs.Tables.{row_type}
 use Rattle.vx_semantics.specs.Typing.{typed_of}
-use Rattle.vx_dtype.specs.TypeRules.{field_names, has_name}
+use Rattle.vx_dtype.specs.TypeRules.{has_name}
 use Rattle.vx_prepare.specs.declared.prepared.PreparedExpr.{PreparedExpr}
 use Rattle.vx_prepare.proofs.PrepareLemmas.{simplifies, splits, is_prepared}
 use Rattle.vx_prepare.proofs.prepared.prepare_over.Goals as goal
