@@ -1,0 +1,14 @@
+mod ListLemmas
+mod Outcomes
+mod Lookups
+mod PartLemmas
+mod RootLemmas
+mod SplitLemmas
+mod TableLemmas
+mod CauseLemmas
+mod ColumnLemmas
+mod CountLemmas
+mod Laws
+mod GivenLemmas
+mod PrepareLemmas
+mod EvaluateLemmas
