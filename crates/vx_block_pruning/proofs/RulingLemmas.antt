@@ -1,14 +1,14 @@
 -- The pruning expression of a filter over the table of statistics: it can be evaluated, and it is true at the blocks that the filter rules out.
-use Rattle.std.proofs.Common.{◌≡◌, ℕ, zero, suc, ◌+◌, ◌<◌, refl, ap, sym, ◌∙◌, Bool, true, false, Option, Some, None, subst, List, [], ◌∷◌, map, Ok, arith}
+use Rattle.std.proofs.Common.{◌≡◌, ℕ, suc, ◌+◌, ◌<◌, refl, ap, sym, ◌∙◌, Bool, true, false, Option, Some, None, subst, List, [], ◌∷◌, map, Ok, arith}
 use Rattle.std.specs.Prelude.{length, MatchOption}
 use Rattle.std.specs.List.{range_with_len}
 use Rattle.std.proofs.Math.ListN.{replicate}
 use Rattle.vx_dtype.specs.declared.Stat.{Stat}
-use Rattle.vx_dtype.specs.Types.{Bytes, Ty, bool_ty}
+use Rattle.vx_dtype.specs.Types.{Bytes, bool_ty}
 use Rattle.vx_dtype.specs.Values.{Val}
 use Rattle.vx_dtype.specs.Logic.{is_true_val}
 use Rattle.vx_expr.specs.Trees.{Tree}
-use Rattle.vx_semantics.specs.Typing.{and_then, unless, type_mismatch, typed_of}
+use Rattle.vx_semantics.specs.Typing.{and_then, unless, type_mismatch}
 use Rattle.vx_semantics.specs.Meaning.{Slots, mean}
 use Rattle.vx_semantics.specs.Slots.{slots_fit}
 use Rattle.vx_semantics.specs.Breaks.{by_sum, by_cast}
@@ -16,12 +16,11 @@ use Rattle.vx_semantics.specs.Tables.{Zones, row_type, numbered_from}
 use Rattle.vx_semantics.specs.Pruning.{rules_out}
 use Rattle.vx_passes.specs.Catalogs.{available_paths}
 use Rattle.vx_passes.specs.PruningTables.{Pruning, pruning_over, pruning_fields, pruning_row}
-use Rattle.vx_zones.specs.Zoning.{distinct_statistics}
 use Rattle.vx_zones.specs.ZoneViews.{statistic_paths}
 use Rattle.vx_prune.specs.declared.relations.Relation.{Relation}
 use Rattle.vx_prune.specs.Required.{PrunesBy}
 use Rattle.vx_column.specs.Columns.{Column}
-use Rattle.vx_laws_pruning.specs.PruningLaws.{AreAccepted, IsPrunable}
+use Rattle.vx_laws_pruning.specs.PruningLaws.{IsPrunable}
 use Rattle.vx_laws_pruning.specs.PruningTypes.{IsBooleanOver}
 use Rattle.vx_laws_pruning.proofs.Accepted.{follows_rules}
 use Rattle.vx_laws_pruning.proofs.AvailableStatistics.{distinct-paths}

@@ -1,5 +1,5 @@
 -- The table of the available statistics of accepted zones.
-use Rattle.std.proofs.Common.{◌≡◌, ℕ, zero, suc, ◌<◌, refl, ap, sym, ◌∙◌, Bool, true, false, cond, ◌&&◌, Option, Some, None, subst, List, [], ◌∷◌, map, Result, Ok, arith}
+use Rattle.std.proofs.Common.{◌≡◌, ℕ, zero, suc, refl, ap, sym, ◌∙◌, Bool, true, false, cond, ◌&&◌, Option, Some, None, subst, List, [], ◌∷◌, map, Result, Ok, arith}
 use Rattle.std.specs.Prelude.{◌==◌, is_some, length, slice_get, slice_index_or}
 use Rattle.std.specs.List.{All, AllByRecursion, filter, list_all, range_with_len}
 use Rattle.std.proofs.lemmas.Bool.{and_parts, and_from}

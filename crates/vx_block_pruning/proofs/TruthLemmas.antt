@@ -1,7 +1,7 @@
 -- Which values of a type are true.
-use Rattle.std.proofs.Common.{◌≡◌, refl, ap, sym, ◌∙◌, Bool, true, false, cond}
+use Rattle.std.proofs.Common.{◌≡◌, refl, Bool, true, false, cond}
 use Rattle.vx_dtype.specs.Types.{Ty, bool_ty, int_ty, text_ty, list_ty, struct_ty}
-use Rattle.vx_dtype.specs.Values.{Raw, raw_null, raw_bool, raw_int, raw_text, raw_list, raw_struct, Val, struct_val, fault, Members, as_many, members_valued, valued}
+use Rattle.vx_dtype.specs.Values.{Raw, raw_null, raw_bool, raw_int, raw_text, raw_list, raw_struct, struct_val, fault, Members, as_many, members_valued, valued}
 use Rattle.vx_dtype.specs.Fits.{fits}
 use Rattle.vx_dtype.specs.Logic.{is_true_val}
 use Rattle.vx_block_pruning.specs.PruningTruths.{is_raw_true}

@@ -1,6 +1,6 @@
 -- For the checker: no public clause cites this.
 -- Which joined names stand once among statistics, as a walk over them notes it.
-use Rattle.std.specs.Prelude.{Bool, true, false, not, cond, List, Option, Some, None, is_some, fold}
+use Rattle.std.specs.Prelude.{Bool, false, not, cond, List, Option, Some, None, is_some, fold}
 use Rattle.std.specs.Str.{bytes_eq}
 use Rattle.vx_dtype.specs.Types.{Bytes}
 use Rattle.vx_semantics.specs.Tables.{ZoneStat, joined_name}

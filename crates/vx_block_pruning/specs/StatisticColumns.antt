@@ -1,6 +1,6 @@
 -- For the checker: no public clause cites this.
 -- The columns of statistics.
-use Rattle.std.specs.Prelude.{◌≡◌, Bool, true, map}
+use Rattle.std.specs.Prelude.{◌≡◌, true, map}
 use Rattle.std.specs.List.{list_all}
 use Rattle.vx_dtype.specs.declared.PType.TheVariants.{U64}
 use Rattle.vx_dtype.specs.declared.Nullability.TheVariants.{Nullable}
