@@ -2,10 +2,5 @@ pub mod MemberLemmas
 pub mod NamedLemmas
 pub mod BlockLemmas
 pub mod FitLemmas
-pub mod PlainLemmas
-pub mod AskedLemmas
-pub mod BoundLemmas
-pub mod MatchLemmas
-pub mod BlockScanLemmas
-pub mod ProgressLemmas
-pub mod ReportLemmas
+pub mod RunLemmas
+pub mod AmongLemmas

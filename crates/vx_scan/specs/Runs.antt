@@ -96,23 +96,23 @@ EndsBlock f p block before after made (Err _) = ⊥
 
 -- the rows after a block's run are those before and the block's, where it came to its end
 abbrev pub AddsRows : List Val → List Val → List Val → Result (Unit {0}) ScanError → Type 0
-AddsRows added rows_before rows_after (Ok u) = rows_after ≡ rows_before ++ added
-AddsRows added rows_before rows_after (Err e) = Unit {0}
+AddsRows added was now (Ok u) = now ≡ was ++ added
+AddsRows added was now (Err e) = Unit {0}
 
 -- what the run of a kept block is where the table is told: a run through its phases, and its rows
-pub record RunsBlockOf (slots : Slots) (f p : Tree) (block : ℕ) (table : Table) (before after : Seen) (rows_before rows_after : List Val)
+pub record RunsBlockOf (slots : Slots) (f p : Tree) (block : ℕ) (table : Table) (before after : Seen) (was now : List Val)
                        (result : Result (Unit {0}) ScanError) : Type 0 where
   pub held_rows : List Val
   pub there : slice_get table.blocks block ≡ Some held_rows
   pub ran : Runs (row_type table.columns) slots (block_phases (row_type table.columns) slots f p (block, held_rows)) before.log after.log after.failed result
-  pub adds : AddsRows (block_rows (row_type table.columns) slots f p held_rows) rows_before rows_after result
+  pub adds : AddsRows (block_rows (row_type table.columns) slots f p held_rows) was now result
 
 -- the run of a kept block from one state of the store to another: it made some of the block's reads, and ended so
-pub record RunsBlock (slots : Slots) (f p : Tree) (block : ℕ) (before after : Seen) (rows_before rows_after : List Val)
+pub record RunsBlock (slots : Slots) (f p : Tree) (block : ℕ) (before after : Seen) (was now : List Val)
                      (result : Result (Unit {0}) ScanError) : Type 0 where
   pub same : IsSameStore before after
   pub made : List Read
   pub grown : after.log ≡ before.log ++ made
   pub asked : AreAmong made (block_asked before.zones f p block)
   pub ends : EndsBlock f p block before after made result
-  pub told : WhereTold before.held (λ table. RunsBlockOf slots f p block table before after rows_before rows_after result)
+  pub told : WhereTold before.held (λ table. RunsBlockOf slots f p block table before after was now result)
