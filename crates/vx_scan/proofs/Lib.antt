@@ -4,3 +4,5 @@ pub mod BlockLemmas
 pub mod FitLemmas
 pub mod RunLemmas
 pub mod AmongLemmas
+pub mod StepLemmas
+pub mod ScanLemmas
