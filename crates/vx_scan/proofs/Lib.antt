@@ -6,3 +6,5 @@ pub mod RunLemmas
 pub mod AmongLemmas
 pub mod StepLemmas
 pub mod ScanLemmas
+pub mod AskedLemmas
+pub mod LawLemmas

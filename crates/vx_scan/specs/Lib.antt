@@ -7,4 +7,5 @@ pub mod Texts
 pub mod Scanning
 pub mod Runs
 pub mod Reports
+pub mod ScanLaws
 pub mod RowCodes

@@ -1,0 +1,262 @@
+-- How a scan ends is told by its typing, its phases and its faults; and two texts spell two expressions at most.
+use Rattle.std.proofs.Common.{◌≡◌, ◌≢◌, refl, ap, sym, ◌∙◌, ℕ, ◌<◌, ◌≤◌, ◌-◌, ◌^◌, Bool, true, false, cond, ◌||◌, Option, Some, List, [], ◌∷◌, ◌++◌, Result, Ok, Err, subst, arith, inl, inr, ◌⊎◌}
+use Rattle.std.specs.List.{list_any}
+use Rattle.std.proofs.lemmas.Bool.{both_ways, or_cases}
+use Rattle.vx_dtype.specs.Types.{Bytes, Ty}
+use Rattle.vx_expr.specs.Trees.{Tree}
+use Rattle.vx_semantics.specs.Meaning.{Slots}
+use Rattle.vx_semantics.specs.Breaks.{Cause, by_sum, by_cast}
+use Rattle.vx_semantics.specs.Tables.{Table, row_type}
+use Rattle.vx_semantics.specs.Scans.{Phase, phase_breaks, phase_breaks_by, first_breaks_by, phases_of, some_phase_breaks, kept_rows_of}
+use Rattle.vx_laws_scan.proofs.Keeping.{kept_rows_are_all}
+use Rattle.vx_io.specs.Counts.{one_more}
+use Rattle.vx_wire_text.specs.Wires.{Wire}
+use Rattle.vx_wire_text.specs.ReadAnswers.{IsRead}
+use Rattle.vx_wire_text.proofs.ReadLemmas.{one_node}
+use Rattle.vx_wire.specs.Building.{IsBuilt, IsUnbuilt}
+use Rattle.vx_wire.specs.declared.encodings.ExprEncoding.{ExprEncoding}
+use Rattle.vx_wire.specs.declared.errors.BuildError.{BuildError}
+use Rattle.vx_wire.specs.declared.errors.BuildError.TheVariants as builds
+use Rattle.vx_wire.proofs.LawLemmas.{one_built, never_both}
+use Rattle.vx_scan.specs.Stores.{Seen, WhereTold}
+use Rattle.vx_scan.specs.Texts.{SpellsTree, SpellsUnbuilt, IsTextRefused, SpellBoth, AreRefused}
+use Rattle.vx_scan.specs.Reports.{report_view}
+use Rattle.vx_scan.specs.Scanning.{scan_type, IsReport, IsBroken, IsScanOf, IsUnspelled, IsScan}
+use Rattle.vx_scan.specs.ScanLaws.{TextsScanAsTheySpell, HonestScansAreWhole, HonestTextScansAreWhole, IsQuietScan, FaultlessStoresCountNoFault}
+use Rattle.vx_scan.specs.ScanLaws.{ReportsUnlessNoMemory, UnbrokenScansReport, UnbrokenTextScansReport, BreaksUnlessNoMemory, ScansBreakWhereAPhaseBreaks, TextScansBreakWhereAPhaseBreaks}
+use Rattle.vx_scan.specs.ScanLaws.{is_refusal, is_break, ReportsExcludeErrors, RefusalsExcludeBreaks, RefusalsAreOne, BothBreaksAreOfOnePhase}
+use Rattle.vx_scan.specs.declared.errors.Side.{Side}
+use Rattle.vx_scan.specs.declared.errors.Side.TheVariants.{Filter, Projection}
+use Rattle.vx_scan.specs.declared.errors.ScanError.{ScanError}
+use Rattle.vx_scan.specs.declared.errors.ScanError.TheVariants as errors
+use Rattle.vx_scan.specs.declared.reports.ScanReport.{ScanReport}
+
+-- what holds of the table that is told
+told_here : (held : Option Table) (table : Table) (P : Table → Type 0) → held ≡ Some table → WhereTold held P → P table
+told_here held table P e h = subst (λ (o : Option Table). WhereTold o P) e h
+
+-- bytes are read as one tree, and spell one expression
+one_read : (bytes : Bytes) (a b : Wire) → IsRead bytes a → IsRead bytes b → a ≡ b
+one_read bytes a b p q =
+    (one_node a b [] [] p.spelled.spellable q.spelled.spellable (ap (λ (x : Bytes). x ++ []) (sym p.spelled.spelled ∙ q.spelled.spelled))).0
+
+one_spelled : (holds : ExprEncoding → Bool) (bytes : Bytes) (a b : Tree) → SpellsTree holds bytes a → SpellsTree holds bytes b → a ≡ b
+one_spelled holds bytes a b p q =
+    let same : p.0 ≡ q.0 = one_read bytes p.0 q.0 p.1 q.1 in
+    one_built holds q.0 a b (subst (λ (w : Wire). IsBuilt holds w a) same p.2) q.2
+
+-- bytes that spell an expression have no refusal
+spelled_is_built : (holds : ExprEncoding → Bool) (bytes : Bytes) (e : Tree) (why : BuildError) → why ≢ builds.NoMemory → SpellsTree holds bytes e → ¬ (SpellsUnbuilt holds bytes why)
+spelled_is_built holds bytes e why n s u =
+    let same : s.0 ≡ u.0 = one_read bytes s.0 u.0 s.1 u.1 in
+    never_both holds u.0 e why (subst (λ (w : Wire). IsBuilt holds w e) same s.2) n u.2
+
+spelled_is_taken : (holds : ExprEncoding → Bool) (side : Side) (bytes : Bytes) (e : Tree) (why : ScanError) → SpellsTree holds bytes e → ¬ (IsTextRefused holds side bytes why)
+spelled_is_taken holds side bytes e (errors.BadWire z) s h = h.1.no_tree s.0 s.1.spelled
+spelled_is_taken holds side bytes e (errors.TooDeep z) s h = s.1.not_deep h.1
+spelled_is_taken holds side bytes e (errors.TooManyNodes z) s h = s.1.not_many h.1
+spelled_is_taken holds side bytes e (errors.UnknownExpr z) s h = spelled_is_built holds bytes e builds.UnknownExpr (λ same. absurd cc) s h.1
+spelled_is_taken holds side bytes e (errors.BadMetadata z) s h = spelled_is_built holds bytes e builds.BadMetadata (λ same. absurd cc) s h.1
+spelled_is_taken holds side bytes e (errors.WrongChildren z) s h = spelled_is_built holds bytes e builds.WrongChildren (λ same. absurd cc) s h.1
+spelled_is_taken holds side bytes e errors.NoMemory s h = h
+spelled_is_taken holds side bytes e (errors.NotStruct z) s h = h
+spelled_is_taken holds side bytes e (errors.NullableSelect z) s h = h
+spelled_is_taken holds side bytes e (errors.UnknownField z) s h = h
+spelled_is_taken holds side bytes e (errors.DuplicateField z) s h = h
+spelled_is_taken holds side bytes e (errors.TypeMismatch z) s h = h
+spelled_is_taken holds side bytes e errors.FilterNotBool s h = h
+spelled_is_taken holds side bytes e errors.Overflow s h = h
+spelled_is_taken holds side bytes e errors.BadCast s h = h
+spelled_is_taken holds side bytes e errors.StoreFault s h = h
+
+both_are_taken : (holds : ExprEncoding → Bool) (ft pt : Bytes) (f p : Tree) (why : ScanError) → SpellBoth holds ft pt f p → ¬ (AreRefused holds ft pt why)
+both_are_taken holds ft pt f p why s (inl h) = spelled_is_taken holds Filter ft f why s.filter_spelled h
+both_are_taken holds ft pt f p why s (inr h) = spelled_is_taken holds Projection pt p why s.projection_spelled h.1
+
+unspelled_so : (holds : ExprEncoding → Bool) (ft pt : Bytes) (f p : Tree) (before after : Seen) (result : Result ScanReport ScanError)
+    → SpellBoth holds ft pt f p → IsUnspelled holds ft pt before after result → IsScanOf [] f p before after result
+unspelled_so holds ft pt f p before after (Ok report) s h = absurd h
+unspelled_so holds ft pt f p before after (Err errors.NoMemory) s h = inl h
+unspelled_so holds ft pt f p before after (Err (errors.BadWire z)) s h = absurd (both_are_taken holds ft pt f p (errors.BadWire z) s h.1)
+unspelled_so holds ft pt f p before after (Err (errors.TooDeep z)) s h = absurd (both_are_taken holds ft pt f p (errors.TooDeep z) s h.1)
+unspelled_so holds ft pt f p before after (Err (errors.TooManyNodes z)) s h = absurd (both_are_taken holds ft pt f p (errors.TooManyNodes z) s h.1)
+unspelled_so holds ft pt f p before after (Err (errors.UnknownExpr z)) s h = absurd (both_are_taken holds ft pt f p (errors.UnknownExpr z) s h.1)
+unspelled_so holds ft pt f p before after (Err (errors.BadMetadata z)) s h = absurd (both_are_taken holds ft pt f p (errors.BadMetadata z) s h.1)
+unspelled_so holds ft pt f p before after (Err (errors.WrongChildren z)) s h = absurd (both_are_taken holds ft pt f p (errors.WrongChildren z) s h.1)
+unspelled_so holds ft pt f p before after (Err (errors.NotStruct z)) s h = absurd (both_are_taken holds ft pt f p (errors.NotStruct z) s h.1)
+unspelled_so holds ft pt f p before after (Err (errors.NullableSelect z)) s h = absurd (both_are_taken holds ft pt f p (errors.NullableSelect z) s h.1)
+unspelled_so holds ft pt f p before after (Err (errors.UnknownField z)) s h = absurd (both_are_taken holds ft pt f p (errors.UnknownField z) s h.1)
+unspelled_so holds ft pt f p before after (Err (errors.DuplicateField z)) s h = absurd (both_are_taken holds ft pt f p (errors.DuplicateField z) s h.1)
+unspelled_so holds ft pt f p before after (Err (errors.TypeMismatch z)) s h = absurd (both_are_taken holds ft pt f p (errors.TypeMismatch z) s h.1)
+unspelled_so holds ft pt f p before after (Err errors.FilterNotBool) s h = absurd (both_are_taken holds ft pt f p errors.FilterNotBool s h.1)
+unspelled_so holds ft pt f p before after (Err errors.Overflow) s h = absurd (both_are_taken holds ft pt f p errors.Overflow s h.1)
+unspelled_so holds ft pt f p before after (Err errors.BadCast) s h = absurd (both_are_taken holds ft pt f p errors.BadCast s h.1)
+unspelled_so holds ft pt f p before after (Err errors.StoreFault) s h = absurd (both_are_taken holds ft pt f p errors.StoreFault s h.1)
+
+pub texts_so : TextsScanAsTheySpell
+texts_so holds ft pt f p before after result s (inl h) = unspelled_so holds ft pt f p before after result s h
+texts_so holds ft pt f p before after result s (inr h) =
+    let one : h.0 ≡ f = one_spelled holds ft h.0 f h.2.filter_spelled s.filter_spelled in
+    let other : h.1 ≡ p = one_spelled holds pt h.1 p h.2.projection_spelled s.projection_spelled in
+    subst (λ (g : Tree). IsScanOf [] g p before after result) one (subst (λ (q : Tree). IsScanOf [] h.0 q before after result) other h.3)
+
+-- the rows
+pub honest_so : HonestScansAreWhole
+honest_so slots f p before after report table h e honest =
+    told_here before.held table (λ table. report.rows ≡ kept_rows_of table before.zones slots f p) e h.rows
+    ∙ kept_rows_are_all before.zones table slots f p honest
+
+pub honest_texts_so : HonestTextScansAreWhole
+honest_texts_so holds ft pt f p before after report table s h e honest =
+    honest_so [] f p before after (report_view report) table (texts_so holds ft pt f p before after (Ok report) s h) e honest
+
+-- faults
+stays_below : (a b : ℕ) → b ≡ a → a < 2 ^ 64 - 1 → b < one_more a
+stays_below a b h k = grind (arith, h, k)
+
+pub faultless_so : FaultlessStoresCountNoFault
+faultless_so before after s none few = stays_below before.faults after.faults (s.quiet none) few
+
+below : (a b : ℕ) → a < b → b ≤ a → ⊥
+below a b h k = omega (arith, h, k)
+
+-- where the first phase that breaks does so by a cause, some phase breaks
+breaks_somewhere : (c : Cause) (t : Ty) (slots : Slots) (phases : List Phase) → first_breaks_by c t slots phases ≡ true → list_any (phase_breaks t slots) phases ≡ true
+breaks_somewhere c t slots [] h = absurd cc
+breaks_somewhere c t slots (phase ∷ phases) h = by-test (phase_breaks t slots phase) h (breaks_somewhere c t slots phases)
+  where
+    by-test : (b : Bool) → cond b (phase_breaks_by c t slots phase) (first_breaks_by c t slots phases) ≡ true
+        → (first_breaks_by c t slots phases ≡ true → list_any (phase_breaks t slots) phases ≡ true) → (b || list_any (phase_breaks t slots) phases) ≡ true
+    by-test true k r = refl
+    by-test false k r = r k
+
+first_so : (c : Cause) (slots : Slots) (f p : Tree) (table : Table) (before after : Seen) → before.held ≡ Some table → IsBroken c slots f p before after
+    → first_breaks_by c (row_type table.columns) slots (phases_of table before.zones slots f p) ≡ true
+first_so c slots f p table before after e h =
+    told_here before.held table (λ table. first_breaks_by c (row_type table.columns) slots (phases_of table before.zones slots f p) ≡ true) e h.first_breaks
+
+broken_so : (c : Cause) (slots : Slots) (f p : Tree) (table : Table) (before after : Seen) → before.held ≡ Some table → IsBroken c slots f p before after
+    → some_phase_breaks table before.zones slots f p ≡ true
+broken_so c slots f p table before after e h =
+    breaks_somewhere c (row_type table.columns) slots (phases_of table before.zones slots f p) (first_so c slots f p table before after e h)
+
+report_so : (slots : Slots) (f p : Tree) (table : Table) (before after : Seen) (report : ScanReport) → before.held ≡ Some table
+    → IsScanOf slots f p before after (Ok report) → some_phase_breaks table before.zones slots f p ≡ false
+report_so slots f p table before after report e h =
+    told_here before.held table (λ table. some_phase_breaks table before.zones slots f p ≡ false) e h.unbroken
+
+-- typed expressions aren't refused, and what is refused is told by typing
+never_refused : (answer : Result Ty ScanError) (u : Ty) (e : ScanError) → answer ≡ Ok u → answer ≡ Err e → ⊥
+never_refused (Ok v) u e h k = absurd cc
+never_refused (Err d) u e h k = absurd cc
+
+one_refusal : (answer : Result Ty ScanError) (d e : ScanError) → answer ≡ Err d → answer ≡ Err e → d ≡ e
+one_refusal (Ok v) d e h k = absurd cc
+one_refusal (Err c) d e h k = cc
+
+refused_so : (slots : Slots) (f p : Tree) (before after : Seen) (e : ScanError) → is_refusal e ≡ true → IsScanOf slots f p before after (Err e)
+    → scan_type (row_type before.zones.columns) slots f p ≡ Err e
+refused_so slots f p before after errors.NoMemory r h = absurd cc
+refused_so slots f p before after errors.Overflow r h = absurd cc
+refused_so slots f p before after errors.BadCast r h = absurd cc
+refused_so slots f p before after errors.StoreFault r h = absurd cc
+refused_so slots f p before after (errors.BadWire z) r h = h.1
+refused_so slots f p before after (errors.TooDeep z) r h = h.1
+refused_so slots f p before after (errors.TooManyNodes z) r h = h.1
+refused_so slots f p before after (errors.UnknownExpr z) r h = h.1
+refused_so slots f p before after (errors.BadMetadata z) r h = h.1
+refused_so slots f p before after (errors.WrongChildren z) r h = h.1
+refused_so slots f p before after (errors.NotStruct z) r h = h.1
+refused_so slots f p before after (errors.NullableSelect z) r h = h.1
+refused_so slots f p before after (errors.UnknownField z) r h = h.1
+refused_so slots f p before after (errors.DuplicateField z) r h = h.1
+refused_so slots f p before after (errors.TypeMismatch z) r h = h.1
+refused_so slots f p before after errors.FilterNotBool r h = h.1
+
+-- a break is one by a sum or by a cast
+by_break : (slots : Slots) (f p : Tree) (before after : Seen) (e : ScanError) (Gives : Type 0) → is_break e ≡ true
+    → ((c : Cause) → IsBroken c slots f p before after → Gives) → IsScanOf slots f p before after (Err e) → Gives
+by_break slots f p before after errors.Overflow Gives b give h = give by_sum h
+by_break slots f p before after errors.BadCast Gives b give h = give by_cast h
+by_break slots f p before after errors.NoMemory Gives b give h = absurd cc
+by_break slots f p before after errors.StoreFault Gives b give h = absurd cc
+by_break slots f p before after (errors.BadWire z) Gives b give h = absurd cc
+by_break slots f p before after (errors.TooDeep z) Gives b give h = absurd cc
+by_break slots f p before after (errors.TooManyNodes z) Gives b give h = absurd cc
+by_break slots f p before after (errors.UnknownExpr z) Gives b give h = absurd cc
+by_break slots f p before after (errors.BadMetadata z) Gives b give h = absurd cc
+by_break slots f p before after (errors.WrongChildren z) Gives b give h = absurd cc
+by_break slots f p before after (errors.NotStruct z) Gives b give h = absurd cc
+by_break slots f p before after (errors.NullableSelect z) Gives b give h = absurd cc
+by_break slots f p before after (errors.UnknownField z) Gives b give h = absurd cc
+by_break slots f p before after (errors.DuplicateField z) Gives b give h = absurd cc
+by_break slots f p before after (errors.TypeMismatch z) Gives b give h = absurd cc
+by_break slots f p before after errors.FilterNotBool Gives b give h = absurd cc
+
+-- a scan of typed expressions over a told table in which no fault was counted: a report, a break, or no memory
+by_quiet : (slots : Slots) (f p : Tree) (table : Table) (before after : Seen) (Gives : Result ScanReport ScanError → Type 0) → IsQuietScan slots f p table before after
+    → ((report : ScanReport) → IsScanOf slots f p before after (Ok report) → Gives (Ok report))
+    → (IsScanOf slots f p before after (Err errors.Overflow) → Gives (Err errors.Overflow))
+    → (IsScanOf slots f p before after (Err errors.BadCast) → Gives (Err errors.BadCast))
+    → Gives (Err errors.NoMemory) → (result : Result ScanReport ScanError) → IsScanOf slots f p before after result → Gives result
+by_quiet slots f p table before after Gives q ok sum cast memory (Ok report) h = ok report h
+by_quiet slots f p table before after Gives q ok sum cast memory (Err errors.Overflow) h = sum h
+by_quiet slots f p table before after Gives q ok sum cast memory (Err errors.BadCast) h = cast h
+by_quiet slots f p table before after Gives q ok sum cast memory (Err errors.NoMemory) h = memory
+by_quiet slots f p table before after Gives q ok sum cast memory (Err errors.StoreFault) h = absurd (below after.faults (one_more before.faults) q.no_fault h.risen)
+by_quiet slots f p table before after Gives q ok sum cast memory (Err (errors.BadWire z)) h = absurd (never_refused _ q.ty (errors.BadWire z) q.typed h.1)
+by_quiet slots f p table before after Gives q ok sum cast memory (Err (errors.TooDeep z)) h = absurd (never_refused _ q.ty (errors.TooDeep z) q.typed h.1)
+by_quiet slots f p table before after Gives q ok sum cast memory (Err (errors.TooManyNodes z)) h = absurd (never_refused _ q.ty (errors.TooManyNodes z) q.typed h.1)
+by_quiet slots f p table before after Gives q ok sum cast memory (Err (errors.UnknownExpr z)) h = absurd (never_refused _ q.ty (errors.UnknownExpr z) q.typed h.1)
+by_quiet slots f p table before after Gives q ok sum cast memory (Err (errors.BadMetadata z)) h = absurd (never_refused _ q.ty (errors.BadMetadata z) q.typed h.1)
+by_quiet slots f p table before after Gives q ok sum cast memory (Err (errors.WrongChildren z)) h = absurd (never_refused _ q.ty (errors.WrongChildren z) q.typed h.1)
+by_quiet slots f p table before after Gives q ok sum cast memory (Err (errors.NotStruct z)) h = absurd (never_refused _ q.ty (errors.NotStruct z) q.typed h.1)
+by_quiet slots f p table before after Gives q ok sum cast memory (Err (errors.NullableSelect z)) h = absurd (never_refused _ q.ty (errors.NullableSelect z) q.typed h.1)
+by_quiet slots f p table before after Gives q ok sum cast memory (Err (errors.UnknownField z)) h = absurd (never_refused _ q.ty (errors.UnknownField z) q.typed h.1)
+by_quiet slots f p table before after Gives q ok sum cast memory (Err (errors.DuplicateField z)) h = absurd (never_refused _ q.ty (errors.DuplicateField z) q.typed h.1)
+by_quiet slots f p table before after Gives q ok sum cast memory (Err (errors.TypeMismatch z)) h = absurd (never_refused _ q.ty (errors.TypeMismatch z) q.typed h.1)
+by_quiet slots f p table before after Gives q ok sum cast memory (Err errors.FilterNotBool) h = absurd (never_refused _ q.ty errors.FilterNotBool q.typed h.1)
+
+pub unbroken_so : UnbrokenScansReport
+unbroken_so slots f p table before after result q u h =
+    by_quiet slots f p table before after ReportsUnlessNoMemory q (λ report k. tt)
+    (λ k. absurd (both_ways (some_phase_breaks table before.zones slots f p) u (broken_so by_sum slots f p table before after q.held k)))
+    (λ k. absurd (both_ways (some_phase_breaks table before.zones slots f p) u (broken_so by_cast slots f p table before after q.held k)))
+    tt result h
+
+pub unbroken_texts_so : UnbrokenTextScansReport
+unbroken_texts_so holds ft pt f p table before after result s q u h = unbroken_so [] f p table before after result q u (texts_so holds ft pt f p before after result s h)
+
+pub breaking_so : ScansBreakWhereAPhaseBreaks
+breaking_so slots f p table before after result q b h =
+    by_quiet slots f p table before after BreaksUnlessNoMemory q
+    (λ report k. absurd (both_ways (some_phase_breaks table before.zones slots f p) (report_so slots f p table before after report q.held k) b))
+    (λ k. tt) (λ k. tt) tt result h
+
+pub breaking_texts_so : TextScansBreakWhereAPhaseBreaks
+breaking_texts_so holds ft pt f p table before after result s q b h = breaking_so [] f p table before after result q b (texts_so holds ft pt f p before after result s h)
+
+-- two ends
+pub reports_so : ReportsExcludeErrors
+reports_so slots f p table before after other report e held kind h k = by-kind (or_cases (is_refusal e) (is_break e) kind)
+  where
+    by-kind : (is_refusal e ≡ true) ⊎ (is_break e ≡ true) → ⊥
+    by-kind (inl r) = never_refused (scan_type (row_type before.zones.columns) slots f p) (report_view report).ty e h.typed (refused_so slots f p before other e r k)
+    by-kind (inr b) =
+        by_break slots f p before other e ⊥ b
+        (λ c x. both_ways (some_phase_breaks table before.zones slots f p) (report_so slots f p table before after report held h) (broken_so c slots f p table before other held x))
+        k
+
+pub refusals_so : RefusalsExcludeBreaks
+refusals_so slots f p before after other d e r b h k =
+    by_break slots f p before other e ⊥ b
+    (λ c x. never_refused (scan_type (row_type before.zones.columns) slots f p) x.ty d x.typed (refused_so slots f p before after d r h))
+    k
+
+pub one_refusal_so : RefusalsAreOne
+one_refusal_so slots f p before after other d e r s h k =
+    one_refusal (scan_type (row_type before.zones.columns) slots f p) d e (refused_so slots f p before after d r h) (refused_so slots f p before other e s k)
+
+pub breaks_so : BothBreaksAreOfOnePhase
+breaks_so slots f p table before after other held h k =
+    (first_so by_sum slots f p table before after held h, first_so by_cast slots f p table before other held k)
