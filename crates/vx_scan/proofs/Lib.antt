@@ -8,3 +8,4 @@ pub mod StepLemmas
 pub mod ScanLemmas
 pub mod AskedLemmas
 pub mod LawLemmas
+pub mod CutLemmas

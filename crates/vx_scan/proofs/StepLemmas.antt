@@ -15,7 +15,7 @@ use Rattle.vx_scan.specs.Stores.{Read, AgreesWith}
 use Rattle.vx_scan.specs.Scanning.{asked_reads, some_block}
 use Rattle.vx_scan.specs.Runs.{kept_before, phases_before, rows_before, kept_numbers_before, skipped_numbers_before, block_asked, asked_before}
 
-numbered_append : {X : Type 0} (n : ℕ) (xs ys : List X) → numbered_from n (xs ++ ys) ≡ numbered_from n xs ++ numbered_from (n + length xs) ys
+pub numbered_append : {X : Type 0} (n : ℕ) (xs ys : List X) → numbered_from n (xs ++ ys) ≡ numbered_from n xs ++ numbered_from (n + length xs) ys
 numbered_append n [] ys = let start : n ≡ n + 0 = omega arith in ap (λ (m : ℕ). numbered_from m ys) start
 numbered_append {X} n (x ∷ xs) ys =
     let next : suc n + length xs ≡ n + suc (length xs) = omega arith in

@@ -8,4 +8,5 @@ pub mod Scanning
 pub mod Runs
 pub mod Reports
 pub mod ScanLaws
+pub mod Cutting
 pub mod RowCodes

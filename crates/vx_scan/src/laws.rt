@@ -1,5 +1,6 @@
 // Laws of how scans end: each is the contract of a function that does nothing.
 
+ghost use Rattle.vx_scan.specs.Cutting.{ScansOfRuns};
 ghost use Rattle.vx_scan.specs.ScanLaws.{HonestScansAreWhole, HonestTextScansAreWhole, TextsScanAsTheySpell};
 ghost use Rattle.vx_scan.specs.ScanLaws.{FaultlessStoresCountNoFault, UnbrokenScansReport, UnbrokenTextScansReport};
 ghost use Rattle.vx_scan.specs.ScanLaws.{ScansBreakWhereAPhaseBreaks, TextScansBreakWhereAPhaseBreaks};
@@ -47,4 +48,10 @@ pub fn scan_ends_exclude()
 pub fn reads_are_asked()
     ensures asked { ReadsAreAsked }
     ensures distinct { ReadsAreDistinct }
+{}
+
+/// Where a table's blocks are cut into two runs, with their statistics, the rows, the kept and the skipped blocks, the phases and the reads of a scan
+/// of the table are those of the first run and then those of the second one, whose block numbers are shifted.
+pub fn scans_of_runs()
+    ensures { ScansOfRuns }
 {}
