@@ -42,7 +42,7 @@ all_here same itself [] = tt
 all_here {X} same itself (x ∷ xs) = (
   or_left (same x x) (list_any (same x) xs) (itself x),
   all_so (λ (y : X). list_any (same y) xs ≡ true) (λ (y : X). list_any (same y) (x ∷ xs) ≡ true) (λ y h. or_right (same y x) (list_any (same y) xs) h) xs
-  (all_here same itself xs),
+      (all_here same itself xs),
 )
 
 -- what a test says of all reads it says of some of them
@@ -94,7 +94,7 @@ block_passes zones slots f p b k =
     let Asked : Bytes → Type 0 = λ c. (has_name c own || has_name c other) ≡ true in
     let first = all_so (λ (c : Bytes). has_name c own ≡ true) Asked (λ c h. or_left (has_name c own) (has_name c other) h) own (all_here bytes_eq bytes_eq-itself own) in
     let next = all_so (λ (c : Bytes). has_name c other ≡ true) Asked (λ c h. or_right (has_name c own) (has_name c other) h) further
-        (all_passing (λ (c : Bytes). has_name c other ≡ true) (λ (c : Bytes). not (has_name c own)) other (all_here bytes_eq bytes_eq-itself other)) in
+    (all_passing (λ (c : Bytes). has_name c other ≡ true) (λ (c : Bytes). not (has_name c own)) other (all_here bytes_eq bytes_eq-itself other)) in
     list_all-append (is_asked_read zones slots f p) (reads_in b own) (reads_in b further)
     ∙ and_from (list_all (is_asked_read zones slots f p) (reads_in b own)) (list_all (is_asked_read zones slots f p) (reads_in b further))
     (reads_pass zones slots f p b own k first) (reads_pass zones slots f p b further k next)
@@ -126,8 +126,8 @@ distinct_joined [] ys a h k = k
 distinct_joined (x ∷ xs) ys a h k =
     let parts = and_parts (not (list_any (same_read x) xs)) (distinct_reads xs) h in
     let own : list_any (same_read x) (xs ++ ys) ≡ false =
-        list_any-append (same_read x) xs ys
-        ∙ or_from (list_any (same_read x) xs) (list_any (same_read x) ys) (not-has (list_any (same_read x) xs) parts.0) a.0 in
+    list_any-append (same_read x) xs ys
+    ∙ or_from (list_any (same_read x) xs) (list_any (same_read x) ys) (not-has (list_any (same_read x) xs) parts.0) a.0 in
     and_from (not (list_any (same_read x) (xs ++ ys))) (distinct_reads (xs ++ ys)) (has-not (list_any (same_read x) (xs ++ ys)) own)
     (distinct_joined xs ys a.1 parts.1 k)
 
@@ -224,11 +224,11 @@ blocks_distinct test g numbered once n (x ∷ xs) = by-test (test n) (blocks_dis
         ≡ true)
     by-test true r = (
       all_joined (λ (q : Read). n ≤ q.0) (g n) (reads_from test g (suc n) xs)
-      (all_so (λ (q : Read). q.0 ≡ n) (λ (q : Read). n ≤ q.0) (λ q k. omega (arith, k)) (g n) (numbered n)) (weaker r.0),
+          (all_so (λ (q : Read). q.0 ≡ n) (λ (q : Read). n ≤ q.0) (λ q k. omega (arith, k)) (g n) (numbered n)) (weaker r.0),
       distinct_joined (g n) (reads_from test g (suc n) xs)
-      (later_apart n (g n) (reads_from test g (suc n) xs) (numbered n)
-      (all_so (λ (q : Read). suc n ≤ q.0) (λ (q : Read). n < q.0) (λ q k. omega (arith, k)) (reads_from test g (suc n) xs) r.0))
-      (once n) r.1,
+          (later_apart n (g n) (reads_from test g (suc n) xs) (numbered n)
+          (all_so (λ (q : Read). suc n ≤ q.0) (λ (q : Read). n < q.0) (λ q k. omega (arith, k)) (reads_from test g (suc n) xs) r.0))
+          (once n) r.1,
     )
     by-test false r = (weaker r.0, r.1)
 

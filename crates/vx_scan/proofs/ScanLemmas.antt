@@ -205,7 +205,7 @@ run_whole table zones slots f p i rows before middle after was failed e there ou
     let own = block_phases t slots f p (i, rows) in
     let split = phases_split table zones slots f p (i + 1) in
     let phases : phases_of table zones slots f p ≡ (front ++ own) ++ split.0 =
-        split.1 ∙ ap (λ (ps : List Phase). ps ++ split.0) (phases_before_in table zones slots f p i rows there out) in
+    split.1 ∙ ap (λ (ps : List Phase). ps ++ split.0) (phases_before_in table zones slots f p i rows there out) in
     subst (λ (ps : List Phase). Runs t slots ps before after failed (Err e)) (sym phases)
     (run_more t slots (front ++ own) split.0 before after failed e (run_on t slots front own before middle after was failed (Err e) h k))
 
@@ -400,8 +400,8 @@ scan_stops_between slots f p i before after rows keeps skips ty typed s =
             let done : phase_reads front ≡ s.among.0 = append_cancel_left before.log (phase_reads front) s.among.0 (sym r.0 ∙ s.among.1) in (
               phase_reads (phases_to_break t slots rest.0),
               ap (λ (ps : List Phase). phase_reads (phases_to_break t slots ps)) rest.1
-              ∙ on_reads t slots front rest.0 r.1
-              ∙ ap (λ (reads : List Read). reads ++ phase_reads (phases_to_break t slots rest.0)) done,
+                  ∙ on_reads t slots front rest.0 r.1
+                  ∙ ap (λ (reads : List Read). reads ++ phase_reads (phases_to_break t slots rest.0)) done,
             ))
             s.ran;
       };

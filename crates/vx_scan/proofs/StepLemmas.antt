@@ -62,8 +62,8 @@ step_split {X} test i xs =
     let by : ℕ × X → Bool = λ b. test b.0 in (
       filter by back,
       ap (λ (ys : List X). passing test ys) (sym (take-append-drop i xs))
-      ∙ ap (filter by) (numbered_append 0 front (drop i xs))
-      ∙ filter-append by (numbered_from 0 front) back,
+          ∙ ap (filter by) (numbered_append 0 front (drop i xs))
+          ∙ filter-append by (numbered_from 0 front) back,
     )
 
 -- a table that agrees with the zones has their blocks

@@ -68,7 +68,7 @@ pub record IsScannedTo (slots : Slots) (f p : Tree) (i : ℕ) (before after : Se
   pub unfailed : after.failed ≡ before.failed
   pub among : GrowsAmong (asked_before before.zones slots f p i) before.log after.log
   pub ran : WhereTold before.held
-    (λ table. Runs (row_type table.columns) slots (phases_before table before.zones slots f p i) before.log after.log after.failed (Ok tt))
+      (λ table. Runs (row_type table.columns) slots (phases_before table before.zones slots f p i) before.log after.log after.failed (Ok tt))
   pub rows_are : WhereTold before.held (λ table. rows ≡ rows_before table before.zones slots f p i)
   pub kept : keeps ≡ kept_numbers_before before.zones slots f i
   pub skipped : skips ≡ skipped_numbers_before before.zones slots f i
@@ -101,7 +101,7 @@ AddsRows added was now (Err e) = Unit {0}
 
 -- what the run of a kept block is where the table is told: a run through its phases, and its rows
 pub record RunsBlockOf (slots : Slots) (f p : Tree) (block : ℕ) (table : Table) (before after : Seen) (was now : List Val)
-                       (result : Result (Unit {0}) ScanError) : Type 0 where
+    (result : Result (Unit {0}) ScanError) : Type 0 where
   pub held_rows : List Val
   pub there : slice_get table.blocks block ≡ Some held_rows
   pub ran : Runs (row_type table.columns) slots (block_phases (row_type table.columns) slots f p (block, held_rows)) before.log after.log after.failed result
@@ -109,7 +109,7 @@ pub record RunsBlockOf (slots : Slots) (f p : Tree) (block : ℕ) (table : Table
 
 -- the run of a kept block from one state of the store to another: it made some of the block's reads, and ended so
 pub record RunsBlock (slots : Slots) (f p : Tree) (block : ℕ) (before after : Seen) (was now : List Val)
-                     (result : Result (Unit {0}) ScanError) : Type 0 where
+    (result : Result (Unit {0}) ScanError) : Type 0 where
   pub same : IsSameStore before after
   pub made : List Read
   pub grown : after.log ≡ before.log ++ made

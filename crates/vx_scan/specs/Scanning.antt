@@ -107,7 +107,7 @@ pub record IsBroken (cause : Cause) (slots : Slots) (filter_expr projection : Tr
   pub asks : (asks_breaking cause (row_type before.zones.columns) filter_expr || asks_breaking cause (row_type before.zones.columns) projection) ≡ true
   pub kept : some_block (kept_blocks before.zones slots filter_expr) ≡ true
   pub first_breaks : WhereTold before.held
-    (λ table. first_breaks_by cause (row_type table.columns) slots (phases_of table before.zones slots filter_expr projection) ≡ true)
+      (λ table. first_breaks_by cause (row_type table.columns) slots (phases_of table before.zones slots filter_expr projection) ≡ true)
   pub reads : GrowsLog slots filter_expr projection before after (λ table made. made ≡ reads_to_break table before.zones slots filter_expr projection)
   pub unfailed : after.failed ≡ before.failed
 
@@ -119,7 +119,7 @@ pub record IsStoreFault (slots : Slots) (filter_expr projection : Tree) (before 
   pub read : Read
   pub failed : after.failed ≡ Some read
   pub reads : GrowsLog slots filter_expr projection before after
-    (λ table made. (left : List Read) × (reads_to_break table before.zones slots filter_expr projection ≡ made ++ (read ∷ left)))
+      (λ table made. (left : List Read) × (reads_to_break table before.zones slots filter_expr projection ≡ made ++ (read ∷ left)))
   pub next_asked : AreAmong (reads.made ++ (read ∷ [])) (asked_reads before.zones slots filter_expr projection)
 
 -- there was no memory: before the first block nothing was read; later some first reads were made
@@ -127,7 +127,7 @@ pub record IsCutOff (slots : Slots) (filter_expr projection : Tree) (before afte
   pub ty : Ty
   pub typed : scan_type (row_type before.zones.columns) slots filter_expr projection ≡ Ok ty
   pub reads : GrowsLog slots filter_expr projection before after
-    (λ table made. (left : List Read) × (reads_to_break table before.zones slots filter_expr projection ≡ made ++ left))
+      (λ table made. (left : List Read) × (reads_to_break table before.zones slots filter_expr projection ≡ made ++ left))
   pub unfailed : after.failed ≡ before.failed
 
 -- how the scan of two expressions ends
