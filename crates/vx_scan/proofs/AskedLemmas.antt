@@ -1,10 +1,10 @@
 -- The reads that a scan asks: each is of a kept block and of an asked column, and none stands twice.
-use Rattle.std.proofs.Common.{◌≡◌, refl, ap, sym, ◌∙◌, ℕ, zero, suc, ◌<◌, ◌≤◌, Bool, true, false, cond, not, ◌&&◌, ◌||◌, nat_eq, List, [], ◌∷◌, ◌++◌, map, length, subst, arith, inl, inr}
+use Rattle.std.proofs.Common.{◌≡◌, refl, ap, ◌∙◌, ℕ, suc, ◌<◌, ◌≤◌, Bool, true, false, cond, not, ◌||◌, nat_eq, List, [], ◌∷◌, ◌++◌, map, subst, arith, inl, inr}
 use Rattle.std.specs.List.{list_any, list_all, filter, flat_map, AllByRecursion}
 use Rattle.std.specs.Str.{bytes_eq}
 use Rattle.std.proofs.lemmas.Bool.{and_parts, and_from, and_left, and_right, or_parts, or_from, or_left, or_right, eq-eqb, ne_eqb, both_ways}
 use Rattle.std.proofs.lemmas.List.Folds.{list_any-append, list_all-append}
-use Rattle.vx_dtype.specs.Types.{Bytes, Fields}
+use Rattle.vx_dtype.specs.Types.{Bytes}
 use Rattle.vx_dtype.specs.TypeRules.{has_name, field_names, distinct_names}
 use Rattle.vx_expr.specs.Trees.{Tree}
 use Rattle.vx_laws.proofs.Distinct.{not-has, has-not, distinct-filter}

@@ -13,7 +13,7 @@ use Rattle.vx_io.specs.Counts.{one_more}
 use Rattle.vx_wire_text.specs.Wires.{Wire}
 use Rattle.vx_wire_text.specs.ReadAnswers.{IsRead}
 use Rattle.vx_wire_text.proofs.ReadLemmas.{one_node}
-use Rattle.vx_wire.specs.Building.{IsBuilt, IsUnbuilt}
+use Rattle.vx_wire.specs.Building.{IsBuilt}
 use Rattle.vx_wire.specs.declared.encodings.ExprEncoding.{ExprEncoding}
 use Rattle.vx_wire.specs.declared.errors.BuildError.{BuildError}
 use Rattle.vx_wire.specs.declared.errors.BuildError.TheVariants as builds
@@ -21,7 +21,7 @@ use Rattle.vx_wire.proofs.LawLemmas.{one_built, never_both}
 use Rattle.vx_scan.specs.Stores.{Seen, WhereTold}
 use Rattle.vx_scan.specs.Texts.{SpellsTree, SpellsUnbuilt, IsTextRefused, SpellBoth, AreRefused}
 use Rattle.vx_scan.specs.Reports.{report_view}
-use Rattle.vx_scan.specs.Scanning.{scan_type, IsReport, IsBroken, IsScanOf, IsUnspelled, IsScan}
+use Rattle.vx_scan.specs.Scanning.{scan_type, IsBroken, IsScanOf, IsUnspelled}
 use Rattle.vx_scan.specs.ScanLaws.{TextsScanAsTheySpell, HonestScansAreWhole, HonestTextScansAreWhole, IsQuietScan, FaultlessStoresCountNoFault}
 use Rattle.vx_scan.specs.ScanLaws.{ReportsUnlessNoMemory, UnbrokenScansReport, UnbrokenTextScansReport, BreaksUnlessNoMemory, ScansBreakWhereAPhaseBreaks, TextScansBreakWhereAPhaseBreaks}
 use Rattle.vx_scan.specs.ScanLaws.{is_refusal, is_break, ReportsExcludeErrors, RefusalsExcludeBreaks, RefusalsAreOne, BothBreaksAreOfOnePhase}

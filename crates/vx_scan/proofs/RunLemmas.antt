@@ -6,8 +6,6 @@ use Rattle.std.proofs.lemmas.Bool.{or_parts, or_from, or_left, or_right}
 use Rattle.std.proofs.lemmas.List.{append-nil, append_assoc}
 use Rattle.std.proofs.lemmas.List.Folds.{list_any-append}
 use Rattle.vx_dtype.specs.Types.{Ty}
-use Rattle.vx_dtype.specs.Values.{Val}
-use Rattle.vx_expr.specs.Trees.{Tree}
 use Rattle.vx_semantics.specs.Meaning.{Slots}
 use Rattle.vx_semantics.specs.Breaks.{Cause, by_sum, by_cast, is_cause, breaks, breaks_by, break_of}
 use Rattle.vx_semantics.specs.Asked.{asked_nodes, some_asked_breaks}

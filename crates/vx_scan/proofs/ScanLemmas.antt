@@ -1,5 +1,5 @@
 -- A scan from its first block to its end: how far it has come, one block more, and each way in which it ends.
-use Rattle.std.proofs.Common.{◌≡◌, refl, ap, sym, ◌∙◌, ℕ, ◌+◌, ◌<◌, ◌≤◌, Bool, true, false, ◌||◌, Option, Some, None, List, [], ◌∷◌, ◌++◌, length, Result, Ok, Err, arith, subst, inl, inr}
+use Rattle.std.proofs.Common.{◌≡◌, refl, ap, sym, ◌∙◌, ℕ, ◌+◌, ◌<◌, ◌≤◌, true, false, ◌||◌, Option, Some, None, List, [], ◌∷◌, ◌++◌, length, Result, Ok, Err, arith, subst, inr}
 use Rattle.std.specs.List.{list_any, slice_get}
 use Rattle.std.proofs.lemmas.List.{append-nil, append_assoc, append_cancel_left}
 use Rattle.vx_dtype.specs.Types.{Ty}
@@ -13,9 +13,9 @@ use Rattle.vx_semantics.specs.Tables.{Table, Zones, row_type}
 use Rattle.vx_semantics.specs.Scans.{Phase, block_phases, block_rows, phase_breaks, first_breaks_by, phase_reads, phases_to_break, phases_of, reads_of, reads_to_break, some_phase_breaks, kept_rows_of}
 use Rattle.vx_io.specs.Counts.{one_more}
 use Rattle.vx_scan.specs.Stores.{Read, Seen, WhereTold, AgreesWith, IsSameStore}
-use Rattle.vx_scan.specs.Scanning.{scan_type, asked_reads, AreAmong, GrowsLog, IsReport, IsBroken, IsStoreFault, IsCutOff, IsScanOf, asks_breaking}
+use Rattle.vx_scan.specs.Scanning.{scan_type, asked_reads, AreAmong, IsReport, IsBroken, IsStoreFault, IsCutOff, IsScanOf, asks_breaking}
 use Rattle.vx_scan.specs.Reports.{Report}
-use Rattle.vx_scan.specs.Runs.{Runs, phases_before, rows_before, kept_numbers_before, skipped_numbers_before, block_asked, asked_before, GrowsAmong, IsScannedTo}
+use Rattle.vx_scan.specs.Runs.{Runs, phases_before, rows_before, block_asked, asked_before, GrowsAmong, IsScannedTo}
 use Rattle.vx_scan.specs.Runs.{FailedAmong, BrokeBy, RunsBlock, RunsBlockOf}
 use Rattle.vx_scan.specs.declared.errors.ScanError.{ScanError}
 use Rattle.vx_scan.specs.declared.errors.ScanError.TheVariants as errors
