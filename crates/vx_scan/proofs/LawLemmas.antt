@@ -24,7 +24,7 @@ use Rattle.vx_scan.specs.Reports.{report_view}
 use Rattle.vx_scan.specs.Scanning.{scan_type, IsBroken, IsScanOf, IsUnspelled}
 use Rattle.vx_scan.specs.ScanLaws.{TextsScanAsTheySpell, HonestScansAreWhole, HonestTextScansAreWhole, IsQuietScan, FaultlessStoresCountNoFault}
 use Rattle.vx_scan.specs.ScanLaws.{ReportsUnlessNoMemory, UnbrokenScansReport, UnbrokenTextScansReport, BreaksUnlessNoMemory, ScansBreakWhereAPhaseBreaks, TextScansBreakWhereAPhaseBreaks}
-use Rattle.vx_scan.specs.ScanLaws.{is_refusal, is_break, ReportsExcludeErrors, RefusalsExcludeBreaks, RefusalsAreOne, BothBreaksAreOfOnePhase}
+use Rattle.vx_scan.specs.ScanLaws.{is_refusal, is_break, TextReportsExcludeErrors, TextRefusalsExcludeBreaks, ReportsExcludeErrors, RefusalsExcludeBreaks, RefusalsAreOne, BothBreaksAreOfOnePhase}
 use Rattle.vx_scan.specs.declared.errors.Side.{Side}
 use Rattle.vx_scan.specs.declared.errors.Side.TheVariants.{Filter, Projection}
 use Rattle.vx_scan.specs.declared.errors.ScanError.{ScanError}
@@ -260,3 +260,36 @@ one_refusal_so slots f p before after other d e r s h k =
 pub breaks_so : BothBreaksAreOfOnePhase
 breaks_so slots f p table before after other held h k =
     (first_so by_sum slots f p table before after held h, first_so by_cast slots f p table before other held k)
+
+-- a break needs expressions that are spelled
+either : {P : Type 0} → ⊥ ⊎ (P × ⊥) → ⊥
+either (inl h) = h
+either (inr h) = h.1
+
+unspelled_breaks : (holds : ExprEncoding → Bool) (ft pt : Bytes) (before after : Seen) (e : ScanError) → is_break e ≡ true → ¬ (IsUnspelled holds ft pt before after (Err e))
+unspelled_breaks holds ft pt before after errors.Overflow b h = either h.1
+unspelled_breaks holds ft pt before after errors.BadCast b h = either h.1
+unspelled_breaks holds ft pt before after errors.NoMemory b h = absurd cc
+unspelled_breaks holds ft pt before after errors.StoreFault b h = absurd cc
+unspelled_breaks holds ft pt before after errors.FilterNotBool b h = absurd cc
+unspelled_breaks holds ft pt before after (errors.BadWire z) b h = absurd cc
+unspelled_breaks holds ft pt before after (errors.TooDeep z) b h = absurd cc
+unspelled_breaks holds ft pt before after (errors.TooManyNodes z) b h = absurd cc
+unspelled_breaks holds ft pt before after (errors.UnknownExpr z) b h = absurd cc
+unspelled_breaks holds ft pt before after (errors.BadMetadata z) b h = absurd cc
+unspelled_breaks holds ft pt before after (errors.WrongChildren z) b h = absurd cc
+unspelled_breaks holds ft pt before after (errors.NotStruct z) b h = absurd cc
+unspelled_breaks holds ft pt before after (errors.NullableSelect z) b h = absurd cc
+unspelled_breaks holds ft pt before after (errors.UnknownField z) b h = absurd cc
+unspelled_breaks holds ft pt before after (errors.DuplicateField z) b h = absurd cc
+unspelled_breaks holds ft pt before after (errors.TypeMismatch z) b h = absurd cc
+
+pub text_reports_so : TextReportsExcludeErrors
+text_reports_so holds ft pt table before after other report e held kind (inl h) k = h
+text_reports_so holds ft pt table before after other report e held kind (inr h) k =
+    reports_so [] h.0 h.1 table before after other report e held kind h.3 (texts_so holds ft pt h.0 h.1 before other (Err e) h.2 k)
+
+pub text_refusals_so : TextRefusalsExcludeBreaks
+text_refusals_so holds ft pt before after other d e r b h (inl k) = unspelled_breaks holds ft pt before other e b k
+text_refusals_so holds ft pt before after other d e r b h (inr k) =
+    refusals_so [] k.0 k.1 before after other d e r b (texts_so holds ft pt k.0 k.1 before after (Err d) k.2 h) k.3

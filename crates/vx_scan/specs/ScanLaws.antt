@@ -111,25 +111,38 @@ is_break errors.Overflow = true
 is_break errors.BadCast = true
 is_break _ = false
 
--- of one store that tells its table no two scans of the same expressions end one with a report and one with a refusal or a break
+-- from one store that tells its table, scans of the same expressions don't end one with a report and one with a refusal or a break
 abbrev pub ReportsExcludeErrors : Type 0
 ReportsExcludeErrors =
     (slots : Slots) (filter_expr projection : Tree) (table : Table) (before after other : Seen) (report : ScanReport) (e : ScanError)
     → before.held ≡ Some table → (is_refusal e || is_break e) ≡ true → IsScanOf slots filter_expr projection before after (Ok report)
     → ¬ (IsScanOf slots filter_expr projection before other (Err e))
 
--- nor one with a refusal and one with a break, nor with two refusals
+abbrev pub TextReportsExcludeErrors : Type 0
+TextReportsExcludeErrors =
+    (holds : ExprEncoding → Bool) (filter_text projection_text : Bytes) (table : Table) (before after other : Seen) (report : ScanReport) (e : ScanError)
+    → before.held ≡ Some table → (is_refusal e || is_break e) ≡ true → IsScan holds filter_text projection_text before after (Ok report)
+    → ¬ (IsScan holds filter_text projection_text before other (Err e))
+
+-- nor one with a refusal and one with a break
 abbrev pub RefusalsExcludeBreaks : Type 0
 RefusalsExcludeBreaks =
     (slots : Slots) (filter_expr projection : Tree) (before after other : Seen) (d e : ScanError) → is_refusal d ≡ true → is_break e ≡ true
     → IsScanOf slots filter_expr projection before after (Err d) → ¬ (IsScanOf slots filter_expr projection before other (Err e))
 
+abbrev pub TextRefusalsExcludeBreaks : Type 0
+TextRefusalsExcludeBreaks =
+    (holds : ExprEncoding → Bool) (filter_text projection_text : Bytes) (before after other : Seen) (d e : ScanError)
+    → is_refusal d ≡ true → is_break e ≡ true → IsScan holds filter_text projection_text before after (Err d)
+    → ¬ (IsScan holds filter_text projection_text before other (Err e))
+
+-- nor with two refusals
 abbrev pub RefusalsAreOne : Type 0
 RefusalsAreOne =
     (slots : Slots) (filter_expr projection : Tree) (before after other : Seen) (d e : ScanError) → is_refusal d ≡ true → is_refusal e ≡ true
     → IsScanOf slots filter_expr projection before after (Err d) → IsScanOf slots filter_expr projection before other (Err e) → d ≡ e
 
--- by a sum and by a cast only where the first phase that breaks does so by both
+-- and one by a sum and one by a cast only where the first phase that breaks does so by both
 abbrev pub BothBreaksAreOfOnePhase : Type 0
 BothBreaksAreOfOnePhase =
     (slots : Slots) (filter_expr projection : Tree) (table : Table) (before after other : Seen) → before.held ≡ Some table

@@ -5,6 +5,7 @@ ghost use Rattle.vx_scan.specs.ScanLaws.{HonestScansAreWhole, HonestTextScansAre
 ghost use Rattle.vx_scan.specs.ScanLaws.{FaultlessStoresCountNoFault, UnbrokenScansReport, UnbrokenTextScansReport};
 ghost use Rattle.vx_scan.specs.ScanLaws.{ScansBreakWhereAPhaseBreaks, TextScansBreakWhereAPhaseBreaks};
 ghost use Rattle.vx_scan.specs.ScanLaws.{ReportsExcludeErrors, RefusalsExcludeBreaks, RefusalsAreOne, BothBreaksAreOfOnePhase};
+ghost use Rattle.vx_scan.specs.ScanLaws.{TextReportsExcludeErrors, TextRefusalsExcludeBreaks};
 ghost use Rattle.vx_scan.specs.ScanLaws.{ReadsAreAsked, ReadsAreDistinct};
 
 /// Two texts that spell expressions are scanned as these are, without slots: no two texts spell two pairs.
@@ -42,6 +43,8 @@ pub fn scan_ends_exclude()
     ensures refusals { RefusalsExcludeBreaks }
     ensures one_refusal { RefusalsAreOne }
     ensures breaks { BothBreaksAreOfOnePhase }
+    ensures text_reports { TextReportsExcludeErrors }
+    ensures text_refusals { TextRefusalsExcludeBreaks }
 {}
 
 /// Each read of a scan is of a kept block and of a column that the filter or the projection asks, and none is made twice.
