@@ -1,5 +1,5 @@
--- How a scan ends is told by its typing, its phases and its faults; and two texts spell two expressions at most.
-use Rattle.std.proofs.Common.{◌≡◌, ◌≢◌, refl, ap, sym, ◌∙◌, ℕ, ◌<◌, ◌≤◌, ◌-◌, ◌^◌, Bool, true, false, cond, ◌||◌, Option, Some, List, [], ◌∷◌, ◌++◌, Result, Ok, Err, subst, arith, inl, inr, ◌⊎◌}
+-- How a scan ends is told by its typing, its phases and its faults.
+use Rattle.std.proofs.Common.{◌≡◌, refl, ◌∙◌, ℕ, ◌<◌, ◌≤◌, ◌-◌, ◌^◌, Bool, true, false, cond, ◌||◌, Option, Some, List, [], ◌∷◌, Result, Ok, Err, subst, arith, inl, inr, ◌⊎◌}
 use Rattle.std.specs.List.{list_any}
 use Rattle.std.proofs.lemmas.Bool.{both_ways, or_cases}
 use Rattle.vx_dtype.specs.Types.{Bytes, Ty}
@@ -10,23 +10,16 @@ use Rattle.vx_semantics.specs.Tables.{Table, row_type}
 use Rattle.vx_semantics.specs.Scans.{Phase, phase_breaks, phase_breaks_by, first_breaks_by, phases_of, some_phase_breaks, kept_rows_of}
 use Rattle.vx_laws_scan.proofs.Keeping.{kept_rows_are_all}
 use Rattle.vx_io.specs.Counts.{one_more}
-use Rattle.vx_wire_text.specs.Wires.{Wire}
-use Rattle.vx_wire_text.specs.ReadAnswers.{IsRead}
-use Rattle.vx_wire_text.proofs.ReadLemmas.{one_node}
-use Rattle.vx_wire.specs.Building.{IsBuilt}
 use Rattle.vx_wire.specs.declared.encodings.ExprEncoding.{ExprEncoding}
-use Rattle.vx_wire.specs.declared.errors.BuildError.{BuildError}
-use Rattle.vx_wire.specs.declared.errors.BuildError.TheVariants as builds
-use Rattle.vx_wire.proofs.LawLemmas.{one_built, never_both}
 use Rattle.vx_scan.specs.Stores.{Seen, WhereTold}
-use Rattle.vx_scan.specs.Texts.{SpellsTree, SpellsUnbuilt, IsTextRefused, SpellBoth, AreRefused}
+use Rattle.vx_scan.proofs.TextLemmas.{texts_so, both_are_taken, one_text_refusal}
+use Rattle.vx_scan.specs.Texts.{AreRefused}
 use Rattle.vx_scan.specs.Reports.{report_view}
 use Rattle.vx_scan.specs.Scanning.{scan_type, IsBroken, IsScanOf, IsUnspelled}
-use Rattle.vx_scan.specs.ScanLaws.{TextsScanAsTheySpell, HonestScansAreWhole, HonestTextScansAreWhole, IsQuietScan, FaultlessStoresCountNoFault}
+use Rattle.vx_scan.specs.ScanLaws.{HonestScansAreWhole, HonestTextScansAreWhole, IsQuietScan, FaultlessStoresCountNoFault}
 use Rattle.vx_scan.specs.ScanLaws.{ReportsUnlessNoMemory, UnbrokenScansReport, UnbrokenTextScansReport, BreaksUnlessNoMemory, ScansBreakWhereAPhaseBreaks, TextScansBreakWhereAPhaseBreaks}
+use Rattle.vx_scan.specs.ScanLaws.{RefusesBy, RefusedTypesAreRefused, RefusedTextsAreRefused}
 use Rattle.vx_scan.specs.ScanLaws.{is_refusal, is_break, TextReportsExcludeErrors, TextRefusalsExcludeBreaks, ReportsExcludeErrors, RefusalsExcludeBreaks, RefusalsAreOne, BothBreaksAreOfOnePhase}
-use Rattle.vx_scan.specs.declared.errors.Side.{Side}
-use Rattle.vx_scan.specs.declared.errors.Side.TheVariants.{Filter, Projection}
 use Rattle.vx_scan.specs.declared.errors.ScanError.{ScanError}
 use Rattle.vx_scan.specs.declared.errors.ScanError.TheVariants as errors
 use Rattle.vx_scan.specs.declared.reports.ScanReport.{ScanReport}
@@ -34,71 +27,6 @@ use Rattle.vx_scan.specs.declared.reports.ScanReport.{ScanReport}
 -- what holds of the table that is told
 told_here : (held : Option Table) (table : Table) (P : Table → Type 0) → held ≡ Some table → WhereTold held P → P table
 told_here held table P e h = subst (λ (o : Option Table). WhereTold o P) e h
-
--- bytes are read as one tree, and spell one expression
-one_read : (bytes : Bytes) (a b : Wire) → IsRead bytes a → IsRead bytes b → a ≡ b
-one_read bytes a b p q =
-    (one_node a b [] [] p.spelled.spellable q.spelled.spellable (ap (λ (x : Bytes). x ++ []) (sym p.spelled.spelled ∙ q.spelled.spelled))).0
-
-one_spelled : (holds : ExprEncoding → Bool) (bytes : Bytes) (a b : Tree) → SpellsTree holds bytes a → SpellsTree holds bytes b → a ≡ b
-one_spelled holds bytes a b p q =
-    let same : p.0 ≡ q.0 = one_read bytes p.0 q.0 p.1 q.1 in
-    one_built holds q.0 a b (subst (λ (w : Wire). IsBuilt holds w a) same p.2) q.2
-
--- bytes that spell an expression have no refusal
-spelled_is_built : (holds : ExprEncoding → Bool) (bytes : Bytes) (e : Tree) (why : BuildError) → why ≢ builds.NoMemory → SpellsTree holds bytes e → ¬ (SpellsUnbuilt holds bytes why)
-spelled_is_built holds bytes e why n s u =
-    let same : s.0 ≡ u.0 = one_read bytes s.0 u.0 s.1 u.1 in
-    never_both holds u.0 e why (subst (λ (w : Wire). IsBuilt holds w e) same s.2) n u.2
-
-spelled_is_taken : (holds : ExprEncoding → Bool) (side : Side) (bytes : Bytes) (e : Tree) (why : ScanError) → SpellsTree holds bytes e → ¬ (IsTextRefused holds side bytes why)
-spelled_is_taken holds side bytes e (errors.BadWire z) s h = h.1.no_tree s.0 s.1.spelled
-spelled_is_taken holds side bytes e (errors.TooDeep z) s h = s.1.not_deep h.1
-spelled_is_taken holds side bytes e (errors.TooManyNodes z) s h = s.1.not_many h.1
-spelled_is_taken holds side bytes e (errors.UnknownExpr z) s h = spelled_is_built holds bytes e builds.UnknownExpr (λ same. absurd cc) s h.1
-spelled_is_taken holds side bytes e (errors.BadMetadata z) s h = spelled_is_built holds bytes e builds.BadMetadata (λ same. absurd cc) s h.1
-spelled_is_taken holds side bytes e (errors.WrongChildren z) s h = spelled_is_built holds bytes e builds.WrongChildren (λ same. absurd cc) s h.1
-spelled_is_taken holds side bytes e errors.NoMemory s h = h
-spelled_is_taken holds side bytes e (errors.NotStruct z) s h = h
-spelled_is_taken holds side bytes e (errors.NullableSelect z) s h = h
-spelled_is_taken holds side bytes e (errors.UnknownField z) s h = h
-spelled_is_taken holds side bytes e (errors.DuplicateField z) s h = h
-spelled_is_taken holds side bytes e (errors.TypeMismatch z) s h = h
-spelled_is_taken holds side bytes e errors.FilterNotBool s h = h
-spelled_is_taken holds side bytes e errors.Overflow s h = h
-spelled_is_taken holds side bytes e errors.BadCast s h = h
-spelled_is_taken holds side bytes e errors.StoreFault s h = h
-
-both_are_taken : (holds : ExprEncoding → Bool) (ft pt : Bytes) (f p : Tree) (why : ScanError) → SpellBoth holds ft pt f p → ¬ (AreRefused holds ft pt why)
-both_are_taken holds ft pt f p why s (inl h) = spelled_is_taken holds Filter ft f why s.filter_spelled h
-both_are_taken holds ft pt f p why s (inr h) = spelled_is_taken holds Projection pt p why s.projection_spelled h.1
-
-unspelled_so : (holds : ExprEncoding → Bool) (ft pt : Bytes) (f p : Tree) (before after : Seen) (result : Result ScanReport ScanError)
-    → SpellBoth holds ft pt f p → IsUnspelled holds ft pt before after result → IsScanOf [] f p before after result
-unspelled_so holds ft pt f p before after (Ok report) s h = absurd h
-unspelled_so holds ft pt f p before after (Err errors.NoMemory) s h = inl h
-unspelled_so holds ft pt f p before after (Err (errors.BadWire z)) s h = absurd (both_are_taken holds ft pt f p (errors.BadWire z) s h.1)
-unspelled_so holds ft pt f p before after (Err (errors.TooDeep z)) s h = absurd (both_are_taken holds ft pt f p (errors.TooDeep z) s h.1)
-unspelled_so holds ft pt f p before after (Err (errors.TooManyNodes z)) s h = absurd (both_are_taken holds ft pt f p (errors.TooManyNodes z) s h.1)
-unspelled_so holds ft pt f p before after (Err (errors.UnknownExpr z)) s h = absurd (both_are_taken holds ft pt f p (errors.UnknownExpr z) s h.1)
-unspelled_so holds ft pt f p before after (Err (errors.BadMetadata z)) s h = absurd (both_are_taken holds ft pt f p (errors.BadMetadata z) s h.1)
-unspelled_so holds ft pt f p before after (Err (errors.WrongChildren z)) s h = absurd (both_are_taken holds ft pt f p (errors.WrongChildren z) s h.1)
-unspelled_so holds ft pt f p before after (Err (errors.NotStruct z)) s h = absurd (both_are_taken holds ft pt f p (errors.NotStruct z) s h.1)
-unspelled_so holds ft pt f p before after (Err (errors.NullableSelect z)) s h = absurd (both_are_taken holds ft pt f p (errors.NullableSelect z) s h.1)
-unspelled_so holds ft pt f p before after (Err (errors.UnknownField z)) s h = absurd (both_are_taken holds ft pt f p (errors.UnknownField z) s h.1)
-unspelled_so holds ft pt f p before after (Err (errors.DuplicateField z)) s h = absurd (both_are_taken holds ft pt f p (errors.DuplicateField z) s h.1)
-unspelled_so holds ft pt f p before after (Err (errors.TypeMismatch z)) s h = absurd (both_are_taken holds ft pt f p (errors.TypeMismatch z) s h.1)
-unspelled_so holds ft pt f p before after (Err errors.FilterNotBool) s h = absurd (both_are_taken holds ft pt f p errors.FilterNotBool s h.1)
-unspelled_so holds ft pt f p before after (Err errors.Overflow) s h = absurd (both_are_taken holds ft pt f p errors.Overflow s h.1)
-unspelled_so holds ft pt f p before after (Err errors.BadCast) s h = absurd (both_are_taken holds ft pt f p errors.BadCast s h.1)
-unspelled_so holds ft pt f p before after (Err errors.StoreFault) s h = absurd (both_are_taken holds ft pt f p errors.StoreFault s h.1)
-
-pub texts_so : TextsScanAsTheySpell
-texts_so holds ft pt f p before after result s (inl h) = unspelled_so holds ft pt f p before after result s h
-texts_so holds ft pt f p before after result s (inr h) =
-    let one : h.0 ≡ f = one_spelled holds ft h.0 f h.2.filter_spelled s.filter_spelled in
-    let other : h.1 ≡ p = one_spelled holds pt h.1 p h.2.projection_spelled s.projection_spelled in
-    subst (λ (g : Tree). IsScanOf [] g p before after result) one (subst (λ (q : Tree). IsScanOf [] h.0 q before after result) other h.3)
 
 -- the rows
 pub honest_so : HonestScansAreWhole
@@ -293,3 +221,51 @@ pub text_refusals_so : TextRefusalsExcludeBreaks
 text_refusals_so holds ft pt before after other d e r b h (inl k) = unspelled_breaks holds ft pt before other e b k
 text_refusals_so holds ft pt before after other d e r b h (inr k) =
     refusals_so [] k.0 k.1 before after other d e r b (texts_so holds ft pt k.0 k.1 before after (Err d) k.2 h) k.3
+
+-- what is refused is refused whenever it is scanned, but for want of memory
+refused_by : (slots : Slots) (f p : Tree) (before after : Seen) (e : ScanError) (result : Result ScanReport ScanError)
+    → scan_type (row_type before.zones.columns) slots f p ≡ Err e → IsScanOf slots f p before after result → RefusesBy e result
+refused_by slots f p before after e (Ok report) r h = never_refused (scan_type (row_type before.zones.columns) slots f p) (report_view report).ty e h.typed r
+refused_by slots f p before after e (Err errors.Overflow) r h = absurd (never_refused (scan_type (row_type before.zones.columns) slots f p) h.ty e h.typed r)
+refused_by slots f p before after e (Err errors.BadCast) r h = absurd (never_refused (scan_type (row_type before.zones.columns) slots f p) h.ty e h.typed r)
+refused_by slots f p before after e (Err errors.StoreFault) r h = absurd (never_refused (scan_type (row_type before.zones.columns) slots f p) h.ty e h.typed r)
+refused_by slots f p before after e (Err errors.NoMemory) r h = inr refl
+refused_by slots f p before after e (Err errors.FilterNotBool) r h = inl (one_refusal (scan_type (row_type before.zones.columns) slots f p) errors.FilterNotBool e h.1 r)
+refused_by slots f p before after e (Err (errors.BadWire z)) r h = inl (one_refusal (scan_type (row_type before.zones.columns) slots f p) (errors.BadWire z) e h.1 r)
+refused_by slots f p before after e (Err (errors.TooDeep z)) r h = inl (one_refusal (scan_type (row_type before.zones.columns) slots f p) (errors.TooDeep z) e h.1 r)
+refused_by slots f p before after e (Err (errors.TooManyNodes z)) r h = inl (one_refusal (scan_type (row_type before.zones.columns) slots f p) (errors.TooManyNodes z) e h.1 r)
+refused_by slots f p before after e (Err (errors.UnknownExpr z)) r h = inl (one_refusal (scan_type (row_type before.zones.columns) slots f p) (errors.UnknownExpr z) e h.1 r)
+refused_by slots f p before after e (Err (errors.BadMetadata z)) r h = inl (one_refusal (scan_type (row_type before.zones.columns) slots f p) (errors.BadMetadata z) e h.1 r)
+refused_by slots f p before after e (Err (errors.WrongChildren z)) r h = inl (one_refusal (scan_type (row_type before.zones.columns) slots f p) (errors.WrongChildren z) e h.1 r)
+refused_by slots f p before after e (Err (errors.NotStruct z)) r h = inl (one_refusal (scan_type (row_type before.zones.columns) slots f p) (errors.NotStruct z) e h.1 r)
+refused_by slots f p before after e (Err (errors.NullableSelect z)) r h = inl (one_refusal (scan_type (row_type before.zones.columns) slots f p) (errors.NullableSelect z) e h.1 r)
+refused_by slots f p before after e (Err (errors.UnknownField z)) r h = inl (one_refusal (scan_type (row_type before.zones.columns) slots f p) (errors.UnknownField z) e h.1 r)
+refused_by slots f p before after e (Err (errors.DuplicateField z)) r h = inl (one_refusal (scan_type (row_type before.zones.columns) slots f p) (errors.DuplicateField z) e h.1 r)
+refused_by slots f p before after e (Err (errors.TypeMismatch z)) r h = inl (one_refusal (scan_type (row_type before.zones.columns) slots f p) (errors.TypeMismatch z) e h.1 r)
+
+pub refused_types_so : RefusedTypesAreRefused
+refused_types_so = refused_by
+
+unspelled_by : (holds : ExprEncoding → Bool) (ft pt : Bytes) (before after : Seen) (e : ScanError) (result : Result ScanReport ScanError)
+    → AreRefused holds ft pt e → IsUnspelled holds ft pt before after result → RefusesBy e result
+unspelled_by holds ft pt before after e (Ok report) r h = h
+unspelled_by holds ft pt before after e (Err errors.NoMemory) r h = inr refl
+unspelled_by holds ft pt before after e (Err errors.Overflow) r h = inl (one_text_refusal holds ft pt errors.Overflow e h.1 r)
+unspelled_by holds ft pt before after e (Err errors.BadCast) r h = inl (one_text_refusal holds ft pt errors.BadCast e h.1 r)
+unspelled_by holds ft pt before after e (Err errors.StoreFault) r h = inl (one_text_refusal holds ft pt errors.StoreFault e h.1 r)
+unspelled_by holds ft pt before after e (Err errors.FilterNotBool) r h = inl (one_text_refusal holds ft pt errors.FilterNotBool e h.1 r)
+unspelled_by holds ft pt before after e (Err (errors.BadWire z)) r h = inl (one_text_refusal holds ft pt (errors.BadWire z) e h.1 r)
+unspelled_by holds ft pt before after e (Err (errors.TooDeep z)) r h = inl (one_text_refusal holds ft pt (errors.TooDeep z) e h.1 r)
+unspelled_by holds ft pt before after e (Err (errors.TooManyNodes z)) r h = inl (one_text_refusal holds ft pt (errors.TooManyNodes z) e h.1 r)
+unspelled_by holds ft pt before after e (Err (errors.UnknownExpr z)) r h = inl (one_text_refusal holds ft pt (errors.UnknownExpr z) e h.1 r)
+unspelled_by holds ft pt before after e (Err (errors.BadMetadata z)) r h = inl (one_text_refusal holds ft pt (errors.BadMetadata z) e h.1 r)
+unspelled_by holds ft pt before after e (Err (errors.WrongChildren z)) r h = inl (one_text_refusal holds ft pt (errors.WrongChildren z) e h.1 r)
+unspelled_by holds ft pt before after e (Err (errors.NotStruct z)) r h = inl (one_text_refusal holds ft pt (errors.NotStruct z) e h.1 r)
+unspelled_by holds ft pt before after e (Err (errors.NullableSelect z)) r h = inl (one_text_refusal holds ft pt (errors.NullableSelect z) e h.1 r)
+unspelled_by holds ft pt before after e (Err (errors.UnknownField z)) r h = inl (one_text_refusal holds ft pt (errors.UnknownField z) e h.1 r)
+unspelled_by holds ft pt before after e (Err (errors.DuplicateField z)) r h = inl (one_text_refusal holds ft pt (errors.DuplicateField z) e h.1 r)
+unspelled_by holds ft pt before after e (Err (errors.TypeMismatch z)) r h = inl (one_text_refusal holds ft pt (errors.TypeMismatch z) e h.1 r)
+
+pub refused_texts_so : RefusedTextsAreRefused
+refused_texts_so holds ft pt before after e result r (inl h) = unspelled_by holds ft pt before after e result r h
+refused_texts_so holds ft pt before after e result r (inr h) = absurd (both_are_taken holds ft pt h.0 h.1 e h.2 r)

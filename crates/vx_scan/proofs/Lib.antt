@@ -7,5 +7,6 @@ pub mod AmongLemmas
 pub mod StepLemmas
 pub mod ScanLemmas
 pub mod AskedLemmas
+pub mod TextLemmas
 pub mod LawLemmas
 pub mod CutLemmas

@@ -1,5 +1,5 @@
 -- What follows from how scans end, whatever the store.
-use Rattle.std.specs.Prelude.{◌≡◌, ◌<◌, ◌-◌, ◌^◌, Bool, true, false, not, ◌&&◌, ◌||◌, nat_eq, List, [], ◌∷◌, Some, Result, Ok, Err}
+use Rattle.std.specs.Prelude.{◌≡◌, ◌⊎◌, ◌<◌, ◌-◌, ◌^◌, Bool, true, false, not, ◌&&◌, ◌||◌, nat_eq, List, [], ◌∷◌, Some, Result, Ok, Err}
 use Rattle.std.specs.List.{list_any, list_all}
 use Rattle.std.specs.Str.{bytes_eq}
 use Rattle.vx_dtype.specs.Types.{Bytes, Ty}
@@ -14,7 +14,7 @@ use Rattle.vx_semantics.specs.Scans.{rows_of, kept_blocks, phases_of, some_phase
 use Rattle.vx_io.specs.Counts.{one_more}
 use Rattle.vx_wire.specs.declared.encodings.ExprEncoding.{ExprEncoding}
 use Rattle.vx_scan.specs.Stores.{Read, Seen, IsSameStore}
-use Rattle.vx_scan.specs.Texts.{SpellBoth}
+use Rattle.vx_scan.specs.Texts.{SpellBoth, AreRefused}
 use Rattle.vx_scan.specs.Reports.{Report, report_view}
 use Rattle.vx_scan.specs.Scanning.{scan_type, asked_reads, AreAmong, IsReport, IsScanOf, IsScan}
 use Rattle.vx_scan.specs.declared.errors.ScanError.{ScanError}
@@ -97,6 +97,23 @@ TextScansBreakWhereAPhaseBreaks =
     → SpellBoth holds filter_text projection_text filter_expr projection → IsQuietScan [] filter_expr projection table before after
     → some_phase_breaks table before.zones [] filter_expr projection ≡ true → IsScan holds filter_text projection_text before after result
     → BreaksUnlessNoMemory result
+
+-- this refusal, or no memory to come to it
+abbrev pub RefusesBy : ScanError → Result ScanReport ScanError → Type 0
+RefusesBy e (Ok report) = ⊥
+RefusesBy e (Err d) = (d ≡ e) ⊎ (d ≡ errors.NoMemory)
+
+-- where the expressions' typing refuses, and where the texts do, there is that refusal
+abbrev pub RefusedTypesAreRefused : Type 0
+RefusedTypesAreRefused =
+    (slots : Slots) (filter_expr projection : Tree) (before after : Seen) (e : ScanError) (result : Result ScanReport ScanError)
+    → scan_type (row_type before.zones.columns) slots filter_expr projection ≡ Err e → IsScanOf slots filter_expr projection before after result
+    → RefusesBy e result
+
+abbrev pub RefusedTextsAreRefused : Type 0
+RefusedTextsAreRefused =
+    (holds : ExprEncoding → Bool) (filter_text projection_text : Bytes) (before after : Seen) (e : ScanError) (result : Result ScanReport ScanError)
+    → AreRefused holds filter_text projection_text e → IsScan holds filter_text projection_text before after result → RefusesBy e result
 
 -- whether an error refuses the expressions before the first block, and whether a phase that breaks gives it
 abbrev pub is_refusal : ScanError → Bool

@@ -6,6 +6,7 @@ ghost use Rattle.vx_scan.specs.ScanLaws.{FaultlessStoresCountNoFault, UnbrokenSc
 ghost use Rattle.vx_scan.specs.ScanLaws.{ScansBreakWhereAPhaseBreaks, TextScansBreakWhereAPhaseBreaks};
 ghost use Rattle.vx_scan.specs.ScanLaws.{ReportsExcludeErrors, RefusalsExcludeBreaks, RefusalsAreOne, BothBreaksAreOfOnePhase};
 ghost use Rattle.vx_scan.specs.ScanLaws.{TextReportsExcludeErrors, TextRefusalsExcludeBreaks};
+ghost use Rattle.vx_scan.specs.ScanLaws.{RefusedTypesAreRefused, RefusedTextsAreRefused};
 ghost use Rattle.vx_scan.specs.ScanLaws.{ReadsAreAsked, ReadsAreDistinct};
 
 /// Two texts that spell expressions are scanned as these are, without slots: no two texts spell two pairs.
@@ -34,6 +35,13 @@ pub fn unbroken_scans_report()
 pub fn scan_breaks_where_a_phase_breaks()
     ensures exprs { ScansBreakWhereAPhaseBreaks }
     ensures texts { TextScansBreakWhereAPhaseBreaks }
+{}
+
+/// Where the typing of the expressions refuses, a scan gives that refusal, or there was no memory; and so where the texts are refused, which are so for
+/// one reason at most.
+pub fn refused_scans_refuse()
+    ensures types { RefusedTypesAreRefused }
+    ensures texts { RefusedTextsAreRefused }
 {}
 
 /// Of the ends of a scan over a told table, a report, a refusal before the first block and a break exclude one another, as do two refusals;

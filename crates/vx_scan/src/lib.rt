@@ -10,7 +10,7 @@ mod tables;
 
 pub use errors::{ScanError, Side, StoreError, TableError};
 pub use laws::{
-    faultless_stores_count_no_fault, honest_scans_are_whole, reads_are_asked,
+    faultless_stores_count_no_fault, honest_scans_are_whole, reads_are_asked, refused_scans_refuse,
     scan_breaks_where_a_phase_breaks, scan_ends_exclude, scans_of_runs, texts_scan_as_they_spell,
     unbroken_scans_report,
 };
