@@ -10,3 +10,13 @@ pub mod AskedLemmas
 pub mod TextLemmas
 pub mod LawLemmas
 pub mod CutLemmas
+pub mod NarrowLemmas
+pub mod PushLemmas
+pub mod ReadLemmas
+pub mod ColumnLemmas
+pub mod PartLemmas
+pub mod BlockRunLemmas
+pub mod PrepareLemmas
+pub mod GivenLemmas
+pub mod FilterLemmas
+pub mod StandLemmas

@@ -6,6 +6,7 @@ pub mod StoreAnswers
 pub mod Texts
 pub mod Scanning
 pub mod Runs
+pub mod Steps
 pub mod Reports
 pub mod ScanLaws
 pub mod Cutting

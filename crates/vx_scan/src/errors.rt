@@ -25,7 +25,7 @@ pub enum TableError {
 }
 
 /// One of the expressions of a request.
-#[derive(PartialEq, Eq, Debug, Drop)]
+#[derive(Clone, Copy, PartialEq, Eq, Debug)]
 pub enum Side {
     /// The filter.
     Filter,

@@ -1,10 +1,16 @@
 //! Scans of a table, and the stores that hold its columns.
 #![tactic(auto)]
 
+mod block_scans;
+mod decoding;
 mod errors;
+mod filtering;
 mod laws;
 mod memory_store;
+mod preparing;
+mod reading;
 mod reports;
+mod scans;
 mod stores;
 mod tables;
 
@@ -16,4 +22,5 @@ pub use laws::{
 };
 pub use memory_store::MemoryStore;
 pub use reports::{BlockNumbers, RowValues, ScanReport};
+pub use scans::{scan, scan_exprs};
 pub use stores::{ColumnStore, ReadEntry};

@@ -1,0 +1,130 @@
+// The scan of one block: its reads, and the rows that it gives.
+ghost use Rattle.std.specs.Prelude.{◌≡◌, ◌<◌, nat_eq, true, length, map, ◌++◌, IfOk};
+ghost use Rattle.std.specs.List.{list_all};
+ghost use Rattle.vx_dtype.specs.Fits.{fits};
+ghost use Rattle.vx_dtype.specs.RawViews.{raw_view};
+ghost use Rattle.vx_dtype.specs.TypeRules.{is_bool_ty};
+ghost use Rattle.vx_dtype.specs.TypeViews.{type_view};
+ghost use Rattle.vx_dtype.specs.Types.{Ty};
+ghost use Rattle.vx_column.specs.Columns.{row_at, seen, seen_rows, values_fit};
+ghost use Rattle.vx_expr.specs.Trees.{Tree};
+ghost use Rattle.vx_laws_simplifying.specs.Narrowing.{narrows};
+ghost use Rattle.vx_semantics.specs.Scans.{reads_in, further_columns, matching_rows, block_rows};
+ghost use Rattle.vx_semantics.specs.Tables.{row_type};
+ghost use Rattle.vx_scan.specs.Stores.{WhereTold, AgreesWith, IsSameStore};
+ghost use Rattle.vx_scan.specs.Runs.{RunsBlock};
+ghost use Rattle.vx_scan.specs.Steps.{IsPreparedScan, kept_column, RunsPart, IsFiltered, AddsToldRows};
+
+use crate::errors::ScanError;
+use crate::filtering::{FilteredBlock, evaluated, filter_block};
+use crate::preparing::PreparedScan;
+use crate::reading::{block_length, read_columns};
+use crate::stores::ColumnStore;
+use std::alloc::Global;
+use vx_column::ColumnRef;
+use vx_dtype::{Mem, Scalar, ScalarValue};
+
+/// Scans a block that is kept: reads the columns that the filter asks and evaluates it; where it is true at some row, reads the further columns
+/// that the projection asks, evaluates it at these rows alone, and puts its values behind the rows.
+pub(crate) fn scan_block<S: ColumnStore>(
+    alloc: Global,
+    scan: &PreparedScan,
+    slots: &[Option<Scalar>],
+    store: &mut S,
+    block: u32,
+    rows: &mut Vec<ScalarValue>,
+) -> Result<(), ScanError>
+    requires prepared { (f : Tree) × (p : Tree) × IsPreparedScan (S.seen store.old).zones slots.now f p scan.now }
+    requires block { block < length (S.seen store.old).zones.lengths }
+    requires fit { values_fit (type_view scan.now.projection.dtype) rows.old.items ≡ true }
+    ensures same { IsSameStore (S.seen store.old) (S.seen store.new) }
+    ensures runs { (f p : Tree) → IsPreparedScan (S.seen store.old).zones slots.now f p scan.now →
+        RunsBlock slots.now f p block (S.seen store.old) (S.seen store.new) (seen_rows (type_view scan.now.projection.dtype) rows.old.items)
+        (seen_rows (type_view scan.now.projection.dtype) rows.new.items) result }
+    ensures fit { IfOk result (λ _. values_fit (type_view scan.now.projection.dtype) rows.new.items ≡ true) }
+{
+    let len = block_length(store.zones(), block);
+    let filtered = filter_block(alloc, scan, slots, store, block, len)?;
+    if filtered.count == 0 {
+        return Ok(());
+    }
+    project_block(alloc, scan, slots, store, block, &filtered, rows)
+}
+
+/// Reads the columns of a filtered block that the projection asks and the filter doesn't, in order, evaluates the projection at the rows at which
+/// the filter is true, and puts its values behind the rows.
+fn project_block<S: ColumnStore>(
+    alloc: Global,
+    scan: &PreparedScan,
+    slots: &[Option<Scalar>],
+    store: &mut S,
+    block: u32,
+    filtered: &FilteredBlock,
+    rows: &mut Vec<ScalarValue>,
+) -> Result<(), ScanError>
+    requires prepared { (f : Tree) × (p : Tree) × IsPreparedScan (S.seen store.old).zones slots.now f p scan.now
+        × IsFiltered slots.now f scan.now.filter.columns block (S.seen store.old) filtered.now }
+    requires agrees { WhereTold (S.seen store.old).held (AgreesWith (S.seen store.old).zones) }
+    requires block { block < length (S.seen store.old).zones.lengths }
+    requires fit { values_fit (type_view scan.now.projection.dtype) rows.old.items ≡ true }
+    ensures same { IsSameStore (S.seen store.old) (S.seen store.new) }
+    ensures runs { (f p : Tree) → IsPreparedScan (S.seen store.old).zones slots.now f p scan.now →
+        IsFiltered slots.now f scan.now.filter.columns block (S.seen store.old) filtered.now →
+        let t = row_type (S.seen store.old).zones.columns in
+        RunsPart slots.now p (reads_in block (further_columns t f p)) block (matching_rows t slots.now f) (S.seen store.old) (S.seen store.new) result }
+    ensures rows { (f p : Tree) → IsPreparedScan (S.seen store.old).zones slots.now f p scan.now →
+        IsFiltered slots.now f scan.now.filter.columns block (S.seen store.old) filtered.now →
+        let t = row_type (S.seen store.old).zones.columns in let u = type_view scan.now.projection.dtype in
+        WhereTold (S.seen store.old).held (AddsToldRows (block_rows t slots.now f p) block (seen_rows u rows.old.items) (seen_rows u rows.new.items) result) }
+    ensures fit { IfOk result (λ _. values_fit (type_view scan.now.projection.dtype) rows.new.items ≡ true) }
+{
+    let columns = read_columns(
+        alloc,
+        store,
+        block,
+        scan.projection.columns().as_slice(),
+        scan.filter.columns().as_slice(),
+        filtered.columns.as_slice(),
+    )?;
+    let kept = kept_columns(alloc, columns.as_slice(), &filtered.keep)?;
+    let values = evaluated(alloc, &scan.projection, kept.as_slice(), filtered.count, slots)?;
+    push_values(alloc, &values, rows)?;
+    Ok(())
+}
+
+/// The columns, each at the rows at which another one is true.
+fn kept_columns(alloc: Global, columns: &[ColumnRef], keep: &ColumnRef) -> Mem<Vec<ColumnRef>>
+    requires mask { is_bool_ty keep.now.ty ≡ true }
+    requires lengths { list_all (λ c. nat_eq (length c.rows) (length keep.now.rows)) columns.now ≡ true }
+    ensures { IfOk result (λ kept. kept.items ≡ map (kept_column keep.now.rows) columns.now) }
+{
+    let mut kept = Vec::new(alloc);
+    for i in 0..columns.len() {
+        kept.push(columns[i].filter(alloc, keep)?)?;
+    }
+    Ok(kept)
+}
+
+/// Puts the values of a column behind rows: they are the same values at any type that is the column's but perhaps more nullable.
+fn push_values(alloc: Global, column: &ColumnRef, rows: &mut Vec<ScalarValue>) -> Mem<()>
+    ensures fit { (u : Ty) → narrows column.now.ty u ≡ true → values_fit u rows.old.items ≡ true →
+        IfOk result (λ _. values_fit u rows.new.items ≡ true) }
+    ensures rows { (u : Ty) → narrows column.now.ty u ≡ true →
+        IfOk result (λ _. seen_rows u rows.new.items ≡ seen_rows u rows.old.items ++ column.now.rows) }
+{
+    for i in 0..column.len() {
+        let value = value_at(alloc, column, i)?;
+        rows.push(value)?;
+    }
+    Ok(())
+}
+
+/// The value at this row, counted from 0.
+fn value_at(alloc: Global, column: &ColumnRef, i: usize) -> Mem<ScalarValue>
+    requires { i < length column.now.rows }
+    ensures fit { IfOk result (λ v. fits (raw_view v) column.now.ty ≡ true) }
+    ensures value { IfOk result (λ v. seen column.now.ty v ≡ row_at column.now i) }
+{
+    let scalar = column.scalar_at(alloc, i)?;
+    Ok(scalar.value().clone()?)
+}
