@@ -13,7 +13,6 @@ use Rattle.vx_semantics.specs.Breaks.{Cause, by_sum, by_cast}
 use Rattle.vx_semantics.specs.Asked.{asked_columns}
 use Rattle.vx_semantics.specs.Scans.{Phase, reads_in, further_columns, matching_rows, block_rows, block_phases, has_rows}
 use Rattle.vx_semantics.specs.Tables.{Table, Zones, row_type}
-use Rattle.vx_io.specs.Counts.{one_more}
 use Rattle.vx_scan.specs.Stores.{Read, Seen, WhereTold, AgreesWith, IsSameStore}
 use Rattle.vx_scan.specs.Scanning.{asks_breaking}
 use Rattle.vx_scan.specs.Runs.{Runs, block_asked, FailedAmong, EndsBlock, AddsRows, RunsBlock, RunsBlockOf}
@@ -24,7 +23,7 @@ use Rattle.vx_scan.proofs.AmongLemmas.{among_first, among_next}
 use Rattle.vx_scan.proofs.ColumnLemmas.{some_same, matching_length}
 use Rattle.vx_scan.proofs.ReadLemmas.{one_more_later}
 use Rattle.vx_scan.proofs.RunLemmas.{logged, run_on, run_more}
-use Rattle.vx_scan.proofs.ScanLemmas.{same_after, told_so, told_both}
+use Rattle.vx_scan.proofs.ScanLemmas.{same_after, told_both}
 
 -- how the last phase that ran ends is how the block ends: what was made and what is left are reads of the block
 ends_block : (f p g : Tree) (block : ℕ) (a m b : Seen) (made left behind : List Read) (result : Result (Unit {0}) ScanError) → m.failed ≡ a.failed → a.faults ≤ m.faults
@@ -34,8 +33,7 @@ ends_block f p g block a m b made left behind (Ok u) k later asks all h = h.1 �
 ends_block f p g block a m b made left behind (Err errors.Overflow) k later asks all h = (h.1 ∙ k, asks by_sum h.2)
 ends_block f p g block a m b made left behind (Err errors.BadCast) k later asks all h = (h.1 ∙ k, asks by_cast h.2)
 ends_block f p g block a m b made left behind (Err errors.StoreFault) k later asks all h =
-    let next : block_asked a.zones f p block ≡ made ++ (h.0 ∷ (h.1 ++ behind)) = all ∙ ap (λ (rs : List Read). made ++ (rs ++ behind)) h.4 in
-    (
+    let next : block_asked a.zones f p block ≡ made ++ (h.0 ∷ (h.1 ++ behind)) = all ∙ ap (λ (rs : List Read). made ++ (rs ++ behind)) h.4 in (
       one_more_later a.faults m.faults b.faults later h.3,
       subst (λ (read : Option Read). FailedAmong (block_asked a.zones f p block) made read) (sym h.2) (among_next made (h.1 ++ behind) (block_asked a.zones f p block) h.0 next),
     )
@@ -84,14 +82,14 @@ block_stops slots f p block a b was now e same agrees h =
       told = told_both a.held (AgreesWith a.zones) (RunsTold t slots f (reads_in block (asked_columns t f)) block (λ rows. rows) a b (Err e))
           (λ table. RunsBlockOf slots f p block table a b was now (Err e))
           (λ table agree k. record {
-          held_rows = k.0;
-          there = k.1;
-          ran = subst (λ (fs : Fields). Runs (row_type fs) slots (block_phases (row_type fs) slots f p (block, k.0)) a.log b.log b.failed (Err e)) (sym agree.columns)
-              (run_more t slots (record { expression = f; reads = reads_in block (asked_columns t f); rows = k.0 } ∷ [])
-              (cond (has_rows (matching_rows t slots f k.0)) (record { expression = p; reads = ys; rows = matching_rows t slots f k.0 } ∷ []) [])
-              a.log b.log b.failed e k.2);
-          adds = tt;
-        })
+            held_rows = k.0;
+            there = k.1;
+            ran = subst (λ (fs : Fields). Runs (row_type fs) slots (block_phases (row_type fs) slots f p (block, k.0)) a.log b.log b.failed (Err e)) (sym agree.columns)
+                (run_more t slots (record { expression = f; reads = reads_in block (asked_columns t f); rows = k.0 } ∷ [])
+                (cond (has_rows (matching_rows t slots f k.0)) (record { expression = p; reads = ys; rows = matching_rows t slots f k.0 } ∷ []) [])
+                a.log b.log b.failed e k.2);
+            adds = tt;
+          })
           agrees h.told;
     }
 

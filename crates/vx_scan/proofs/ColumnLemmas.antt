@@ -1,5 +1,5 @@
 -- The columns of a block: between two states of a store, of their types and lengths, at the rows of the block, and at some of these.
-use Rattle.std.proofs.Common.{◌≡◌, refl, ap, ◌∙◌, sym, ℕ, zero, suc, ◌+◌, ◌<◌, Bool, true, false, cond, not, ◌||◌, ◌&&◌, nat_eq, nat_lt, Option, Some, None, List, [], ◌∷◌, ◌++◌, map, length, take, get_or, option_map, arith, subst}
+use Rattle.std.proofs.Common.{◌≡◌, refl, ap, ◌∙◌, sym, ℕ, zero, suc, ◌+◌, ◌<◌, Bool, true, false, cond, not, ◌||◌, nat_lt, Option, Some, None, List, [], ◌∷◌, ◌++◌, map, length, take, get_or, option_map, arith, subst}
 use Rattle.std.specs.List.{AllZip, filter, list_all, list_any, slice_get, position, position_or_len}
 use Rattle.std.specs.Str.{bytes_eq}
 use Rattle.std.proofs.lemmas.Bool.{and_parts, and_from}

@@ -1,11 +1,10 @@
 -- The phases of a block, from what their code reads and evaluates.
-use Rattle.std.proofs.Common.{◌≡◌, refl, ap, ◌∙◌, sym, ℕ, ◌<◌, Bool, true, false, cond, nat_eq, Option, Some, None, List, [], ◌∷◌, ◌++◌, map, length, Result, Ok, Err, arith, subst, zero, suc}
-use Rattle.std.specs.List.{filter, list_all, slice_get}
+use Rattle.std.proofs.Common.{◌≡◌, refl, ap, ◌∙◌, sym, ℕ, ◌<◌, true, false, nat_eq, Some, List, [], ◌∷◌, map, length, Result, arith, subst, zero, suc}
+use Rattle.std.specs.List.{list_all, slice_get}
 use Rattle.std.proofs.lemmas.Bool.{and_from}
 use Rattle.std.proofs.lemmas.Bool.Decides.{nat_tests}
-use Rattle.vx_dtype.specs.TypeRules.{has_name, field_names, no_name_twice, is_bool_ty}
-use Rattle.vx_dtype.specs.TypeViews.{type_view}
-use Rattle.vx_dtype.specs.Types.{Bytes, Ty, Fields}
+use Rattle.vx_dtype.specs.TypeRules.{has_name, field_names}
+use Rattle.vx_dtype.specs.Types.{Bytes, Fields}
 use Rattle.vx_column.specs.Columns.{Column, kept_rows}
 use Rattle.vx_expr.specs.Trees.{Tree}
 use Rattle.vx_semantics.specs.Asked.{asked_columns}
@@ -14,12 +13,12 @@ use Rattle.vx_semantics.specs.Scans.{reads_in, further_columns}
 use Rattle.vx_semantics.specs.Tables.{row_type}
 use Rattle.vx_prepare.specs.Preparing.{IsPrepared, AreOf, CanBeOver}
 use Rattle.vx_prepare.specs.declared.prepared.PreparedExpr.{PreparedExpr}
-use Rattle.vx_scan.specs.Stores.{Read, Seen}
+use Rattle.vx_scan.specs.Stores.{Seen}
 use Rattle.vx_scan.specs.Steps.{MakesReads, further_names, AreColumnsOf, IsPreparedScan, IsFiltered, kept_column}
 use Rattle.vx_scan.specs.declared.errors.ScanError.{ScanError}
 use Rattle.vx_scan.specs.declared.filtering.FilteredBlock.{FilteredBlock}
 use Rattle.vx_scan.specs.declared.preparing.PreparedScan.{PreparedScan}
-use Rattle.vx_scan.proofs.ColumnLemmas.{columns_are, kept_are, zipped_length, some_same}
+use Rattle.vx_scan.proofs.ColumnLemmas.{columns_are, kept_are, some_same}
 use Rattle.vx_scan.proofs.ReadLemmas.{none_known, picked_are_there}
 
 -- a place that has an item is within

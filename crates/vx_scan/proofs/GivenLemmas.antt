@@ -1,9 +1,8 @@
 -- What expressions give over the columns of a block, and at the rows at which its filter is true.
-use Rattle.std.proofs.Common.{◌≡◌, refl, ap, ◌∙◌, sym, ℕ, true, Option, Some, None, List, [], ◌++◌, map, length, Result, Ok, Err, IfOk, subst}
+use Rattle.std.proofs.Common.{◌≡◌, refl, ap, ◌∙◌, sym, ℕ, true, Option, Some, None, List, ◌++◌, map, length, Result, Ok, Err, subst}
 use Rattle.std.specs.List.{slice_get}
-use Rattle.vx_dtype.specs.TypeRules.{no_name_twice, is_bool_ty}
-use Rattle.vx_dtype.specs.TypeViews.{type_view}
-use Rattle.vx_dtype.specs.Types.{Bytes, Ty, Fields}
+use Rattle.vx_dtype.specs.TypeRules.{no_name_twice}
+use Rattle.vx_dtype.specs.Types.{Bytes, Fields}
 use Rattle.vx_dtype.specs.Values.{Val}
 use Rattle.vx_column.specs.Columns.{Column, kept_rows}
 use Rattle.vx_column.specs.declared.columns.ColumnRef.{ColumnRef}

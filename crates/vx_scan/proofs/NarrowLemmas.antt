@@ -1,5 +1,5 @@
 -- Raw values of a type that is another but perhaps less nullable are values of the other, and stand for the same there.
-use Rattle.std.proofs.Common.{◌≡◌, refl, ap, ◌∙◌, sym, ℤ, Bool, true, false, cond, ◌&&◌}
+use Rattle.std.proofs.Common.{◌≡◌, refl, ap, ◌∙◌, sym, ℤ, Bool, true, cond, ◌&&◌}
 use Rattle.std.specs.Str.{bytes_eq}
 use Rattle.std.proofs.lemmas.Bool.{and_parts, and_from}
 use Rattle.std.proofs.lemmas.Slice.Eq.{bytes_eq-Decides}
@@ -9,8 +9,8 @@ use Rattle.vx_dtype.specs.EqualLaws.{ptype_decides}
 use Rattle.vx_dtype.specs.Fits.{in_range, int_fits, fits, all_fit, fields_fit}
 use Rattle.vx_dtype.specs.TypeRules.{is_nullable, nullability_of, same_ptype, is_bool_ty, is_text_ty}
 use Rattle.vx_dtype.specs.Types.{Bytes, Ty, bool_ty, int_ty, text_ty, list_ty, struct_ty, Fields, no_fields, field}
-use Rattle.vx_dtype.specs.Values.{Raw, raw_null, raw_bool, raw_int, raw_text, raw_list, raw_struct, Raws, no_raws, raw, Val, null_val, int_val, list_val, struct_val, fault}
-use Rattle.vx_dtype.specs.Values.{Vals, val, Members, member, bool_at, int_at, text_at, as_many, valued, all_valued, members_valued}
+use Rattle.vx_dtype.specs.Values.{Raw, raw_null, raw_bool, raw_int, raw_text, raw_list, raw_struct, Raws, no_raws, raw, int_val, list_val, struct_val, fault}
+use Rattle.vx_dtype.specs.Values.{val, member, bool_at, int_at, text_at, as_many, valued, all_valued, members_valued}
 use Rattle.vx_laws_simplifying.specs.Narrowing.{no_more_nullable, narrows, narrow_fields}
 
 nullable_more : (n m : Nullability) → no_more_nullable n m ≡ true → is_nullable n ≡ true → is_nullable m ≡ true

@@ -1,29 +1,22 @@
 -- The runs of the phases of a block: what was read and what was evaluated, and how both phases make the block's run.
-use Rattle.std.proofs.Common.{◌≡◌, refl, ap, ◌∙◌, sym, ℕ, ◌≤◌, Bool, true, false, ◌||◌, cond, Option, Some, None, List, [], ◌∷◌, ◌++◌, map, length, Result, Ok, Err, arith, subst}
-use Rattle.std.specs.List.{list_any, slice_get}
-use Rattle.std.proofs.lemmas.Bool.{or_left, or_right}
-use Rattle.std.proofs.lemmas.List.{append_assoc, append-nil}
+use Rattle.std.proofs.Common.{◌≡◌, refl, sym, ℕ, Some, List, [], ◌∷◌, Result, Ok, Err}
+use Rattle.std.specs.List.{slice_get}
+use Rattle.std.proofs.lemmas.List.{append-nil}
 use Rattle.vx_dtype.specs.Types.{Ty}
 use Rattle.vx_dtype.specs.Values.{Val}
 use Rattle.vx_column.specs.declared.columns.ColumnRef.{ColumnRef}
 use Rattle.vx_expr.specs.Trees.{Tree}
 use Rattle.vx_semantics.specs.Meaning.{Slots}
-use Rattle.vx_semantics.specs.Breaks.{Cause, by_sum, by_cast}
-use Rattle.vx_semantics.specs.Asked.{asked_columns}
-use Rattle.vx_semantics.specs.Scans.{Phase, reads_in, further_columns, matching_rows, block_rows, block_phases, has_rows}
-use Rattle.vx_semantics.specs.Tables.{Table, Zones, row_type}
-use Rattle.vx_io.specs.Counts.{one_more}
-use Rattle.vx_scan.specs.Stores.{Read, Seen, WhereTold, AgreesWith, IsSameStore}
-use Rattle.vx_scan.specs.Scanning.{asks_breaking}
-use Rattle.vx_scan.specs.Runs.{Runs, block_asked, FailedAmong, EndsBlock, AddsRows, RunsBlock, RunsBlockOf}
-use Rattle.vx_scan.specs.Steps.{ending, MakesReads, GivesAsked, BreaksAsAsked, EndsPart, RunsTold, RunsPart, AddsToldRows}
+use Rattle.vx_semantics.specs.Scans.{Phase}
+use Rattle.vx_semantics.specs.Tables.{row_type}
+use Rattle.vx_scan.specs.Stores.{Read, Seen, WhereTold}
+use Rattle.vx_scan.specs.Steps.{ending, MakesReads, GivesAsked, BreaksAsAsked, RunsTold, RunsPart}
 use Rattle.vx_scan.specs.declared.errors.ScanError.{ScanError}
 use Rattle.vx_scan.specs.declared.errors.ScanError.TheVariants as errors
-use Rattle.vx_scan.proofs.AmongLemmas.{among_first, among_next}
-use Rattle.vx_scan.proofs.ColumnLemmas.{IsBlock, some_same}
+use Rattle.vx_scan.proofs.ColumnLemmas.{IsBlock}
 use Rattle.vx_scan.proofs.ReadLemmas.{by_reads}
-use Rattle.vx_scan.proofs.RunLemmas.{logged, run_on, run_more, phase_ran, phase_broke_by_sum, phase_broke_by_cast, phase_read_failed, phase_read_partly}
-use Rattle.vx_scan.proofs.ScanLemmas.{told_so, told_both}
+use Rattle.vx_scan.proofs.RunLemmas.{phase_ran, phase_broke_by_sum, phase_broke_by_cast, phase_read_failed, phase_read_partly}
+use Rattle.vx_scan.proofs.ScanLemmas.{told_so}
 
 -- the phase of an expression with these reads at these rows
 abbrev phase_of : Tree → List Read → List Val → Phase

@@ -1,17 +1,15 @@
 -- What a scan makes ready, against its type.
-use Rattle.std.proofs.Common.{◌≡◌, refl, ap, ◌∙◌, sym, Bool, true, false, cond, not, Option, Some, None, List, Result, Ok, Err, subst, IfOk}
-use Rattle.std.specs.List.{list_all}
-use Rattle.std.specs.Prelude.{is_some}
+use Rattle.std.proofs.Common.{◌≡◌, refl, ap, ◌∙◌, Bool, true, false, cond, not, Option, Some, None, Result, Ok, Err, subst}
 use Rattle.vx_dtype.specs.TypeRules.{fields_of, is_bool_ty, no_name_twice}
 use Rattle.vx_dtype.specs.TypeViews.{type_view}
-use Rattle.vx_dtype.specs.Types.{Bytes, Ty, Fields}
+use Rattle.vx_dtype.specs.Types.{Ty}
 use Rattle.vx_expr.specs.Trees.{Tree}
 use Rattle.vx_semantics.specs.Meaning.{Slots}
 use Rattle.vx_semantics.specs.Slots.{slots_fit}
 use Rattle.vx_semantics.specs.Tables.{Zones, row_type}
 use Rattle.vx_semantics.specs.Typing.{Refusal, typed_of, and_then, unless, type_mismatch}
 use Rattle.vx_eval.specs.Evaluating.{checked_type}
-use Rattle.vx_zones.specs.Zoning.{broken_rule, are_shallow, type_of_statistic, distinct_statistics, counts_blocks, has_its_type}
+use Rattle.vx_zones.specs.Zoning.{broken_rule}
 use Rattle.vx_zones.specs.declared.errors.ZoneError.{ZoneError}
 use Rattle.vx_zones.specs.declared.errors.ZoneError.TheVariants as zone_errors
 use Rattle.vx_prepare.specs.declared.prepared.PreparedExpr.{PreparedExpr}

@@ -1,5 +1,5 @@
 -- Values of a column put behind rows of a type that the column's narrows.
-use Rattle.std.proofs.Common.{◌≡◌, refl, ap, ◌∙◌, sym, ℕ, ◌+◌, ◌<◌, ◌≤◌, Bool, true, ◌&&◌, List, [], ◌∷◌, ◌++◌, map, length, drop, get_or}
+use Rattle.std.proofs.Common.{◌≡◌, refl, ap, ◌∙◌, sym, ℕ, ◌+◌, ◌<◌, ◌≤◌, true, List, [], ◌∷◌, ◌++◌, length, drop, get_or}
 use Rattle.std.proofs.lemmas.Bool.{and_parts, and_from}
 use Rattle.std.proofs.lemmas.List.{drop_more, drop_all, append-nil}
 use Rattle.vx_dtype.specs.declared.values.ScalarValue.{ScalarValue}
@@ -32,14 +32,13 @@ pub pushed : (t : Ty) (column : List Val) (i : ℕ) (start old new : List Scalar
 pushed t column i start old new v l e f s before = λ u n.
     let has = before u n in
     let value : seen u v ≡ get_or column i null_val = sym (narrow_valued (raw_view v) t u n) ∙ s in
-    let more : drop i column ≡ get_or column i null_val ∷ drop (i + 1) column = drop_more column i null_val l in
-    (
+    let more : drop i column ≡ get_or column i null_val ∷ drop (i + 1) column = drop_more column i null_val l in (
       λ k. ap (values_fit u) e ∙ fit_more u old v (has.0 k) (narrow_fits (raw_view v) t u n f),
       ap (λ (vs : List ScalarValue). seen_rows u vs ++ drop (i + 1) column) e
-      ∙ seen_more u old v (drop (i + 1) column)
-      ∙ ap (λ (x : Val). seen_rows u old ++ (x ∷ drop (i + 1) column)) value
-      ∙ ap (λ (xs : List Val). seen_rows u old ++ xs) (sym more)
-      ∙ has.1,
+          ∙ seen_more u old v (drop (i + 1) column)
+          ∙ ap (λ (x : Val). seen_rows u old ++ (x ∷ drop (i + 1) column)) value
+          ∙ ap (λ (xs : List Val). seen_rows u old ++ xs) (sym more)
+          ∙ has.1,
     )
 
 -- all of them

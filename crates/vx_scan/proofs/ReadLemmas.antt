@@ -1,5 +1,5 @@
 -- Reads of a block that are made one after the other.
-use Rattle.std.proofs.Common.{◌≡◌, refl, ap, ◌∙◌, sym, ℕ, ◌+◌, ◌<◌, ◌≤◌, Bool, true, false, cond, not, ◌||◌, Some, List, [], ◌∷◌, ◌++◌, map, length, take, drop, get_or, Result, Ok, Err, arith, subst, IsErr, IsErrAnd}
+use Rattle.std.proofs.Common.{◌≡◌, refl, ap, ◌∙◌, sym, ℕ, ◌+◌, ◌<◌, ◌≤◌, Bool, true, false, cond, not, Some, List, [], ◌∷◌, ◌++◌, length, take, drop, get_or, Result, Ok, Err, arith, subst, IsErr, IsErrAnd}
 use Rattle.std.specs.List.{filter, list_all}
 use Rattle.std.specs.Str.{bytes_eq}
 use Rattle.std.proofs.lemmas.Bool.{or_left, or_right, and_parts, and_from}
@@ -9,7 +9,7 @@ use Rattle.vx_dtype.specs.Types.{Bytes}
 use Rattle.vx_dtype.specs.TypeRules.{has_name}
 use Rattle.vx_semantics.specs.Scans.{reads_in}
 use Rattle.vx_io.specs.Counts.{one_more}
-use Rattle.vx_scan.specs.Stores.{Read, Seen, IsSameStore, Reads}
+use Rattle.vx_scan.specs.Stores.{Read, Seen, IsSameStore}
 use Rattle.vx_scan.specs.Steps.{MakesReads, further_names}
 use Rattle.vx_scan.specs.declared.errors.ScanError.{ScanError}
 use Rattle.vx_scan.specs.declared.errors.ScanError.TheVariants as errors

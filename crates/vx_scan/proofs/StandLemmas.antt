@@ -1,16 +1,14 @@
 -- How a scan stands after each block, and how it ends.
-use Rattle.std.proofs.Common.{◌≡◌, refl, ap, ◌∙◌, sym, ℕ, zero, suc, ◌+◌, ◌<◌, ◌≤◌, Bool, true, false, Option, Some, None, List, [], ◌∷◌, ◌++◌, map, length, get_or, Result, Ok, Err, arith, subst, inl, inr}
+use Rattle.std.proofs.Common.{◌≡◌, refl, ap, ◌∙◌, sym, ℕ, zero, suc, ◌+◌, ◌<◌, Bool, true, false, Option, List, [], ◌∷◌, ◌++◌, map, length, get_or, Result, Ok, Err, arith, subst, inl, inr}
 use Rattle.vx_dtype.specs.TypeViews.{type_view}
-use Rattle.vx_dtype.specs.Types.{Bytes, Ty, Fields}
+use Rattle.vx_dtype.specs.Types.{Bytes, Ty}
 use Rattle.vx_dtype.specs.Values.{Val}
 use Rattle.vx_expr.specs.Trees.{Tree}
 use Rattle.vx_semantics.specs.Meaning.{Slots}
-use Rattle.vx_semantics.specs.Asked.{asked_columns}
 use Rattle.vx_semantics.specs.Pruning.{rules_out}
 use Rattle.vx_semantics.specs.Tables.{Table, Zones, row_type, numbered_from}
 use Rattle.vx_wire.specs.declared.encodings.ExprEncoding.{ExprEncoding}
-use Rattle.vx_block_pruning.specs.BlocksRuledOut.{blocks_ruled_out}
-use Rattle.vx_scan.specs.Stores.{Seen, WhereTold, AgreesWith, IsSameStore}
+use Rattle.vx_scan.specs.Stores.{Seen, WhereTold, AgreesWith}
 use Rattle.vx_scan.specs.Texts.{SpellsTree}
 use Rattle.vx_scan.specs.Scanning.{scan_type, IsScanOf, IsUnspelled, IsReport}
 use Rattle.vx_scan.specs.Reports.{Report}
@@ -20,9 +18,8 @@ use Rattle.vx_scan.specs.declared.errors.Side.TheVariants.{Filter, Projection}
 use Rattle.vx_scan.specs.declared.errors.ScanError.{ScanError}
 use Rattle.vx_scan.specs.declared.errors.ScanError.TheVariants as errors
 use Rattle.vx_scan.specs.declared.preparing.PreparedScan.{PreparedScan}
-use Rattle.vx_scan.specs.declared.reports.ScanReport.{ScanReport}
 use Rattle.vx_scan.proofs.PrepareLemmas.{scan_typed}
-use Rattle.vx_scan.proofs.ScanLemmas.{same_store, same_after, scan_start, scan_skips, scan_keeps, scan_report, scan_stops, scan_stops_between}
+use Rattle.vx_scan.proofs.ScanLemmas.{scan_skips, scan_keeps, scan_report, scan_stops, scan_stops_between}
 
 -- what is known of a store is known of it in each state
 pub prepared_moved : (a b : Seen) (slots : Slots) (f p : Tree) (scan : PreparedScan) → b.zones ≡ a.zones → IsPreparedScan a.zones slots f p scan → IsPreparedScan b.zones slots f p scan

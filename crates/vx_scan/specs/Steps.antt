@@ -1,6 +1,6 @@
 -- For the checker: no public clause cites this.
 -- What the steps of a scan answer: texts that are decoded, expressions that are prepared, and of a block its reads, its truths and its rows.
-use Rattle.std.specs.Prelude.{◌≡◌, ℕ, ◌≤◌, Bool, true, false, not, List, [], ◌∷◌, ◌++◌, map, length, Option, Some, Result, Ok, Err}
+use Rattle.std.specs.Prelude.{◌≡◌, ℕ, ◌≤◌, Bool, true, false, not, List, [], ◌∷◌, ◌++◌, map, length, Some, Result, Ok, Err}
 use Rattle.std.specs.List.{AllZip, filter, list_any, slice_get}
 use Rattle.vx_dtype.specs.Types.{Bytes, Ty, Fields}
 use Rattle.vx_dtype.specs.TypeRules.{has_name, is_bool_ty, no_name_twice}
@@ -10,17 +10,16 @@ use Rattle.vx_expr.specs.Trees.{Tree}
 use Rattle.vx_column.specs.Columns.{Column, column, kept_rows, seen_rows}
 use Rattle.vx_column.specs.declared.columns.ColumnRef.{ColumnRef}
 use Rattle.vx_semantics.specs.Meaning.{Slots, mean}
-use Rattle.vx_semantics.specs.Breaks.{Cause, by_sum, by_cast}
+use Rattle.vx_semantics.specs.Breaks.{by_sum, by_cast}
 use Rattle.vx_semantics.specs.Asked.{some_asked_breaks}
 use Rattle.vx_semantics.specs.Tables.{Table, Zones, row_type}
-use Rattle.vx_semantics.specs.Scans.{Phase}
 use Rattle.vx_eval.specs.Evaluating.{checked_type}
 use Rattle.vx_io.specs.Counts.{one_more}
 use Rattle.vx_wire.specs.declared.encodings.ExprEncoding.{ExprEncoding}
 use Rattle.vx_prepare.specs.Preparing.{IsPrepared, asked_breaks_by}
 use Rattle.vx_prepare.specs.declared.prepared.PreparedExpr.{PreparedExpr}
 use Rattle.vx_block_pruning.specs.BlocksRuledOut.{blocks_ruled_out}
-use Rattle.vx_scan.specs.Stores.{Read, Seen, WhereTold, IsSameStore, IsColumnOf}
+use Rattle.vx_scan.specs.Stores.{Read, Seen, WhereTold, IsColumnOf}
 use Rattle.vx_scan.specs.Texts.{SpellsTree, IsTextRefused}
 use Rattle.vx_scan.specs.Scanning.{on_side, scan_type, asks_breaking, IsScanOf}
 use Rattle.vx_scan.specs.Runs.{Runs, IsScannedTo}
@@ -125,7 +124,7 @@ RunsTold t slots e reads block of_rows before after result table =
 
 -- the run of one of a block's phases: of its reads some first ones were made, and it ended so
 pub record RunsPart (slots : Slots) (e : Tree) (reads : List Read) (block : ℕ) (of_rows : List Val → List Val) (before after : Seen)
-                    (result : Result (Unit {0}) ScanError) : Type 0 where
+    (result : Result (Unit {0}) ScanError) : Type 0 where
   pub made : List Read
   pub left : List Read
   pub grown : after.log ≡ before.log ++ made

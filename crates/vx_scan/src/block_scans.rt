@@ -87,7 +87,13 @@ fn project_block<S: ColumnStore>(
         filtered.columns.as_slice(),
     )?;
     let kept = kept_columns(alloc, columns.as_slice(), &filtered.keep)?;
-    let values = evaluated(alloc, &scan.projection, kept.as_slice(), filtered.count, slots)?;
+    let values = evaluated(
+        alloc,
+        &scan.projection,
+        kept.as_slice(),
+        filtered.count,
+        slots,
+    )?;
     push_values(alloc, &values, rows)?;
     Ok(())
 }

@@ -54,7 +54,14 @@ pub(crate) fn filter_block<S: ColumnStore>(
     let names = scan.filter.columns().as_slice();
     let none: Vec<FieldName> = Vec::new(alloc);
     let unread: Vec<ColumnRef> = Vec::new(alloc);
-    let columns = read_columns(alloc, store, block, names, none.as_slice(), unread.as_slice())?;
+    let columns = read_columns(
+        alloc,
+        store,
+        block,
+        names,
+        none.as_slice(),
+        unread.as_slice(),
+    )?;
     let keep = evaluated(alloc, &scan.filter, columns.as_slice(), len, slots)?;
     let count = keep.filter(alloc, &keep)?.len();
     Ok(FilteredBlock {

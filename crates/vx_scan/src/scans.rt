@@ -48,7 +48,13 @@ pub fn scan<S: ColumnStore>(
     let filter_expr = decode(alloc, registry, filter, Side::Filter)?;
     let projection_expr = decode(alloc, registry, projection, Side::Projection)?;
     let slots: Vec<Option<Scalar>> = Vec::new(alloc);
-    scan_exprs(alloc, &filter_expr, &projection_expr, slots.as_slice(), store)
+    scan_exprs(
+        alloc,
+        &filter_expr,
+        &projection_expr,
+        slots.as_slice(),
+        store,
+    )
 }
 
 /// Scans a store by two expressions and the slots of their dynamic comparisons, as [`scan`] does from typing on. The rows fit the report's type.

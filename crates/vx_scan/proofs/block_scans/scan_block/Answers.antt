@@ -1,4 +1,4 @@
-use Rattle.std.proofs.Common.{◌≡◌, ◌∙◌, sym, ap, true, false, nat_eq, List, length, Err, subst}
+use Rattle.std.proofs.Common.{◌≡◌, ◌∙◌, sym, ap, true, false, nat_eq, length, subst}
 use Rattle.vx_dtype.specs.TypeViews.{type_view}
 use Rattle.vx_column.specs.Columns.{kept_rows, seen_rows}
 use Rattle.vx_scan.specs.Runs.{RunsBlock}
@@ -6,7 +6,7 @@ use Rattle.vx_scan.proofs.BlockRunLemmas.{block_stops, block_without, block_proj
 use Rattle.vx_scan.proofs.FilterLemmas.{some_left}
 use Rattle.vx_scan.proofs.GivenLemmas.{filtered_moved}
 use Rattle.vx_scan.proofs.ReadLemmas.{the_error}
-use Rattle.vx_scan.proofs.StandLemmas.{prepared_moved, agrees_moved}
+use Rattle.vx_scan.proofs.StandLemmas.{prepared_moved}
 use Rattle.vx_scan.proofs.block_scans.scan_block.Goals as goal
 
 pub returns-in_err-filtered-clause-runs : goal.returns-in_err-filtered-clause-runs

@@ -1,4 +1,4 @@
-use Rattle.std.proofs.Common.{◌≡◌, ◌∙◌, sym, ap, true, false, subst}
+use Rattle.std.proofs.Common.{◌∙◌, sym, ap, subst}
 use Rattle.vx_dtype.specs.TypeRules.{fields_of, is_bool_ty}
 use Rattle.vx_dtype.specs.TypeViews.{type_view}
 use Rattle.vx_dtype.specs.Types.{Ty}

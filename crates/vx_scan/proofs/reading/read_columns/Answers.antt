@@ -1,4 +1,4 @@
-use Rattle.std.proofs.Common.{sym, subst, Err}
+use Rattle.std.proofs.Common.{sym, subst}
 use Rattle.vx_semantics.specs.Scans.{reads_in}
 use Rattle.vx_scan.specs.Steps.{ending, MakesReads, further_names}
 use Rattle.vx_scan.specs.declared.errors.ScanError.TheVariants.{NoMemory}
@@ -34,7 +34,7 @@ loop-i-preserved g c =
     let last = g.S.ColumnStore.seen c.read_unless_known.new.store in (
       same_after first middle last c.loop-i.invariant.0 c.in_ok-column.ensures.same,
       loop_goes c.args.block c.args.known_names.now c.args.names.now c.loop-i.i c.index-names-i.result first middle last
-      c.loop-i-test.true c.index-names-i.is c.loop-i.invariant.0 c.loop-i.invariant.1 c.in_ok-column.ensures.reads,
+          c.loop-i-test.true c.index-names-i.is c.loop-i.invariant.0 c.loop-i.invariant.1 c.in_ok-column.ensures.reads,
       columns_grow first middle c.args.block c.args.names.now c.args.known_names.now c.args.known.now c.loop-i.columns.items c.push.new.self.items c.loop-i.i c.index-names-i.result c.in_ok-column.column
-      c.loop-i-test.true c.index-names-i.is c.loop-i.invariant.0 c.in_ok-push.ensures.items c.loop-i.invariant.2 c.in_ok-column.ensures.column,
+          c.loop-i-test.true c.index-names-i.is c.loop-i.invariant.0 c.in_ok-push.ensures.items c.loop-i.invariant.2 c.in_ok-column.ensures.column,
     )

@@ -1,4 +1,4 @@
-use Rattle.std.proofs.Common.{◌∙◌, sym, [], Err, inl, inr, subst}
+use Rattle.std.proofs.Common.{◌∙◌, sym, inl, inr, subst}
 use Rattle.vx_semantics.specs.Meaning.{Slots}
 use Rattle.vx_wire.specs.Registries.{registered}
 use Rattle.vx_scan.specs.Scanning.{IsScan, IsScanOf}

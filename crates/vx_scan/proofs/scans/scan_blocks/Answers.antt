@@ -1,4 +1,4 @@
-use Rattle.std.proofs.Common.{◌≡◌, ◌∙◌, ap, sym, ℕ, List, length, Err, arith, subst}
+use Rattle.std.proofs.Common.{◌≡◌, ◌∙◌, ap, sym, ℕ, List, length, arith, subst}
 use Rattle.vx_dtype.specs.TypeViews.{type_view}
 use Rattle.vx_column.specs.Columns.{seen_rows}
 use Rattle.vx_semantics.specs.Tables.{Zones}

@@ -1,7 +1,6 @@
-use Rattle.std.proofs.Common.{◌≡◌, ◌∙◌, ◌+◌, ◌<◌, sym, true, false, List, [], Err, subst}
+use Rattle.std.proofs.Common.{◌∙◌, ◌+◌, ◌<◌, sym, subst}
 use Rattle.vx_dtype.specs.TypeViews.{type_view}
 use Rattle.vx_column.specs.Columns.{seen_rows}
-use Rattle.vx_semantics.specs.Pruning.{rules_out}
 use Rattle.vx_scan.specs.Steps.{StandsAt}
 use Rattle.vx_scan.specs.declared.errors.ScanError.TheVariants.{NoMemory}
 use Rattle.vx_scan.proofs.ReadLemmas.{the_error}
