@@ -3,10 +3,11 @@ pub mod Stores
 pub mod StoreViews
 pub mod StoreCodes
 pub mod StoreAnswers
-pub mod FirstForm
+pub mod Texts
 pub mod Scanning
-pub mod Planning
-pub mod Bounds
-pub mod Progress
+pub mod Runs
+pub mod Steps
+pub mod Reports
+pub mod ScanLaws
+pub mod Cutting
 pub mod RowCodes
-pub mod ReportViews

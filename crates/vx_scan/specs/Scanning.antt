@@ -1,78 +1,153 @@
--- What a scan answers, and what each refusal leaves.
-use Rattle.std.specs.Prelude.{◌≡◌, ℕ, ◌≤◌, Bool, true, List, [], ◌∷◌, ◌++◌, Option, Some, None, Ok}
+-- How a scan ends: with a report, refused before its first block, broken by a sum or a cast, at a read that failed, or without memory; and what each
+-- end leaves.
+use Rattle.std.specs.Prelude.{◌≡◌, ◌⊎◌, ℕ, ◌≤◌, Bool, true, false, cond, ◌||◌, List, [], ◌∷◌, ◌++◌, Some, Result, Ok, Err}
+use Rattle.std.specs.List.{flat_map, list_any}
 use Rattle.vx_dtype.specs.Types.{Bytes, Ty}
-use Rattle.vx_dtype.specs.Values.{Val}
-use Rattle.vx_expr.specs.Trees.{Tree}
-use Rattle.vx_semantics.specs.Typing.{typed_of}
-use Rattle.vx_semantics.specs.Asked.{asked_columns}
+use Rattle.vx_dtype.specs.TypeRules.{is_bool_ty}
+use Rattle.vx_expr.specs.declared.Operator.{Operator}
+use Rattle.vx_expr.specs.Trees.{Tree, binary, cast}
+use Rattle.vx_semantics.specs.Typing.{Refusal, not_struct, nullable_select, unknown_field, duplicate_field, type_mismatch}
+use Rattle.vx_semantics.specs.Meaning.{Slots}
+use Rattle.vx_semantics.specs.Breaks.{Cause, by_sum, by_cast}
+use Rattle.vx_semantics.specs.Asked.{asked_nodes, asked_columns}
 use Rattle.vx_semantics.specs.Tables.{Table, Zones, row_type}
-use Rattle.vx_semantics.specs.Scans.{kept_blocks, skipped_blocks, kept_rows_of, reads_of}
+use Rattle.vx_semantics.specs.Scans.{kept_blocks, skipped_blocks, kept_rows_of, reads_in, further_columns, phases_of, reads_of, reads_to_break}
+use Rattle.vx_semantics.specs.Scans.{some_phase_breaks, first_breaks_by}
+use Rattle.vx_eval.specs.Evaluating.{checked_type}
 use Rattle.vx_io.specs.Counts.{one_more}
-use Rattle.vx_scan.specs.Stores.{Read}
+use Rattle.vx_wire.specs.declared.encodings.ExprEncoding.{ExprEncoding}
+use Rattle.vx_scan.specs.Stores.{Read, Seen, WhereTold}
+use Rattle.vx_scan.specs.Texts.{SpellBoth, AreRefused}
+use Rattle.vx_scan.specs.Reports.{Report, report_view}
+use Rattle.vx_scan.specs.declared.errors.Side.{Side}
+use Rattle.vx_scan.specs.declared.errors.Side.TheVariants as sides
+use Rattle.vx_scan.specs.declared.errors.ScanError.{ScanError}
+use Rattle.vx_scan.specs.declared.errors.ScanError.TheVariants as errors
+use Rattle.vx_scan.specs.declared.reports.ScanReport.{ScanReport}
 
--- what a scan reports: the type of its rows, the rows, the numbers of the kept and of the skipped blocks, and the columns that filter and projection ask
-pub record Report : Type 0 where
+-- the refusal of typing an expression, with its side
+abbrev pub typing_error : Side → Refusal → ScanError
+typing_error side not_struct = errors.NotStruct side
+typing_error side nullable_select = errors.NullableSelect side
+typing_error side unknown_field = errors.UnknownField side
+typing_error side duplicate_field = errors.DuplicateField side
+typing_error side type_mismatch = errors.TypeMismatch side
+
+-- a type, or the refusal with its side
+abbrev pub on_side : Side → Result Ty Refusal → Result Ty ScanError
+on_side side (Ok u) = Ok u
+on_side side (Err r) = Err (typing_error side r)
+
+-- the answer after that of the filter's typing: its refusal, else the filter has to be a boolean
+abbrev pub after_filter : Result Ty ScanError → Result Ty ScanError → Result Ty ScanError
+after_filter (Err e) next = Err e
+after_filter (Ok u) next = cond (is_bool_ty u) next (Err errors.FilterNotBool)
+
+-- the type of a scan's rows, which is the projection's strict type; else the first refusal: of the filter's typing and of its slots, of a filter that is no
+-- boolean, of the projection's typing and of its slots
+abbrev pub scan_type : Ty → Slots → Tree → Tree → Result Ty ScanError
+scan_type t slots filter_expr projection =
+    after_filter (on_side sides.Filter (checked_type t slots filter_expr)) (on_side sides.Projection (checked_type t slots projection))
+
+-- all reads that a scan may make: of each kept block the filter's asked columns, and then the projection's that are not among them
+abbrev pub asked_reads : Zones → Slots → Tree → Tree → List Read
+asked_reads zones slots filter_expr projection =
+    flat_map
+    (λ b.
+    reads_in b (asked_columns (row_type zones.columns) filter_expr) ++ reads_in b (further_columns (row_type zones.columns) filter_expr projection))
+    (kept_blocks zones slots filter_expr)
+
+-- reads that are some of these, each once, in their order
+abbrev pub AreAmong : List Read → List Read → Type 0
+AreAmong [] all = Unit {0}
+AreAmong (r ∷ made) [] = ⊥
+AreAmong (r ∷ made) (s ∷ all) = ((r ≡ s) × AreAmong made all) ⊎ AreAmong (r ∷ made) all
+
+-- how a scan's reads grow the log: they are asked ones, and where the table is told just these
+pub record GrowsLog (slots : Slots) (filter_expr projection : Tree) (before after : Seen) (AreJust : Table → List Read → Type 0) : Type 0 where
+  pub made : List Read
+  pub grown : after.log ≡ before.log ++ made
+  pub asked : AreAmong made (asked_reads before.zones slots filter_expr projection)
+  pub told : WhereTold before.held (λ table. AreJust table made)
+
+-- the report of a scan: all its reads were made, and none failed; where the table is told the rows are those of the kept blocks, and no phase breaks
+pub record IsReport (slots : Slots) (filter_expr projection : Tree) (before after : Seen) (report : Report) : Type 0 where
+  pub typed : scan_type (row_type before.zones.columns) slots filter_expr projection ≡ Ok report.ty
+  pub rows : WhereTold before.held (λ table. report.rows ≡ kept_rows_of table before.zones slots filter_expr projection)
+  pub unbroken : WhereTold before.held (λ table. some_phase_breaks table before.zones slots filter_expr projection ≡ false)
+  pub kept : report.kept ≡ kept_blocks before.zones slots filter_expr
+  pub skipped : report.skipped ≡ skipped_blocks before.zones slots filter_expr
+  pub filter_columns : report.filter_columns ≡ asked_columns (row_type before.zones.columns) filter_expr
+  pub projection_columns : report.projection_columns ≡ asked_columns (row_type before.zones.columns) projection
+  pub reads : GrowsLog slots filter_expr projection before after (λ table made. made ≡ reads_of table before.zones slots filter_expr projection)
+  pub unfailed : after.failed ≡ before.failed
+
+-- whether a node is one that can break by this cause: a sum or difference, or a cast
+abbrev pub can_break_by : Cause → Tree → Bool
+can_break_by by_sum (binary l Operator.Add r) = true
+can_break_by by_sum (binary l Operator.Sub r) = true
+can_break_by by_cast (cast e t) = true
+can_break_by _ _ = false
+
+-- whether an expression asks a node that can break by this cause
+abbrev pub asks_breaking : Cause → Ty → Tree → Bool
+asks_breaking cause t e = list_any (can_break_by cause) (asked_nodes t e)
+
+-- whether there are blocks
+abbrev pub some_block : List ℕ → Bool
+some_block [] = false
+some_block (b ∷ bs) = true
+
+-- a phase broke by this cause: a block is kept, and one of the expressions asks a node that can; where the table is told the first phase that breaks does so,
+-- and just the reads up to its end were made
+pub record IsBroken (cause : Cause) (slots : Slots) (filter_expr projection : Tree) (before after : Seen) : Type 0 where
   pub ty : Ty
-  pub rows : List Val
-  pub kept : List ℕ
-  pub skipped : List ℕ
-  pub filter_columns : List Bytes
-  pub projection_columns : List Bytes
-
--- a store as a scan sees it: its zones, its table where it tells it, its reads, its faults, the last read that failed, and whether it is known to
--- count no fault
-pub record Seen : Type 0 where
-  pub zones : Zones
-  pub held : Option Table
-  pub log : List Read
-  pub faults : ℕ
-  pub failed : Option Read
-  pub faultless : Bool
-
--- a store by its six meanings
-abbrev pub seen_by : {S : Type 0} → (S → Zones) → (S → Option Table) → (S → List Read) → (S → ℕ) → (S → Option Read) → (S → Bool) → S → Seen
-seen_by zoned held log faults failed faultless store =
-    record { zones = zoned store; held = held store; log = log store; faults = faults store; failed = failed store; faultless = faultless store }
-
--- the reads that were added are the first ones of the scan, where the table is told
-abbrev pub ReadFirst : Option Table → Zones → Tree → Tree → List Read → List Read → List Read → Type 0
-ReadFirst None zones f p before after left = Unit {0}
-ReadFirst (Some table) zones f p before after left = (done : List Read) × (after ≡ before ++ done) × (reads_of table zones [] f p ≡ done ++ left)
-
--- the rows are those of the scan, where the table is told
-abbrev pub AreRows : Option Table → Zones → Tree → Tree → List Val → Type 0
-AreRows None zones f p rows = Unit {0}
-AreRows (Some table) zones f p rows = rows ≡ kept_rows_of table zones [] f p
-
--- no call changes the zones and the table; faults never fall, and stay where the store is known to count none
-pub record IsSameStore (before after : Seen) : Type 0 where
-  pub zones : after.zones ≡ before.zones
-  pub held : after.held ≡ before.held
-  pub faultless : after.faultless ≡ before.faultless
-  pub later : before.faults ≤ after.faults
-  pub quiet : before.faultless ≡ true → after.faults ≡ before.faults
-
--- the report of a scan: its rows, the blocks that are kept and skipped, the asked columns; all of its reads were made, and none failed
-pub record IsReport (f p : Tree) (before after : Seen) (report : Report) : Type 0 where
-  pub typed : typed_of (row_type before.zones.columns) p ≡ Ok report.ty
-  pub rows : AreRows before.held before.zones f p report.rows
-  pub kept : report.kept ≡ kept_blocks before.zones [] f
-  pub skipped : report.skipped ≡ skipped_blocks before.zones [] f
-  pub filter_columns : report.filter_columns ≡ asked_columns (row_type before.zones.columns) f
-  pub projection_columns : report.projection_columns ≡ asked_columns (row_type before.zones.columns) p
-  pub reads : ReadFirst before.held before.zones f p before.log after.log []
+  pub typed : scan_type (row_type before.zones.columns) slots filter_expr projection ≡ Ok ty
+  pub asks : (asks_breaking cause (row_type before.zones.columns) filter_expr || asks_breaking cause (row_type before.zones.columns) projection) ≡ true
+  pub kept : some_block (kept_blocks before.zones slots filter_expr) ≡ true
+  pub first_breaks : WhereTold before.held
+      (λ table. first_breaks_by cause (row_type table.columns) slots (phases_of table before.zones slots filter_expr projection) ≡ true)
+  pub reads : GrowsLog slots filter_expr projection before after (λ table made. made ≡ reads_to_break table before.zones slots filter_expr projection)
   pub unfailed : after.failed ≡ before.failed
 
--- a read failed: the store counted a fault, the reads before it were made, and it is the next one
-pub record IsStoreFault (f p : Tree) (before after : Seen) : Type 0 where
+-- a read failed: the store counted a fault; the reads before it were made, and where the table is told it is the next one
+pub record IsStoreFault (slots : Slots) (filter_expr projection : Tree) (before after : Seen) : Type 0 where
+  pub ty : Ty
+  pub typed : scan_type (row_type before.zones.columns) slots filter_expr projection ≡ Ok ty
   pub risen : one_more before.faults ≤ after.faults
-  pub block : ℕ
-  pub name : Bytes
-  pub failed : after.failed ≡ Some (block, name)
-  pub left : List Read
-  pub reads : ReadFirst before.held before.zones f p before.log after.log ((block, name) ∷ left)
+  pub read : Read
+  pub failed : after.failed ≡ Some read
+  pub reads : GrowsLog slots filter_expr projection before after
+      (λ table made. (left : List Read) × (reads_to_break table before.zones slots filter_expr projection ≡ made ++ (read ∷ left)))
+  pub next_asked : AreAmong (reads.made ++ (read ∷ [])) (asked_reads before.zones slots filter_expr projection)
 
--- there was no memory: some first reads were made
-pub record IsOutOfMemory (before after : Seen) (Asks : Tree → Tree → Type 0) : Type 0 where
+-- there was no memory: before the first block nothing was read; later some first reads were made
+pub record IsCutOff (slots : Slots) (filter_expr projection : Tree) (before after : Seen) : Type 0 where
+  pub ty : Ty
+  pub typed : scan_type (row_type before.zones.columns) slots filter_expr projection ≡ Ok ty
+  pub reads : GrowsLog slots filter_expr projection before after
+      (λ table made. (left : List Read) × (reads_to_break table before.zones slots filter_expr projection ≡ made ++ left))
   pub unfailed : after.failed ≡ before.failed
-  pub reads : (f p : Tree) → Asks f p → (left : List Read) × ReadFirst before.held before.zones f p before.log after.log left
+
+-- how the scan of two expressions ends
+abbrev pub IsScanOf : Slots → Tree → Tree → Seen → Seen → Result ScanReport ScanError → Type 0
+IsScanOf slots filter_expr projection before after (Ok report) = IsReport slots filter_expr projection before after (report_view report)
+IsScanOf slots filter_expr projection before after (Err errors.Overflow) = IsBroken by_sum slots filter_expr projection before after
+IsScanOf slots filter_expr projection before after (Err errors.BadCast) = IsBroken by_cast slots filter_expr projection before after
+IsScanOf slots filter_expr projection before after (Err errors.StoreFault) = IsStoreFault slots filter_expr projection before after
+IsScanOf slots filter_expr projection before after (Err errors.NoMemory) = (after ≡ before) ⊎ IsCutOff slots filter_expr projection before after
+IsScanOf slots filter_expr projection before after (Err e) =
+    (after ≡ before) × (scan_type (row_type before.zones.columns) slots filter_expr projection ≡ Err e)
+
+-- two texts that were refused, or of which it wasn't known for want of memory: nothing was read
+abbrev pub IsUnspelled : (ExprEncoding → Bool) → Bytes → Bytes → Seen → Seen → Result ScanReport ScanError → Type 0
+IsUnspelled holds filter_text projection_text before after (Ok report) = ⊥
+IsUnspelled holds filter_text projection_text before after (Err errors.NoMemory) = after ≡ before
+IsUnspelled holds filter_text projection_text before after (Err e) = (after ≡ before) × AreRefused holds filter_text projection_text e
+
+-- how the scan of two byte texts ends: they are refused, or it ends as that of the expressions that they spell, without slots
+abbrev pub IsScan : (ExprEncoding → Bool) → Bytes → Bytes → Seen → Seen → Result ScanReport ScanError → Type 0
+IsScan holds filter_text projection_text before after result =
+    IsUnspelled holds filter_text projection_text before after result
+    ⊎ ((filter_expr : Tree) × (projection : Tree) × SpellBoth holds filter_text projection_text filter_expr projection
+    × IsScanOf [] filter_expr projection before after result)

@@ -1,10 +1,12 @@
 -- How a store in memory is seen.
-use Rattle.std.specs.Prelude.{ℕ, List, Option}
+use Rattle.std.specs.Prelude.{ℕ, List, Option, Some}
 use Rattle.std.specs.declared.vec.Vec.{Vec}
 use Rattle.std.specs.declared.alloc.Global.{Global}
 use Rattle.vx_column.specs.Columns.{Column}
 use Rattle.vx_semantics.specs.Tables.{Zones}
-use Rattle.vx_scan.specs.Stores.{Read}
+use Rattle.vx_io.specs.Counts.{is_nothing}
+use Rattle.vx_scan.specs.Blocks.{table_of}
+use Rattle.vx_scan.specs.Stores.{Read, Seen}
 use Rattle.vx_scan.specs.declared.stores.ReadEntry.{ReadEntry}
 
 -- the read that an entry of the log stands for
@@ -25,3 +27,8 @@ pub record StoreState : Type 0 where
   pub reads : List Read
   pub failed : Option Read
   pub faults : ℕ
+
+-- a store in memory as any store is seen: it tells the table of its columns, and counts no fault where no call is to fail
+abbrev pub store_seen : StoreState → Seen
+store_seen s =
+    record { zones = s.zones; held = Some (table_of s.zones s.blocks); log = s.reads; faults = s.faults; failed = s.failed; faultless = is_nothing s.listed }

@@ -1,88 +1,136 @@
 // The scan of one block: its reads, and the rows that it gives.
-ghost use Rattle.std.specs.Prelude.{◌≡◌, ℕ, ◌<◌, true, false, cond, List, [], ◌∷◌, ◌++◌, length, Some, IfOk};
-ghost use Rattle.std.specs.List.{slice_get};
-ghost use Rattle.std.specs.Str.{bytes_eq};
-ghost use Rattle.vx_dtype.specs.Structs.{field_of};
+ghost use Rattle.std.specs.Prelude.{◌≡◌, ◌<◌, nat_eq, true, length, map, ◌++◌, IfOk};
+ghost use Rattle.std.specs.List.{list_all};
+ghost use Rattle.vx_dtype.specs.Fits.{fits};
+ghost use Rattle.vx_dtype.specs.RawViews.{raw_view};
 ghost use Rattle.vx_dtype.specs.TypeRules.{is_bool_ty};
-ghost use Rattle.vx_dtype.specs.Values.{Val};
-ghost use Rattle.vx_column.specs.Columns.{kept_rows, values_fit, seen_rows};
-ghost use Rattle.vx_semantics.specs.Scans.{block_rows};
-ghost use Rattle.vx_laws_scan.proofs.BlockReads.{block_reads};
-ghost use Rattle.vx_semantics.specs.Tables.{Table, row_type};
-ghost use Rattle.vx_zones.specs.Zoning.{broken_rule};
-ghost use Rattle.vx_scan.specs.FirstForm.{i64_ty};
-ghost use Rattle.vx_scan.specs.Planning.{filter_of, projection_of, IsPlan};
-ghost use Rattle.vx_scan.specs.Progress.{KeptOf, ReadsOf, IsToldFault};
-ghost use Rattle.vx_scan.specs.Scanning.{seen_by, IsSameStore};
+ghost use Rattle.vx_dtype.specs.TypeViews.{type_view};
+ghost use Rattle.vx_dtype.specs.Types.{Ty};
+ghost use Rattle.vx_column.specs.Columns.{row_at, seen, seen_rows, values_fit};
+ghost use Rattle.vx_expr.specs.Trees.{Tree};
+ghost use Rattle.vx_laws_simplifying.specs.Narrowing.{narrows};
+ghost use Rattle.vx_semantics.specs.Scans.{reads_in, further_columns, matching_rows, block_rows};
+ghost use Rattle.vx_semantics.specs.Tables.{row_type};
+ghost use Rattle.vx_scan.specs.Stores.{WhereTold, AgreesWith, IsSameStore};
+ghost use Rattle.vx_scan.specs.Runs.{RunsBlock};
+ghost use Rattle.vx_scan.specs.Steps.{IsPreparedScan, kept_column, RunsPart, IsFiltered, AddsToldRows};
 
-use crate::errors::StoreError;
-use crate::matches::{Matches, matches_of, push_values};
-use crate::plans::Plan;
+use crate::errors::ScanError;
+use crate::filtering::{FilteredBlock, evaluated, filter_block};
+use crate::preparing::PreparedScan;
+use crate::reading::{block_length, read_columns};
 use crate::stores::ColumnStore;
 use std::alloc::Global;
-use vx_dtype::ScalarValue;
+use vx_column::ColumnRef;
+use vx_dtype::{Mem, Scalar, ScalarValue};
 
-/// Scans a block that is kept: reads the filter's column, and where the filter is true at some row the projection's where
-/// it is another, and puts the projection's values at these rows behind the rows.
+/// Scans a block that is kept: reads the columns that the filter asks and evaluates it; where it is true at some row, reads the further columns
+/// that the projection asks, evaluates it at these rows alone, and puts its values behind the rows.
 pub(crate) fn scan_block<S: ColumnStore>(
     alloc: Global,
-    plan: &Plan,
+    scan: &PreparedScan,
+    slots: &[Option<Scalar>],
     store: &mut S,
     block: u32,
     rows: &mut Vec<ScalarValue>,
-) -> Result<(), StoreError>
-    requires planned { IsPlan (S.zoned store.old) plan.now }
-    requires rules { broken_rule (S.zoned store.old) ≡ None }
-    requires block { block < length (S.zoned store.old).lengths }
-    requires fit { values_fit i64_ty rows.old.items ≡ true }
-    ensures same { let seen = seen_by S.zoned S.held S.log S.faults S.failed S.faultless in IsSameStore (seen store.old) (seen store.new) }
-    ensures faults { let seen = seen_by S.zoned S.held S.log S.faults S.failed S.faultless in IsToldFault block (seen store.old) (seen store.new) result }
-    ensures reads { (table : Table) → S.held store.old ≡ Some table → table.columns ≡ (S.zoned store.old).columns → (b : List Val) →
-        slice_get table.blocks block ≡ Some b → ReadsOf block (block_reads (row_type table.columns) [] (filter_of plan.now) (projection_of plan.now)
-        (block, b)) (S.log store.old) (S.log store.new) (S.failed store.new) result }
-    ensures rows { (table : Table) → S.held store.old ≡ Some table → table.columns ≡ (S.zoned store.old).columns → (b : List Val) →
-        slice_get table.blocks block ≡ Some b → IfOk result (λ _. seen_rows i64_ty rows.new.items ≡ seen_rows i64_ty rows.old.items
-        ++ block_rows (row_type table.columns) [] (filter_of plan.now) (projection_of plan.now) b) }
-    ensures fit { IfOk result (λ _. values_fit i64_ty rows.new.items ≡ true) }
+) -> Result<(), ScanError>
+    requires prepared { (f : Tree) × (p : Tree) × IsPreparedScan (S.seen store.old).zones slots.now f p scan.now }
+    requires block { block < length (S.seen store.old).zones.lengths }
+    requires fit { values_fit (type_view scan.now.projection.dtype) rows.old.items ≡ true }
+    ensures same { IsSameStore (S.seen store.old) (S.seen store.new) }
+    ensures runs { (f p : Tree) → IsPreparedScan (S.seen store.old).zones slots.now f p scan.now →
+        RunsBlock slots.now f p block (S.seen store.old) (S.seen store.new) (seen_rows (type_view scan.now.projection.dtype) rows.old.items)
+        (seen_rows (type_view scan.now.projection.dtype) rows.new.items) result }
+    ensures fit { IfOk result (λ _. values_fit (type_view scan.now.projection.dtype) rows.new.items ≡ true) }
 {
-    let column = store.read(block, &plan.column)?;
-    let matches = matches_of(alloc, plan, &column)?;
-    if matches.is_empty() {
+    let len = block_length(store.zones(), block);
+    let filtered = filter_block(alloc, scan, slots, store, block, len)?;
+    if filtered.count == 0 {
         return Ok(());
     }
-    project(alloc, plan, store, block, &matches, rows)
+    project_block(alloc, scan, slots, store, block, &filtered, rows)
 }
 
-/// Puts the projection's values at the rows that match behind the rows; its column is read where it isn't the filter's.
-fn project<S: ColumnStore>(
+/// Reads the columns of a filtered block that the projection asks and the filter doesn't, in order, evaluates the projection at the rows at which
+/// the filter is true, and puts its values behind the rows.
+fn project_block<S: ColumnStore>(
     alloc: Global,
-    plan: &Plan,
+    scan: &PreparedScan,
+    slots: &[Option<Scalar>],
     store: &mut S,
     block: u32,
-    matches: &Matches,
+    filtered: &FilteredBlock,
     rows: &mut Vec<ScalarValue>,
-) -> Result<(), StoreError>
-    requires planned { IsPlan (S.zoned store.old) plan.now }
-    requires block { block < length (S.zoned store.old).lengths }
-    requires fit { values_fit i64_ty rows.old.items ≡ true }
-    requires dtype { matches.now.values.ty ≡ i64_ty }
-    requires mask { is_bool_ty matches.now.keep.ty ≡ true }
-    requires own { KeptOf (S.held store.old) block plan.now.column matches.now.keep.rows matches.now.values.rows }
-    requires lengths { slice_get (S.zoned store.old).lengths block ≡ Some (length matches.now.keep.rows) }
-    ensures same { let seen = seen_by S.zoned S.held S.log S.faults S.failed S.faultless in IsSameStore (seen store.old) (seen store.new) }
-    ensures faults { let seen = seen_by S.zoned S.held S.log S.faults S.failed S.faultless in IsToldFault block (seen store.old) (seen store.new) result }
-    ensures reads { ReadsOf block (cond (bytes_eq plan.now.projected plan.now.column) [] ((block, plan.now.projected) ∷ [])) (S.log store.old)
-        (S.log store.new) (S.failed store.new) result }
-    ensures rows { IfOk result (λ _. (vs : List Val) × KeptOf (S.held store.old) block plan.now.projected matches.now.keep.rows vs
-        × (seen_rows i64_ty rows.new.items ≡ seen_rows i64_ty rows.old.items ++ vs)) }
-    ensures fit { IfOk result (λ _. values_fit i64_ty rows.new.items ≡ true) }
+) -> Result<(), ScanError>
+    requires prepared { (f : Tree) × (p : Tree) × IsPreparedScan (S.seen store.old).zones slots.now f p scan.now
+        × IsFiltered slots.now f scan.now.filter.columns block (S.seen store.old) filtered.now }
+    requires agrees { WhereTold (S.seen store.old).held (AgreesWith (S.seen store.old).zones) }
+    requires block { block < length (S.seen store.old).zones.lengths }
+    requires fit { values_fit (type_view scan.now.projection.dtype) rows.old.items ≡ true }
+    ensures same { IsSameStore (S.seen store.old) (S.seen store.new) }
+    ensures runs { (f p : Tree) → IsPreparedScan (S.seen store.old).zones slots.now f p scan.now →
+        IsFiltered slots.now f scan.now.filter.columns block (S.seen store.old) filtered.now →
+        let t = row_type (S.seen store.old).zones.columns in
+        RunsPart slots.now p (reads_in block (further_columns t f p)) block (matching_rows t slots.now f) (S.seen store.old) (S.seen store.new) result }
+    ensures rows { (f p : Tree) → IsPreparedScan (S.seen store.old).zones slots.now f p scan.now →
+        IsFiltered slots.now f scan.now.filter.columns block (S.seen store.old) filtered.now →
+        let t = row_type (S.seen store.old).zones.columns in let u = type_view scan.now.projection.dtype in
+        WhereTold (S.seen store.old).held (AddsToldRows (block_rows t slots.now f p) block (seen_rows u rows.old.items) (seen_rows u rows.new.items) result) }
+    ensures fit { IfOk result (λ _. values_fit (type_view scan.now.projection.dtype) rows.new.items ≡ true) }
 {
-    if plan.projected == plan.column {
-        push_values(alloc, &matches.values, rows)?;
-        return Ok(());
-    }
-    let column = store.read(block, &plan.projected)?;
-    let selected = column.filter(alloc, &matches.keep)?;
-    push_values(alloc, &selected, rows)?;
+    let columns = read_columns(
+        alloc,
+        store,
+        block,
+        scan.projection.columns().as_slice(),
+        scan.filter.columns().as_slice(),
+        filtered.columns.as_slice(),
+    )?;
+    let kept = kept_columns(alloc, columns.as_slice(), &filtered.keep)?;
+    let values = evaluated(
+        alloc,
+        &scan.projection,
+        kept.as_slice(),
+        filtered.count,
+        slots,
+    )?;
+    push_values(alloc, &values, rows)?;
     Ok(())
+}
+
+/// The columns, each at the rows at which another one is true.
+fn kept_columns(alloc: Global, columns: &[ColumnRef], keep: &ColumnRef) -> Mem<Vec<ColumnRef>>
+    requires mask { is_bool_ty keep.now.ty ≡ true }
+    requires lengths { list_all (λ c. nat_eq (length c.rows) (length keep.now.rows)) columns.now ≡ true }
+    ensures { IfOk result (λ kept. kept.items ≡ map (kept_column keep.now.rows) columns.now) }
+{
+    let mut kept = Vec::new(alloc);
+    for i in 0..columns.len() {
+        kept.push(columns[i].filter(alloc, keep)?)?;
+    }
+    Ok(kept)
+}
+
+/// Puts the values of a column behind rows: they are the same values at any type that is the column's but perhaps more nullable.
+fn push_values(alloc: Global, column: &ColumnRef, rows: &mut Vec<ScalarValue>) -> Mem<()>
+    ensures fit { (u : Ty) → narrows column.now.ty u ≡ true → values_fit u rows.old.items ≡ true →
+        IfOk result (λ _. values_fit u rows.new.items ≡ true) }
+    ensures rows { (u : Ty) → narrows column.now.ty u ≡ true →
+        IfOk result (λ _. seen_rows u rows.new.items ≡ seen_rows u rows.old.items ++ column.now.rows) }
+{
+    for i in 0..column.len() {
+        let value = value_at(alloc, column, i)?;
+        rows.push(value)?;
+    }
+    Ok(())
+}
+
+/// The value at this row, counted from 0.
+fn value_at(alloc: Global, column: &ColumnRef, i: usize) -> Mem<ScalarValue>
+    requires { i < length column.now.rows }
+    ensures fit { IfOk result (λ v. fits (raw_view v) column.now.ty ≡ true) }
+    ensures value { IfOk result (λ v. seen column.now.ty v ≡ row_at column.now i) }
+{
+    let scalar = column.scalar_at(alloc, i)?;
+    Ok(scalar.value().clone()?)
 }

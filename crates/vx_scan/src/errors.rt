@@ -24,14 +24,51 @@ pub enum TableError {
     WrongType,
 }
 
-/// Why a scan gives no report.
+/// One of the expressions of a request.
+#[derive(Clone, Copy, PartialEq, Eq, Debug)]
+pub enum Side {
+    /// The filter.
+    Filter,
+    /// The projection.
+    Projection,
+    /// An expression that stands alone.
+    Text,
+}
+
+/// Why a scan gives no report. The refusals before the first block come in this order, of the filter's text before the projection's and of the
+/// filter's type before the projection's; nothing is read then.
 #[derive(PartialEq, Eq, Debug, Drop)]
 pub enum ScanError {
     /// There was no memory.
     NoMemory,
-    /// Exactly where the store's zones or the two byte texts aren't of the form that is answered, or one of the kinds isn't
-    /// registered.
-    NotBuilt,
+    /// Exactly where the text is no wire text and meets neither limit.
+    BadWire(Side),
+    /// Exactly where the wire text opens more than 256 nodes, before it begins more than 4,096.
+    TooDeep(Side),
+    /// Exactly where the wire text begins more than 4,096 nodes.
+    TooManyNodes(Side),
+    /// Exactly where the registry holds no kind of the name of the first node that refuses.
+    UnknownExpr(Side),
+    /// Exactly where the metadata of the first node that refuses is no spelling of its kind's.
+    BadMetadata(Side),
+    /// Exactly where the first node that refuses has more or fewer children than its kind takes.
+    WrongChildren(Side),
+    /// Exactly where the expression's typing refuses so.
+    NotStruct(Side),
+    /// Exactly where the expression's typing refuses so.
+    NullableSelect(Side),
+    /// Exactly where the expression's typing refuses so.
+    UnknownField(Side),
+    /// Exactly where the expression's typing refuses so.
+    DuplicateField(Side),
+    /// Exactly where the expression's typing refuses so, or it is typed and a slot doesn't fit.
+    TypeMismatch(Side),
+    /// Exactly where the filter's type is no boolean.
+    FilterNotBool,
+    /// A sum or difference that an expression asks has no value at a row of a phase.
+    Overflow,
+    /// A cast that an expression asks has no value at a row of a phase.
+    BadCast,
     /// A read failed: only where the store counted a fault in this call.
     StoreFault,
 }

@@ -2,18 +2,25 @@
 #![tactic(auto)]
 
 mod block_scans;
-mod bounds;
+mod decoding;
 mod errors;
-mod matches;
+mod filtering;
+mod laws;
 mod memory_store;
-mod plans;
+mod preparing;
+mod reading;
 mod reports;
 mod scans;
 mod stores;
 mod tables;
 
-pub use errors::{ScanError, StoreError, TableError};
+pub use errors::{ScanError, Side, StoreError, TableError};
+pub use laws::{
+    faultless_stores_count_no_fault, honest_scans_are_whole, reads_are_asked, refused_scans_refuse,
+    scan_breaks_where_a_phase_breaks, scan_ends_exclude, scans_of_runs, texts_scan_as_they_spell,
+    unbroken_scans_report,
+};
 pub use memory_store::MemoryStore;
 pub use reports::{BlockNumbers, RowValues, ScanReport};
-pub use scans::scan;
+pub use scans::{scan, scan_exprs};
 pub use stores::{ColumnStore, ReadEntry};

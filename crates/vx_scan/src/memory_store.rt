@@ -1,11 +1,10 @@
 // A store over columns in memory, for tests and for callers that have them all.
-ghost use Rattle.std.specs.Prelude.{◌≡◌, ◌-◌, ◌^◌, ◌<◌, ◌≤◌, true, false, cond, [], ◌∷◌, ◌++◌, length, map, Some, option_map, IfOk, IsErr, IsErrOf, All};
-ghost use Rattle.std.specs.List.{slice_get};
-ghost use Rattle.vx_dtype.specs.TypeRules.{has_name, field_names, field_type};
-ghost use Rattle.vx_io.specs.Counts.{one_more, is_nothing, is_listed};
+ghost use Rattle.std.specs.Prelude.{◌≡◌, ◌-◌, ◌^◌, ◌<◌, true, false, cond, length, map, option_map, IfOk, IsErrOf, All};
+ghost use Rattle.vx_dtype.specs.TypeRules.{has_name, field_names};
+ghost use Rattle.vx_io.specs.Counts.{one_more, is_listed};
 ghost use Rattle.vx_scan.specs.Blocks.{table_of};
-ghost use Rattle.vx_scan.specs.Stores.{AgreesWith, AreHeld};
-ghost use Rattle.vx_scan.specs.StoreViews.{block_view, entry_view};
+ghost use Rattle.vx_scan.specs.Stores.{AgreesWith, IsSameStore, Reads};
+ghost use Rattle.vx_scan.specs.StoreViews.{block_view, entry_view, store_seen};
 ghost use Rattle.vx_scan.specs.StoreAnswers.{Answers};
 
 use crate::errors::{StoreError, TableError};
@@ -110,21 +109,11 @@ impl MemoryStore {
 }
 
 impl ColumnStore for MemoryStore {
-    ghost held = { λ s. Some (table_of s.zones s.blocks) };
-
-    ghost zoned = { λ s. s.zones };
-
-    ghost log = { λ s. s.reads };
-
-    ghost faults = { λ s. s.faults };
-
-    ghost failed = { λ s. s.failed };
-
-    ghost faultless = { λ s. is_nothing s.listed };
+    ghost seen = { store_seen };
 
     fn zones(&self) -> &ZoneMap
         ensures zones { result.now ≡ self.now.zones }
-        ensures agrees { AgreesWith self.now.zones (Some (table_of self.now.zones self.now.blocks)) }
+        ensures agrees { AgreesWith self.now.zones (table_of self.now.zones self.now.blocks) }
     {
         &self.zones
     }
@@ -132,20 +121,8 @@ impl ColumnStore for MemoryStore {
     fn read(&mut self, block: u32, name: &FieldName) -> Result<ColumnRef, StoreError>
         requires block { block < length self.old.zones.lengths }
         requires column { has_name name.now (field_names self.old.zones.columns) ≡ true }
-        ensures same_table { Some (table_of self.new.zones self.new.blocks) ≡ Some (table_of self.old.zones self.old.blocks) }
-        ensures same_zones { self.new.zones ≡ self.old.zones }
-        ensures same_faultless { is_nothing self.new.listed ≡ is_nothing self.old.listed }
-        ensures later { self.old.faults ≤ self.new.faults }
-        ensures quiet { is_nothing self.old.listed ≡ true → self.new.faults ≡ self.old.faults }
-        ensures dtype { IfOk result (λ c. field_type name.now self.old.zones.columns ≡ Some c.ty) }
-        ensures len { IfOk result (λ c. slice_get self.old.zones.lengths block ≡ Some (length c.rows)) }
-        ensures rows { IfOk result (λ c. AreHeld (Some (table_of self.old.zones self.old.blocks)) block name.now c.rows) }
-        ensures logged { IfOk result (λ _. self.new.reads ≡ self.old.reads ++ (block, name.now) ∷ []) }
-        ensures unfailed { IfOk result (λ _. self.new.failed ≡ self.old.failed) }
-        ensures unlogged { IsErr result → self.new.reads ≡ self.old.reads }
-        ensures risen { IsErrOf result StoreError.Failed → one_more self.old.faults ≤ self.new.faults }
-        ensures recorded { IsErrOf result StoreError.Failed → self.new.failed ≡ Some (block, name.now) }
-        ensures unrecorded { IsErrOf result StoreError.NoMemory → self.new.failed ≡ self.old.failed }
+        ensures same { IsSameStore (store_seen self.old) (store_seen self.new) }
+        ensures reads { Reads (store_seen self.old) (store_seen self.new) block name.now result }
         ensures listed { IfOk result (λ _. is_listed (one_more self.old.calls) self.old.listed ≡ false) }
         ensures failure { IsErrOf result StoreError.Failed → is_listed (one_more self.old.calls) self.old.listed ≡ true }
         ensures count { self.new.faults ≡ cond (is_listed (one_more self.old.calls) self.old.listed) (one_more self.old.faults) self.old.faults }

@@ -1,43 +1,39 @@
-// Scans: the plan of two byte texts, block by block, and the report.
-ghost use Rattle.std.specs.Prelude.{◌≡◌, ◌+◌, ◌<◌, true, None, [], ◌∷◌, length, map, IfOk, IsErrOf};
+// Scans of two expressions over a store, block by block.
+ghost use Rattle.std.specs.Prelude.{◌≡◌, ◌+◌, ◌<◌, true, length, map, IfOk};
 ghost use Rattle.vx_dtype.specs.RawViews.{raw_view};
 ghost use Rattle.vx_dtype.specs.TypeViews.{type_view};
 ghost use Rattle.vx_column.specs.Columns.{raws_fit, values_fit, seen_rows};
 ghost use Rattle.vx_expr.specs.Trees.{Tree};
-ghost use Rattle.vx_zones.specs.Zoning.{broken_rule};
 ghost use Rattle.vx_wire.specs.Registries.{registered};
-ghost use Rattle.vx_scan.specs.FirstForm.{i64_ty, IsAsked};
-ghost use Rattle.vx_scan.specs.Planning.{filter_of, projection_of, IsPlan};
-ghost use Rattle.vx_scan.specs.Progress.{IsScannedTo, IsBrokenOff, Leaves};
-ghost use Rattle.vx_scan.specs.ReportViews.{report_view};
-ghost use Rattle.vx_scan.specs.Scanning.{Seen, seen_by, IsSameStore, IsReport, IsStoreFault, IsOutOfMemory};
+ghost use Rattle.vx_scan.specs.Stores.{Seen, WhereTold, AgreesWith, IsSameStore};
+ghost use Rattle.vx_scan.specs.Scanning.{IsScan, IsScanOf};
+ghost use Rattle.vx_scan.specs.Runs.{IsScannedTo};
+ghost use Rattle.vx_scan.specs.Steps.{IsPreparedScan, StandsAt, EndsBlocks};
 
 use crate::block_scans::scan_block;
-use crate::bounds::is_ruled_out;
-use crate::errors::{ScanError, StoreError};
-use crate::plans::{Plan, asked_plan};
+use crate::decoding::decode;
+use crate::errors::{ScanError, Side};
+use crate::preparing::{PreparedScan, prepare_scan};
 use crate::reports::{BlockNumbers, RowValues, ScanReport};
 use crate::stores::ColumnStore;
 use std::alloc::Global;
-use vx_dtype::{DType, FieldName, FieldNames, Mem, Nullability, PType, ScalarValue};
+use vx_dtype::{Mem, Scalar, ScalarValue};
+use vx_expr::ExprRef;
 use vx_wire::ExprRegistry;
 
 /// What a scan has found so far: the rows, and the blocks that it kept and skipped.
 #[derive(Drop)]
-struct Found {
-    rows: Vec<ScalarValue>,
-    kept: Vec<u32>,
-    skipped: Vec<u32>,
+pub(crate) struct Found {
+    pub(crate) rows: Vec<ScalarValue>,
+    pub(crate) kept: Vec<u32>,
+    pub(crate) skipped: Vec<u32>,
 }
 
-/// Scans a store: the values of the projection at the rows at which the filter is true, over the blocks that the
-/// statistics don't rule out. Of a kept block the filter's column is read, and where the filter is true at some row the
-/// projection's where it is another.
+/// Scans a store by two byte texts: the values of the projection at the rows at which the filter is true, over the blocks that the statistics
+/// don't rule out. The rows fit the report's type.
 ///
-/// The form that is answered: columns of i64, statistics that are bounds of columns, a filter that compares a column with
-/// a constant of i64, and a projection that is a column. NotBuilt exactly where the store's zones or the byte texts
-/// aren't of this form, or a kind isn't registered; nothing is read then. StoreFault only where the store counted a
-/// fault; the reads before it were made, and it is the last that failed. After NoMemory some first reads were made.
+/// First the filter's text is read and built, then the projection's; from then on it is [`scan_exprs`] without slots. The first refusal of a
+/// text is answered, and nothing is read then.
 pub fn scan<S: ColumnStore>(
     alloc: Global,
     registry: &ExprRegistry,
@@ -45,48 +41,62 @@ pub fn scan<S: ColumnStore>(
     projection: &[u8],
     store: &mut S,
 ) -> Result<ScanReport, ScanError>
-    ensures same { let seen = seen_by S.zoned S.held S.log S.faults S.failed S.faultless in IsSameStore (seen store.old) (seen store.new) }
-    ensures report { let seen = seen_by S.zoned S.held S.log S.faults S.failed S.faultless in IfOk result
-        (λ report. (f : Tree) × (p : Tree) × IsAsked (registered registry.now) (S.zoned store.old) filter.now projection.now f p
-        × IsReport f p (seen store.old) (seen store.new) (report_view report)) }
+    ensures same { IsSameStore (S.seen store.old) (S.seen store.new) }
+    ensures ends { IsScan (registered registry.now) filter.now projection.now (S.seen store.old) (S.seen store.new) result }
     ensures fit { IfOk result (λ report. raws_fit (type_view report.dtype) report.rows ≡ true) }
-    ensures not_built { IsErrOf result ScanError.NotBuilt → (f p : Tree) →
-        ¬ (IsAsked (registered registry.now) (S.zoned store.old) filter.now projection.now f p) }
-    ensures unread { IsErrOf result ScanError.NotBuilt → (S.log store.new ≡ S.log store.old) × (S.failed store.new ≡ S.failed store.old) }
-    ensures store_fault { let seen = seen_by S.zoned S.held S.log S.faults S.failed S.faultless in IsErrOf result ScanError.StoreFault → (f : Tree)
-        × (p : Tree) × IsAsked (registered registry.now) (S.zoned store.old) filter.now projection.now f p
-        × IsStoreFault f p (seen store.old) (seen store.new) }
-    ensures no_memory { let seen = seen_by S.zoned S.held S.log S.faults S.failed S.faultless in IsErrOf result ScanError.NoMemory →
-        IsOutOfMemory (seen store.old) (seen store.new) (IsAsked (registered registry.now) (S.zoned store.old) filter.now projection.now) }
 {
-    let zones = store.zones();
-    let Some(plan) = asked_plan(alloc, registry, zones, filter, projection)? else {
-        return Err(ScanError::NotBuilt);
-    };
-    match scan_blocks(alloc, &plan, store) {
-        Ok(found) => Ok(report(alloc, &plan, found)?),
-        Err(StoreError::NoMemory) => Err(ScanError::NoMemory),
-        Err(StoreError::Failed) => Err(ScanError::StoreFault),
-    }
+    let filter_expr = decode(alloc, registry, filter, Side::Filter)?;
+    let projection_expr = decode(alloc, registry, projection, Side::Projection)?;
+    let slots: Vec<Option<Scalar>> = Vec::new(alloc);
+    scan_exprs(
+        alloc,
+        &filter_expr,
+        &projection_expr,
+        slots.as_slice(),
+        store,
+    )
+}
+
+/// Scans a store by two expressions and the slots of their dynamic comparisons, as [`scan`] does from typing on. The rows fit the report's type.
+///
+/// Before the first block come, in this order: the refusal of the filter's typing, TypeMismatch where it is typed and a slot doesn't fit it,
+/// FilterNotBool where its type is no boolean, and the same two of the projection. Nothing is read then.
+///
+/// Then the blocks that the filter doesn't rule out, in order. Of each the columns that the filter asks are read in table order, and it is
+/// evaluated. Where it is true at some row, the columns that the projection asks and the filter doesn't are read in table order, and the
+/// projection is evaluated at these rows alone. Overflow and BadCast come where an asked node breaks at a row of such a phase, which was read
+/// whole; StoreFault only where the store counted a fault, and the reads before the one that failed were made; after NoMemory some first reads
+/// were made.
+///
+/// Source of the rule: a filter is evaluated before its projection's columns are read, and blocks without a matching row cost no more reads.
+pub fn scan_exprs<S: ColumnStore>(
+    alloc: Global,
+    filter: &ExprRef,
+    projection: &ExprRef,
+    slots: &[Option<Scalar>],
+    store: &mut S,
+) -> Result<ScanReport, ScanError>
+    ensures same { IsSameStore (S.seen store.old) (S.seen store.new) }
+    ensures ends { IsScanOf slots.now filter.now projection.now (S.seen store.old) (S.seen store.new) result }
+    ensures fit { IfOk result (λ report. raws_fit (type_view report.dtype) report.rows ≡ true) }
+{
+    let scan = prepare_scan(alloc, filter, projection, slots, store.zones())?;
+    let found = scan_blocks(alloc, &scan, slots, store)?;
+    Ok(report(&scan, found)?)
 }
 
 /// Scans the blocks in order.
 fn scan_blocks<S: ColumnStore>(
     alloc: Global,
-    plan: &Plan,
+    scan: &PreparedScan,
+    slots: &[Option<Scalar>],
     store: &mut S,
-) -> Result<Found, StoreError>
-    requires planned { IsPlan (S.zoned store.old) plan.now }
-    ensures rules { broken_rule (S.zoned store.old) ≡ None }
-    ensures same { let seen = seen_by S.zoned S.held S.log S.faults S.failed S.faultless in IsSameStore (seen store.old) (seen store.new) }
-    ensures scanned { let seen = seen_by S.zoned S.held S.log S.faults S.failed S.faultless in IfOk result
-        (λ found. IsScannedTo (filter_of plan.now) (projection_of plan.now) (length (S.zoned store.old).lengths) (seen store.old) (seen store.new)
-        (seen_rows i64_ty found.rows.items) found.kept.items found.skipped.items) }
-    ensures fit { IfOk result (λ found. values_fit i64_ty found.rows.items ≡ true) }
-    ensures fault { let seen = seen_by S.zoned S.held S.log S.faults S.failed S.faultless in IsErrOf result StoreError.Failed →
-        IsStoreFault (filter_of plan.now) (projection_of plan.now) (seen store.old) (seen store.new) }
-    ensures broken { let seen = seen_by S.zoned S.held S.log S.faults S.failed S.faultless in IsErrOf result StoreError.NoMemory →
-        IsBrokenOff (filter_of plan.now) (projection_of plan.now) (seen store.old) (seen store.new) }
+) -> Result<Found, ScanError>
+    requires prepared { (f : Tree) × (p : Tree) × IsPreparedScan (S.seen store.old).zones slots.now f p scan.now }
+    ensures same { IsSameStore (S.seen store.old) (S.seen store.new) }
+    ensures ends { (f p : Tree) → IsPreparedScan (S.seen store.old).zones slots.now f p scan.now →
+        EndsBlocks slots.now f p (type_view scan.now.projection.dtype) (S.seen store.old) (S.seen store.new) result }
+    ensures fit { IfOk result (λ found. values_fit (type_view scan.now.projection.dtype) found.rows.items ≡ true) }
 {
     let mut found = Found {
         rows: Vec::new(alloc),
@@ -95,46 +105,48 @@ fn scan_blocks<S: ColumnStore>(
     };
     let blocks = store.zones().lengths().len() as u32;
     for block in 0..blocks {
-        scan_next(alloc, plan, store, block, &mut found)?;
+        scan_next(alloc, scan, slots, store, block, &mut found)?;
     }
     Ok(found)
 }
 
-/// Scans one block more, or skips it where the statistics rule it out.
+/// Scans one block more, or skips it where the filter rules it out.
 fn scan_next<S: ColumnStore>(
     alloc: Global,
-    plan: &Plan,
+    scan: &PreparedScan,
+    slots: &[Option<Scalar>],
     store: &mut S,
     block: u32,
     found: &mut Found,
-) -> Result<(), StoreError>
-    requires planned { IsPlan (S.zoned store.old) plan.now }
-    requires block { block < length (S.zoned store.old).lengths }
-    requires fit { values_fit i64_ty found.old.rows.items ≡ true }
-    ensures same { let seen = seen_by S.zoned S.held S.log S.faults S.failed S.faultless in IsSameStore (seen store.old) (seen store.new) }
-    ensures fit { IfOk result (λ _. values_fit i64_ty found.new.rows.items ≡ true) }
-    ensures leaves { let seen = seen_by S.zoned S.held S.log S.faults S.failed S.faultless in (start : Seen) →
-        IsScannedTo (filter_of plan.now) (projection_of plan.now) block start (seen store.old)
-        (seen_rows i64_ty found.old.rows.items) found.old.kept.items found.old.skipped.items →
-        Leaves (filter_of plan.now) (projection_of plan.now) (block + 1) start (seen store.new)
-        (seen_rows i64_ty found.new.rows.items) found.new.kept.items found.new.skipped.items result }
+) -> Result<(), ScanError>
+    requires prepared { (f : Tree) × (p : Tree) × IsPreparedScan (S.seen store.old).zones slots.now f p scan.now }
+    requires block { block < length (S.seen store.old).zones.lengths }
+    requires agrees { WhereTold (S.seen store.old).held (AgreesWith (S.seen store.old).zones) }
+    requires fit { values_fit (type_view scan.now.projection.dtype) found.old.rows.items ≡ true }
+    ensures same { IsSameStore (S.seen store.old) (S.seen store.new) }
+    ensures fit { IfOk result (λ _. values_fit (type_view scan.now.projection.dtype) found.new.rows.items ≡ true) }
+    ensures stands { (start : Seen) (f p : Tree) → IsPreparedScan (S.seen store.old).zones slots.now f p scan.now →
+        IsScannedTo slots.now f p block start (S.seen store.old) (seen_rows (type_view scan.now.projection.dtype) found.old.rows.items)
+        found.old.kept.items found.old.skipped.items →
+        StandsAt slots.now f p (block + 1) start (S.seen store.new) (seen_rows (type_view scan.now.projection.dtype) found.new.rows.items)
+        found.new.kept.items found.new.skipped.items result }
 {
-    if is_ruled_out(store.zones(), block, plan) {
+    if scan.ruled_out[block as usize] {
         found.skipped.push(block)?;
         return Ok(());
     }
     found.kept.push(block)?;
-    scan_block(alloc, plan, store, block, &mut found.rows)
+    scan_block(alloc, scan, slots, store, block, &mut found.rows)
 }
 
 /// The report of what a scan found.
-fn report(alloc: Global, plan: &Plan, found: Found) -> Mem<ScanReport>
-    ensures dtype { IfOk result (λ report. type_view report.dtype ≡ i64_ty) }
+fn report(scan: &PreparedScan, found: Found) -> Mem<ScanReport>
+    ensures dtype { IfOk result (λ report. type_view report.dtype ≡ type_view scan.now.projection.dtype) }
     ensures rows { IfOk result (λ report. report.rows ≡ map raw_view found.rows.items) }
     ensures kept { IfOk result (λ report. report.kept ≡ found.kept.items) }
     ensures skipped { IfOk result (λ report. report.skipped ≡ found.skipped.items) }
-    ensures filter { IfOk result (λ report. report.filter_columns ≡ plan.now.column ∷ []) }
-    ensures projection { IfOk result (λ report. report.projection_columns ≡ plan.now.projected ∷ []) }
+    ensures filter { IfOk result (λ report. report.filter_columns ≡ scan.now.filter.columns) }
+    ensures projection { IfOk result (λ report. report.projection_columns ≡ scan.now.projection.columns) }
 {
     let Found {
         rows,
@@ -142,20 +154,11 @@ fn report(alloc: Global, plan: &Plan, found: Found) -> Mem<ScanReport>
         skipped,
     } = found;
     Ok(ScanReport {
-        dtype: DType::Primitive(PType::I64, Nullability::NonNullable),
+        dtype: scan.projection.dtype().clone()?,
         rows: RowValues::new(rows),
         kept: BlockNumbers::new(kept),
         skipped: BlockNumbers::new(skipped),
-        filter_columns: one_name(alloc, &plan.column)?,
-        projection_columns: one_name(alloc, &plan.projected)?,
+        filter_columns: scan.filter.columns().clone()?,
+        projection_columns: scan.projection.columns().clone()?,
     })
-}
-
-/// The names of one column.
-fn one_name(alloc: Global, name: &FieldName) -> Mem<FieldNames>
-    ensures { IfOk result (λ names. names ≡ name.now ∷ []) }
-{
-    let mut names = Vec::new(alloc);
-    names.push(name.clone()?)?;
-    FieldNames::new(alloc, names)
 }

@@ -1,46 +1,39 @@
-use Rattle.std.proofs.Common.{◌≡◌, Err, subst, Option}
-use Rattle.vx_column.specs.Columns.{seen_rows, raw_rows}
-use Rattle.vx_semantics.specs.Tables.{Zones}
+use Rattle.std.proofs.Common.{◌∙◌, sym, inl, inr, subst}
+use Rattle.vx_semantics.specs.Meaning.{Slots}
 use Rattle.vx_wire.specs.Registries.{registered}
-use Rattle.vx_scan.specs.FirstForm.{i64_ty, IsAsked}
-use Rattle.vx_scan.specs.Planning.{filter_of, projection_of, IsPlan, Asks}
-use Rattle.vx_scan.specs.Scanning.{seen_by}
-use Rattle.vx_scan.specs.ReportViews.{report_view}
-use Rattle.vx_scan.specs.declared.plans.Plan.{Plan}
-use Rattle.vx_scan.proofs.ProgressLemmas.{broken_off}
-use Rattle.vx_scan.proofs.ReportLemmas.{report_is, nothing_done, some_done}
+use Rattle.vx_scan.specs.Scanning.{IsScan, IsScanOf}
+use Rattle.vx_scan.proofs.ReadLemmas.{the_error}
+use Rattle.vx_scan.proofs.StandLemmas.{filter_unspelled, projection_unspelled}
 use Rattle.vx_scan.proofs.scans.scan.Goals as goal
 
-pub returns-in_err-plan-clause-no_memory : goal.returns-in_err-plan-clause-no_memory
-returns-in_err-plan-clause-no_memory c d = λ e.
-    let seen = seen_by c.S.ColumnStore.zoned c.S.ColumnStore.held c.S.ColumnStore.log c.S.ColumnStore.faults c.S.ColumnStore.failed c.S.ColumnStore.faultless in
-    nothing_done (seen d.args.store.now) (IsAsked (registered d.args.registry.now) (c.S.ColumnStore.zoned d.args.store.now) d.args.filter.now d.args.projection.now)
+pub returns-in_err-filter_expr-clause-ends : goal.returns-in_err-filter_expr-clause-ends
+returns-in_err-filter_expr-clause-ends g c =
+    let first = g.S.ColumnStore.seen c.args.store.now in
+    let holds = registered c.args.registry.now in
+    let err = c.in_err-filter_expr.field-0.0 in
+    let same = the_error c.from_residual.result err c.from_residual.ensures.0 c.from_residual.ensures.1 in
+    subst (λ r. IsScan holds c.args.filter.now c.args.projection.now first first r) (sym same)
+    (inl (filter_unspelled holds c.args.filter.now c.args.projection.now first err c.in_err-filter_expr.ensures))
 
-pub returns-in-Err-NoMemory-clause-no_memory : goal.returns-in-Err-NoMemory-clause-no_memory
-returns-in-Err-NoMemory-clause-no_memory c d = λ e.
-    let seen = seen_by c.S.ColumnStore.zoned c.S.ColumnStore.held c.S.ColumnStore.log c.S.ColumnStore.faults c.S.ColumnStore.failed c.S.ColumnStore.faultless in
-    let holds = registered d.args.registry.now in
-    let asks = subst (λ (o : Option Plan). Asks holds d.zones-zones.result.now d.args.filter.now d.args.projection.now o) d.in-Some.is d.in_ok-plan.ensures in
-    let own = subst (λ (z : Zones). IsAsked holds z d.args.filter.now d.args.projection.now (filter_of d.in-Some.plan) (projection_of d.in-Some.plan)) d.zones-zones.ensures.zones asks.0 in
-    some_done holds (c.S.ColumnStore.zoned d.args.store.now) d.args.filter.now d.args.projection.now d.in-Some.plan (seen d.args.store.now) (seen d.scan_blocks.new.store) own (d.in-Err-NoMemory.ensures.broken (λ i. Err (d.in-Err-NoMemory.field-0-is i)))
+pub returns-in_err-projection_expr-clause-ends : goal.returns-in_err-projection_expr-clause-ends
+returns-in_err-projection_expr-clause-ends g c =
+    let first = g.S.ColumnStore.seen c.args.store.now in
+    let holds = registered c.args.registry.now in
+    let err = c.in_err-projection_expr.field-0.0 in
+    let residual = c.from_residual-in_err-projection_expr in
+    let same = the_error residual.result err residual.ensures.0 residual.ensures.1 in
+    subst (λ r. IsScan holds c.args.filter.now c.args.projection.now first first r) (sym same)
+    (inl (projection_unspelled holds c.args.filter.now c.args.projection.now c.in_ok-filter_expr.filter_expr first err c.in_ok-filter_expr.ensures c.in_err-projection_expr.ensures))
 
-pub returns-in_err-report-in-Ok-clause-no_memory : goal.returns-in_err-report-in-Ok-clause-no_memory
-returns-in_err-report-in-Ok-clause-no_memory c d = λ e.
-    let seen = seen_by c.S.ColumnStore.zoned c.S.ColumnStore.held c.S.ColumnStore.log c.S.ColumnStore.faults c.S.ColumnStore.failed c.S.ColumnStore.faultless in
-    let holds = registered d.args.registry.now in
-    let asks = subst (λ (o : Option Plan). Asks holds d.zones-zones.result.now d.args.filter.now d.args.projection.now o) d.in-Some.is d.in_ok-plan.ensures in
-    let own = subst (λ (z : Zones). IsAsked holds z d.args.filter.now d.args.projection.now (filter_of d.in-Some.plan) (projection_of d.in-Some.plan)) d.zones-zones.ensures.zones asks.0 in
-    let broken = broken_off (filter_of d.in-Some.plan) (projection_of d.in-Some.plan) _ (seen d.args.store.now) (seen d.scan_blocks.new.store) _ _ _ d.in-Ok.ensures.scanned in
-    some_done holds (c.S.ColumnStore.zoned d.args.store.now) d.args.filter.now d.args.projection.now d.in-Some.plan (seen d.args.store.now) (seen d.scan_blocks.new.store) own broken
-
-pub returns-in-Ok-clause-report : goal.returns-in-Ok-clause-report
-returns-in-Ok-clause-report c d =
-    let seen = seen_by c.S.ColumnStore.zoned c.S.ColumnStore.held c.S.ColumnStore.log c.S.ColumnStore.faults c.S.ColumnStore.failed c.S.ColumnStore.faultless in
-    let holds = registered d.args.registry.now in
-    let plan = d.in-Some.plan in
-    let asks = subst (λ (o : Option Plan). Asks holds d.zones-zones.result.now d.args.filter.now d.args.projection.now o) d.in-Some.is d.in_ok-plan.ensures in
-    let own = subst (λ (z : Zones). IsAsked holds z d.args.filter.now d.args.projection.now (filter_of plan) (projection_of plan)) d.zones-zones.ensures.zones asks.0 in
-    let planned = subst (λ (z : Zones). IsPlan z plan) d.zones-zones.ensures.zones asks.1 in
-    let report = d.in_ok-report-in-Ok.ensures in
-    let rows : (report_view d.in_ok-report-in-Ok.field-0).rows ≡ seen_rows i64_ty d.in-Ok.found.rows.items = λ i. raw_rows (report.dtype i) (report.rows i) in
-    (filter_of plan, projection_of plan, own, report_is plan (seen d.args.store.now) (seen d.scan_blocks.new.store) (seen_rows i64_ty d.in-Ok.found.rows.items) d.in-Ok.found.kept.items d.in-Ok.found.skipped.items (report_view d.in_ok-report-in-Ok.field-0) planned d.in-Ok.ensures.rules d.zones-zones.ensures.agrees d.in-Ok.ensures.scanned report.dtype rows report.kept report.skipped report.filter report.projection)
+pub returns-clause-ends : goal.returns-clause-ends
+returns-clause-ends g c =
+    let first = g.S.ColumnStore.seen c.args.store.now in
+    let last = g.S.ColumnStore.seen c.scan_exprs.new.store in
+    let f = c.in_ok-filter_expr.filter_expr in
+    let p = c.in_ok-projection_expr.projection_expr in
+    inr (
+      f,
+      p,
+      record { filter_spelled = c.in_ok-filter_expr.ensures; projection_spelled = c.in_ok-projection_expr.ensures },
+      subst (λ (s : Slots). IsScanOf s f p first last c.scan_exprs.result) (c.as_slice.ensures.value ∙ c.new-slots.ensures.items) c.scan_exprs.ensures.ends,
+    )

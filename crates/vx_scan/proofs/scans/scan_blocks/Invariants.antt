@@ -1,14 +1,18 @@
 use Rattle.std.proofs.Common.{◌≡◌, true}
+use Rattle.vx_dtype.specs.TypeViews.{type_view}
+use Rattle.vx_expr.specs.Trees.{Tree}
 use Rattle.vx_column.specs.Columns.{values_fit, seen_rows}
-use Rattle.vx_scan.specs.FirstForm.{i64_ty}
-use Rattle.vx_scan.specs.Planning.{filter_of, projection_of}
-use Rattle.vx_scan.specs.Progress.{IsScannedTo}
-use Rattle.vx_scan.specs.Scanning.{seen_by}
+use Rattle.vx_scan.specs.Stores.{IsSameStore}
+use Rattle.vx_scan.specs.Runs.{IsScannedTo}
+use Rattle.vx_scan.specs.Steps.{IsPreparedScan}
 use Rattle.vx_scan.proofs.scans.scan_blocks.Given as goal
 
 -- the blocks before this one are scanned
 abbrev pub invariant-loop-block : goal.invariant-loop-block
 invariant-loop-block l m =
-    let seen = seen_by l.S.ColumnStore.zoned l.S.ColumnStore.held l.S.ColumnStore.log l.S.ColumnStore.faults l.S.ColumnStore.failed l.S.ColumnStore.faultless in
-    IsScannedTo (filter_of m.fn.plan) (projection_of m.fn.plan) m.block (seen m.fn.store) (seen m.store) (seen_rows i64_ty m.found.rows.items) m.found.kept.items m.found.skipped.items
-    × (values_fit i64_ty m.found.rows.items ≡ true)
+    let first = l.S.ColumnStore.seen m.fn.store in
+    let u = type_view m.fn.scan.projection.dtype in
+    IsSameStore first (l.S.ColumnStore.seen m.store)
+    × (values_fit u m.found.rows.items ≡ true)
+    × ((f p : Tree) → IsPreparedScan first.zones m.fn.slots f p m.fn.scan →
+    IsScannedTo m.fn.slots f p m.block first (l.S.ColumnStore.seen m.store) (seen_rows u m.found.rows.items) m.found.kept.items m.found.skipped.items)

@@ -1,47 +1,64 @@
-use Rattle.std.proofs.Common.{◌∙◌, sym, ap, [], ◌+◌, subst}
+use Rattle.std.proofs.Common.{◌∙◌, ◌+◌, ◌<◌, sym, subst}
+use Rattle.vx_dtype.specs.TypeViews.{type_view}
 use Rattle.vx_column.specs.Columns.{seen_rows}
-use Rattle.vx_semantics.specs.Pruning.{rules_out}
-use Rattle.vx_semantics.specs.Tables.{Zones}
-use Rattle.vx_scan.specs.FirstForm.{i64_ty}
-use Rattle.vx_scan.specs.Planning.{filter_of, projection_of}
-use Rattle.vx_scan.specs.Progress.{Leaves}
-use Rattle.vx_scan.specs.Scanning.{seen_by}
-use Rattle.vx_scan.specs.declared.errors.StoreError.TheVariants.{NoMemory}
-use Rattle.vx_scan.proofs.ProgressLemmas.{the_error, broken_off, skip_block, keep_block}
+use Rattle.vx_scan.specs.Steps.{StandsAt}
+use Rattle.vx_scan.specs.declared.errors.ScanError.TheVariants.{NoMemory}
+use Rattle.vx_scan.proofs.ReadLemmas.{the_error}
+use Rattle.vx_scan.proofs.StandLemmas.{flags_long, flag_is, step_skips, step_cut, step_scans}
 use Rattle.vx_scan.proofs.scans.scan_next.Goals as goal
 
-pub returns-in_err-push-clause-leaves : goal.returns-in_err-push-clause-leaves
-returns-in_err-push-clause-leaves c d = λ start s.
-    let seen = seen_by c.S.ColumnStore.zoned c.S.ColumnStore.held c.S.ColumnStore.log c.S.ColumnStore.faults c.S.ColumnStore.failed c.S.ColumnStore.faultless in
-    let f = filter_of d.args.plan.now in
-    let p = projection_of d.args.plan.now in
-    let rows = seen_rows i64_ty d.args.found.now.rows.items in
-    let same = the_error d.from_residual.result NoMemory d.from_residual.ensures.0 d.from_residual.ensures.1 in
-    subst (λ r. Leaves f p (d.args.block + 1) start (seen d.args.store.now) rows d.args.found.now.kept.items d.push.new.self.items r) (sym same)
-    (broken_off f p d.args.block start (seen d.args.store.now) rows d.args.found.now.kept.items d.args.found.now.skipped.items s)
+pub index-requires : goal.index-requires
+index-requires g c =
+    let first = g.S.ColumnStore.seen c.args.store.now in
+    subst (λ n. c.args.block < n) (sym c.args.scan.now.ruled_out.ok.0)
+    (flags_long first.zones c.args.slots.now c.requires.prepared.0 c.requires.prepared.1 c.args.scan.now c.args.block c.requires.prepared.2 c.requires.block)
 
-pub returns-then-is_ruled_out-clause-leaves : goal.returns-then-is_ruled_out-clause-leaves
-returns-then-is_ruled_out-clause-leaves c d = λ start s.
-    let seen = seen_by c.S.ColumnStore.zoned c.S.ColumnStore.held c.S.ColumnStore.log c.S.ColumnStore.faults c.S.ColumnStore.failed c.S.ColumnStore.faultless in
-    let f = filter_of d.args.plan.now in
-    let p = projection_of d.args.plan.now in
-    let out = ap (λ (z : Zones). rules_out z [] d.args.block f) (sym d.zones.ensures.zones) ∙ sym d.is_ruled_out.ensures.gives ∙ d.if-is_ruled_out.true in
-    skip_block f p d.args.block start (seen d.args.store.now) (seen_rows i64_ty d.args.found.now.rows.items) d.args.found.now.kept.items d.args.found.now.skipped.items d.push.new.self.items d.zones.ensures.agrees d.requires.block out d.in_ok-push.ensures.items s
+pub returns-in_err-push-clause-stands : goal.returns-in_err-push-clause-stands
+returns-in_err-push-clause-stands g c = λ start f p h s.
+    let first = g.S.ColumnStore.seen c.args.store.now in
+    let slots = c.args.slots.now in
+    let scan = c.args.scan.now in
+    let block = c.args.block in
+    let u = type_view scan.projection.dtype in
+    let was = seen_rows u c.args.found.now.rows.items in
+    let same = the_error c.from_residual.result NoMemory c.from_residual.ensures.0 c.from_residual.ensures.1 in
+    subst (λ r. StandsAt slots f p (block + 1) start first was c.args.found.now.kept.items c.push.new.self.items r) (sym same)
+    (step_cut slots f p scan block start first was c.args.found.now.kept.items c.args.found.now.skipped.items h s)
 
-pub returns-in_err-push-2-clause-leaves : goal.returns-in_err-push-2-clause-leaves
-returns-in_err-push-2-clause-leaves c d = λ start s.
-    let seen = seen_by c.S.ColumnStore.zoned c.S.ColumnStore.held c.S.ColumnStore.log c.S.ColumnStore.faults c.S.ColumnStore.failed c.S.ColumnStore.faultless in
-    let f = filter_of d.args.plan.now in
-    let p = projection_of d.args.plan.now in
-    let rows = seen_rows i64_ty d.args.found.now.rows.items in
-    let same = the_error d.from_residual-in_err-push-2.result NoMemory d.from_residual-in_err-push-2.ensures.0 d.from_residual-in_err-push-2.ensures.1 in
-    subst (λ r. Leaves f p (d.args.block + 1) start (seen d.args.store.now) rows d.push-2.new.self.items d.args.found.now.skipped.items r) (sym same)
-    (broken_off f p d.args.block start (seen d.args.store.now) rows d.args.found.now.kept.items d.args.found.now.skipped.items s)
+pub returns-in_err-push-2-clause-stands : goal.returns-in_err-push-2-clause-stands
+returns-in_err-push-2-clause-stands g c = λ start f p h s.
+    let first = g.S.ColumnStore.seen c.args.store.now in
+    let slots = c.args.slots.now in
+    let scan = c.args.scan.now in
+    let block = c.args.block in
+    let u = type_view scan.projection.dtype in
+    let was = seen_rows u c.args.found.now.rows.items in
+    let same = the_error c.from_residual-in_err-push-2.result NoMemory c.from_residual-in_err-push-2.ensures.0 c.from_residual-in_err-push-2.ensures.1 in
+    subst (λ r. StandsAt slots f p (block + 1) start first was c.push-2.new.self.items c.args.found.now.skipped.items r) (sym same)
+    (step_cut slots f p scan block start first was c.args.found.now.kept.items c.args.found.now.skipped.items h s)
 
-pub returns-clause-leaves : goal.returns-clause-leaves
-returns-clause-leaves c d = λ start s.
-    let seen = seen_by c.S.ColumnStore.zoned c.S.ColumnStore.held c.S.ColumnStore.log c.S.ColumnStore.faults c.S.ColumnStore.failed c.S.ColumnStore.faultless in
-    let f = filter_of d.args.plan.now in
-    let p = projection_of d.args.plan.now in
-    let kept = ap (λ (z : Zones). rules_out z [] d.args.block f) (sym d.zones.ensures.zones) ∙ sym d.is_ruled_out.ensures.gives ∙ d.if-is_ruled_out.false in
-    keep_block f p d.args.block start (seen d.args.store.now) (seen d.scan_block.new.store) (seen_rows i64_ty d.args.found.now.rows.items) (seen_rows i64_ty d.scan_block.new.rows.items) d.args.found.now.kept.items d.args.found.now.skipped.items d.push-2.new.self.items d.scan_block.result d.zones.ensures.agrees d.requires.block kept d.in_ok-push-2.ensures.items d.scan_block.ensures.same d.scan_block.ensures.faults (λ table h e b at. (d.scan_block.ensures.reads table h e b at, d.scan_block.ensures.rows table h e b at)) s
+pub returns-then-index-clause-stands : goal.returns-then-index-clause-stands
+returns-then-index-clause-stands g c = λ start f p h s.
+    let first = g.S.ColumnStore.seen c.args.store.now in
+    let slots = c.args.slots.now in
+    let scan = c.args.scan.now in
+    let block = c.args.block in
+    let u = type_view scan.projection.dtype in
+    let was = seen_rows u c.args.found.now.rows.items in
+    let flag = c.index.result.now in
+    let out = flag_is first.zones slots f p scan block flag flag h c.requires.block c.index.ensures ∙ c.if-index.true in
+    step_skips slots f p scan block start first was c.args.found.now.kept.items c.args.found.now.skipped.items c.push.new.self.items h c.requires.agrees c.requires.block out c.in_ok-push.ensures.items s
+
+pub returns-clause-stands : goal.returns-clause-stands
+returns-clause-stands g c = λ start f p h s.
+    let first = g.S.ColumnStore.seen c.args.store.now in
+    let slots = c.args.slots.now in
+    let scan = c.args.scan.now in
+    let block = c.args.block in
+    let u = type_view scan.projection.dtype in
+    let was = seen_rows u c.args.found.now.rows.items in
+    let flag = c.index.result.now in
+    let out = flag_is first.zones slots f p scan block flag flag h c.requires.block c.index.ensures ∙ c.if-index.false in
+    let last = g.S.ColumnStore.seen c.scan_block.new.store in
+    step_scans slots f p scan block start first last was (seen_rows u c.scan_block.new.rows.items) c.args.found.now.kept.items c.args.found.now.skipped.items c.push-2.new.self.items c.scan_block.result h
+    c.requires.block out c.in_ok-push-2.ensures.items (c.scan_block.ensures.runs f p h) s

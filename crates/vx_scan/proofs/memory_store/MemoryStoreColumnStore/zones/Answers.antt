@@ -16,4 +16,4 @@ returns-clause-agrees c =
     let fitting : list_all block_fits (map block_view c.self.inside.blocks.items) ≡ true = c.self.invariant.2 in
     let fits = subst (λ (s : StoreState). list_all block_fits s.blocks ≡ true) c.self.view_is fitting in
     let lengths = table_lengths c.args.self.now.zones.columns (length (field_names c.args.self.now.zones.columns)) c.args.self.now.zones.lengths c.args.self.now.blocks kept in
-    (refl, lengths, table_fit c.args.self.now.zones.columns c.args.self.now.zones.lengths c.args.self.now.blocks kept types fits)
+    record { columns = refl; lengths = lengths; fit = table_fit c.args.self.now.zones.columns c.args.self.now.zones.lengths c.args.self.now.blocks kept types fits }

@@ -1,0 +1,92 @@
+-- What a scan makes ready, against its type.
+use Rattle.std.proofs.Common.{◌≡◌, refl, ap, ◌∙◌, Bool, true, false, cond, not, Option, Some, None, Result, Ok, Err, subst}
+use Rattle.vx_dtype.specs.TypeRules.{fields_of, is_bool_ty, no_name_twice}
+use Rattle.vx_dtype.specs.TypeViews.{type_view}
+use Rattle.vx_dtype.specs.Types.{Ty}
+use Rattle.vx_expr.specs.Trees.{Tree}
+use Rattle.vx_semantics.specs.Meaning.{Slots}
+use Rattle.vx_semantics.specs.Slots.{slots_fit}
+use Rattle.vx_semantics.specs.Tables.{Zones, row_type}
+use Rattle.vx_semantics.specs.Typing.{Refusal, typed_of, and_then, unless, type_mismatch}
+use Rattle.vx_eval.specs.Evaluating.{checked_type}
+use Rattle.vx_zones.specs.Zoning.{broken_rule}
+use Rattle.vx_zones.specs.declared.errors.ZoneError.{ZoneError}
+use Rattle.vx_zones.specs.declared.errors.ZoneError.TheVariants as zone_errors
+use Rattle.vx_prepare.specs.declared.prepared.PreparedExpr.{PreparedExpr}
+use Rattle.vx_scan.specs.Scanning.{on_side, after_filter, scan_type}
+use Rattle.vx_scan.specs.Steps.{PreparesSide, PreparesScan, IsPreparedScan}
+use Rattle.vx_scan.specs.declared.errors.Side.{Side}
+use Rattle.vx_scan.specs.declared.errors.Side.TheVariants.{Filter, Projection}
+use Rattle.vx_scan.specs.declared.errors.ScanError.{ScanError}
+use Rattle.vx_scan.specs.declared.errors.ScanError.TheVariants as errors
+use Rattle.vx_scan.specs.declared.preparing.PreparedScan.{PreparedScan}
+
+-- in no type of the columns of zones a name stands twice
+passed : (b : Bool) (e : ZoneError) (o : Option ZoneError) → cond (not b) (Some e) o ≡ None → b ≡ true
+passed true e o h = refl
+passed false e o h = let no : ⊥ = cc in absurd no
+
+pub names_once : (zones : Zones) → broken_rule zones ≡ None → no_name_twice (row_type zones.columns) ≡ true
+unfolding broken_rule
+names_once zones h = passed (no_name_twice (row_type zones.columns)) zone_errors.DuplicateName _ h
+
+-- a checked type is the expression's, and its slots fit
+then_step : (r : Result Ty Refusal) (b : Bool) (u : Ty) → and_then r (λ v. unless b type_mismatch (Ok v)) ≡ Ok u → (r ≡ Ok u) × (b ≡ true)
+then_step (Ok v) true u h = (h, refl)
+then_step (Ok v) false u h = let no : ⊥ = cc in absurd no
+then_step (Err e) b u h = let no : ⊥ = cc in absurd no
+
+pub checked_parts : (t : Ty) (slots : Slots) (e : Tree) (u : Ty) → checked_type t slots e ≡ Ok u → (typed_of t e ≡ Ok u) × (slots_fit slots e ≡ true)
+checked_parts t slots e u h = then_step (typed_of t e) (slots_fit slots e) u h
+
+-- the type of a scan, or its first refusal
+pub filter_refuses : (t : Ty) (slots : Slots) (f p : Tree) (e : ScanError) → on_side Filter (checked_type t slots f) ≡ Err e → scan_type t slots f p ≡ Err e
+filter_refuses t slots f p e h = ap (λ (r : Result Ty ScanError). after_filter r (on_side Projection (checked_type t slots p))) h
+
+filter_passes : (t : Ty) (slots : Slots) (f p : Tree) (u : Ty) → checked_type t slots f ≡ Ok u
+    → scan_type t slots f p ≡ cond (is_bool_ty u) (on_side Projection (checked_type t slots p)) (Err errors.FilterNotBool)
+filter_passes t slots f p u h = ap (λ (r : Result Ty Refusal). after_filter (on_side Filter r) (on_side Projection (checked_type t slots p))) h
+
+pub filter_no_bool : (t : Ty) (slots : Slots) (f p : Tree) (u : Ty) → checked_type t slots f ≡ Ok u → is_bool_ty u ≡ false → scan_type t slots f p ≡ Err errors.FilterNotBool
+filter_no_bool t slots f p u h k =
+    filter_passes t slots f p u h ∙ ap (λ (b : Bool). cond b (on_side Projection (checked_type t slots p)) (Err errors.FilterNotBool)) k
+
+filter_bool : (t : Ty) (slots : Slots) (f p : Tree) (u : Ty) → checked_type t slots f ≡ Ok u → is_bool_ty u ≡ true → scan_type t slots f p ≡ on_side Projection (checked_type t slots p)
+filter_bool t slots f p u h k =
+    filter_passes t slots f p u h ∙ ap (λ (b : Bool). cond b (on_side Projection (checked_type t slots p)) (Err errors.FilterNotBool)) k
+
+pub projection_refuses : (t : Ty) (slots : Slots) (f p : Tree) (u : Ty) (e : ScanError) → checked_type t slots f ≡ Ok u → is_bool_ty u ≡ true → on_side Projection (checked_type t slots p) ≡ Err e
+    → scan_type t slots f p ≡ Err e
+projection_refuses t slots f p u e h k r = filter_bool t slots f p u h k ∙ r
+
+pub scan_typed : (zones : Zones) (slots : Slots) (f p : Tree) (scan : PreparedScan) → IsPreparedScan zones slots f p scan
+    → scan_type (row_type zones.columns) slots f p ≡ Ok (type_view scan.projection.dtype)
+scan_typed zones slots f p scan h =
+    let t = row_type zones.columns in
+    filter_bool t slots f p (type_view scan.filter.dtype) h.filter.typed h.boolean
+    ∙ ap (on_side Projection) h.projection.typed
+
+-- a side that is refused refuses the scan
+pub side_refuses : (zones : Zones) (slots : Slots) (f p g : Tree) (side : Side) (e : ScanError)
+    → (on_side side (checked_type (row_type zones.columns) slots g) ≡ Err e → scan_type (row_type zones.columns) slots f p ≡ Err e)
+    → PreparesSide zones.columns slots side g (Err e) → PreparesScan zones slots f p (Err e)
+side_refuses zones slots f p g side errors.NoMemory k h = tt
+side_refuses zones slots f p g side errors.Overflow k h = h
+side_refuses zones slots f p g side errors.BadCast k h = h
+side_refuses zones slots f p g side errors.StoreFault k h = h
+side_refuses zones slots f p g side (errors.BadWire s) k h = k h
+side_refuses zones slots f p g side (errors.TooDeep s) k h = k h
+side_refuses zones slots f p g side (errors.TooManyNodes s) k h = k h
+side_refuses zones slots f p g side (errors.UnknownExpr s) k h = k h
+side_refuses zones slots f p g side (errors.BadMetadata s) k h = k h
+side_refuses zones slots f p g side (errors.WrongChildren s) k h = k h
+side_refuses zones slots f p g side (errors.NotStruct s) k h = k h
+side_refuses zones slots f p g side (errors.NullableSelect s) k h = k h
+side_refuses zones slots f p g side (errors.UnknownField s) k h = k h
+side_refuses zones slots f p g side (errors.DuplicateField s) k h = k h
+side_refuses zones slots f p g side (errors.TypeMismatch s) k h = k h
+side_refuses zones slots f p g side errors.FilterNotBool k h = k h
+
+-- what is prepared over the rows of zones
+pub side_of : (zones : Zones) (t : Ty) (slots : Slots) (side : Side) (g : Tree) (result : Result PreparedExpr ScanError) → t ≡ row_type zones.columns → PreparesSide (fields_of t) slots side g result → PreparesSide zones.columns slots side g result
+side_of zones t slots side g result e h = subst (λ (u : Ty). PreparesSide (fields_of u) slots side g result) e h

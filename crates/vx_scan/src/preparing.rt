@@ -1,0 +1,78 @@
+// What a scan makes ready before its first block.
+ghost use Rattle.std.specs.Prelude.{◌≡◌};
+ghost use Rattle.vx_dtype.specs.TypeRules.{fields_of, is_bool_ty};
+ghost use Rattle.vx_dtype.specs.TypeViews.{type_view};
+ghost use Rattle.vx_semantics.specs.Tables.{row_type};
+ghost use Rattle.vx_scan.specs.Steps.{PreparesSide, PreparesScan};
+
+use crate::errors::{ScanError, Side};
+use std::alloc::Global;
+use vx_block_pruning::ruled_out;
+use vx_dtype::{DType, Scalar};
+use vx_eval::TypeError;
+use vx_expr::ExprRef;
+use vx_prepare::{PreparedExpr, prepare};
+use vx_zones::ZoneMap;
+
+/// Both expressions of a scan, ready to be evaluated block by block, and whether the filter rules out each block.
+#[derive(Drop)]
+pub(crate) struct PreparedScan {
+    pub(crate) filter: PreparedExpr,
+    pub(crate) projection: PreparedExpr,
+    pub(crate) ruled_out: Vec<bool>,
+}
+
+/// The scan of two expressions over a table with these statistics, ready for its first block. The refusal is the first of: that of the
+/// filter's typing and of its slots, that the filter is no boolean, that of the projection's typing and of its slots. The blocks are ruled
+/// out by the filter as it was given: what simplifying makes of it may rule out others.
+pub(crate) fn prepare_scan(
+    alloc: Global,
+    filter: &ExprRef,
+    projection: &ExprRef,
+    slots: &[Option<Scalar>],
+    zones: &ZoneMap,
+) -> Result<PreparedScan, ScanError>
+    ensures { PreparesScan zones.now slots.now filter.now projection.now result }
+{
+    let scope = zones.dtype();
+    let prepared_filter = prepare_side(alloc, filter, scope, slots, Side::Filter)?;
+    if !is_boolean(prepared_filter.dtype()) {
+        return Err(ScanError::FilterNotBool);
+    }
+    let prepared_projection = prepare_side(alloc, projection, scope, slots, Side::Projection)?;
+    let flags = ruled_out(alloc, zones, filter, slots)?;
+    Ok(PreparedScan {
+        filter: prepared_filter,
+        projection: prepared_projection,
+        ruled_out: flags,
+    })
+}
+
+/// The expression of a side, ready to be evaluated. Its refusal of typing tells the side.
+fn prepare_side(
+    alloc: Global,
+    expr: &ExprRef,
+    scope: &DType,
+    slots: &[Option<Scalar>],
+    side: Side,
+) -> Result<PreparedExpr, ScanError>
+    requires { type_view scope.now ≡ row_type (fields_of (type_view scope.now)) }
+    ensures { PreparesSide (fields_of (type_view scope.now)) slots.now side expr.now result }
+{
+    match prepare(alloc, expr, scope, slots) {
+        Ok(prepared) => Ok(prepared),
+        Err(TypeError::NoMemory) => Err(ScanError::NoMemory),
+        Err(TypeError::NotStruct) => Err(ScanError::NotStruct(side)),
+        Err(TypeError::NullableSelect) => Err(ScanError::NullableSelect(side)),
+        Err(TypeError::UnknownField) => Err(ScanError::UnknownField(side)),
+        Err(TypeError::DuplicateField) => Err(ScanError::DuplicateField(side)),
+        Err(TypeError::TypeMismatch) => Err(ScanError::TypeMismatch(side)),
+    }
+}
+
+/// Whether a type is that of booleans.
+fn is_boolean(dtype: &DType) -> bool
+    ensures { result ≡ is_bool_ty (type_view dtype.now) }
+{
+    matches!(dtype, DType::Bool(_))
+}
