@@ -1,6 +1,7 @@
 -- What the lines of refusals tell.
 use Rattle.std.specs.Prelude.{◌++◌, codes}
 use Rattle.vx_dtype.specs.Types.{Bytes}
+use Rattle.vx_semantics.specs.Breaks.{Cause, by_sum, by_cast}
 use Rattle.vx_request.specs.declared.errors.Place.{Place}
 use Rattle.vx_request.specs.declared.errors.Place.TheVariants.{Top, Columns, Blocks, Stats, Filter, Projection}
 use Rattle.vx_request.specs.declared.errors.Side.{Side}
@@ -72,6 +73,11 @@ scan_refusal_name scans.FilterNotBool = codes "FilterNotBool"
 scan_refusal_name scans.Overflow = codes "Overflow"
 scan_refusal_name scans.BadCast = codes "BadCast"
 scan_refusal_name scans.StoreFault = codes "StoreFault"
+
+-- what is told of a phase that breaks by a cause
+abbrev pub break_name : Cause → Bytes
+break_name by_sum = codes "Overflow"
+break_name by_cast = codes "BadCast"
 
 -- the line of a refusal
 abbrev pub refusal_line : Bytes → Bytes

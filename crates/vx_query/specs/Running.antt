@@ -3,7 +3,7 @@ use Rattle.std.specs.Prelude.{◌≡◌, ◌⊎◌, ℕ, ◌+◌, ◌≤◌, Boo
 use Rattle.std.specs.Str.{bytes_eq}
 use Rattle.vx_dtype.specs.Types.{Bytes, Ty}
 use Rattle.vx_expr.specs.Trees.{Tree}
-use Rattle.vx_semantics.specs.Breaks.{Cause, by_sum, by_cast}
+use Rattle.vx_semantics.specs.Breaks.{Cause}
 use Rattle.vx_semantics.specs.Tables.{Table, row_type}
 use Rattle.vx_semantics.specs.Scans.{kept_rows_of, skipped_blocks, reads_of, reads_to_break, read_columns, Phase, phases_of, some_phase_breaks, first_breaks_by}
 use Rattle.vx_wire.specs.Encodings.{is_default_kind}
@@ -18,7 +18,7 @@ use Rattle.vx_io.specs.Ends.{TookPart, TookUpTo, Added, AddedPrefix}
 use Rattle.vx_query.specs.Reports.{report_text}
 use Rattle.vx_request.specs.Requests.{RequestedScan, request_of, most_bytes}
 use Rattle.vx_request.specs.declared.errors.RequestError.{RequestError}
-use Rattle.vx_query.specs.Refusals.{request_refusal_name, scan_refusal_name, refusal_line}
+use Rattle.vx_query.specs.Refusals.{request_refusal_name, scan_refusal_name, break_name, refusal_line}
 
 -- the forms of arguments
 pub data Form : Type 0 where
@@ -178,8 +178,7 @@ text_of out_of_memory = refusal_line (codes "NoMemory")
 text_of unread = refusal_line (codes "ReadFault")
 text_of (refused input e) = refusal_line (request_refusal_name e)
 text_of (unscanned input e) = refusal_line (scan_refusal_name e)
-text_of (broken by_sum input a f p) = refusal_line (codes "Overflow")
-text_of (broken by_cast input a f p) = refusal_line (codes "BadCast")
+text_of (broken cause input a f p) = refusal_line (break_name cause)
 text_of (answered input a f p) = scan_report a f p
 
 -- the store that is held after an outcome: the one that was scanned, where a report was made or a phase broke
