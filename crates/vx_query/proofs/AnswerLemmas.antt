@@ -1,5 +1,5 @@
 -- The answer to an input: how a scan of a store that wasn't read yet ends.
-use Rattle.std.proofs.Common.{◌≡◌, ◌≢◌, ◌∙◌, sym, ap, refl, subst, arith, inl, inr, ℕ, ◌+◌, ◌<◌, Bool, true, false, List, [], ◌∷◌, ◌++◌, length, drop, get_or, map, Some, None, Option, ◌&&◌, Result, Ok, Err}
+use Rattle.std.proofs.Common.{◌≡◌, ◌≢◌, ◌∙◌, sym, ap, refl, subst, arith, inl, inr, ℕ, ◌+◌, ◌<◌, Bool, true, false, List, [], ◌∷◌, ◌++◌, length, drop, get_or, map, None, ◌&&◌, Result, Ok, Err}
 use Rattle.std.proofs.lemmas.List.{append_assoc, drop_more}
 use Rattle.std.proofs.lemmas.Option.{same_Some}
 use Rattle.std.specs.List.{filter}
@@ -12,7 +12,7 @@ use Rattle.vx_dtype.specs.Types.{Bytes}
 use Rattle.vx_column.specs.Columns.{Column}
 use Rattle.vx_expr.specs.Trees.{Tree}
 use Rattle.vx_semantics.specs.Breaks.{Cause, by_sum, by_cast}
-use Rattle.vx_semantics.specs.Tables.{Table, Zones}
+use Rattle.vx_semantics.specs.Tables.{Zones}
 use Rattle.vx_semantics.specs.Scans.{read_columns, reads_to_break}
 use Rattle.vx_display.specs.ValueTexts.{value_text}
 use Rattle.vx_wire.specs.Encodings.{is_default_kind}
@@ -73,7 +73,8 @@ abbrev pub fresh : RequestedScan → Seen
 fresh a = store_with a []
 
 -- a store that is the same but for these reads, none of which failed
-store_after : (a : RequestedScan) (reads : List Read) (s : Seen) → IsSameStore (fresh a) s → s.log ≡ reads → s.failed ≡ None → s ≡ store_with a reads
+store_after : (a : RequestedScan) (reads : List Read) (s : Seen) → IsSameStore (fresh a) s → s.log ≡ reads → s.failed ≡ None
+    → s ≡ store_with a reads
 store_after a reads s same log failed =
     λ i. record { zones = same.zones i; held = same.held i; log = log i; faults = same.quiet refl i; failed = failed i; faultless = same.faultless i }
 
@@ -97,9 +98,11 @@ broken_told cause a f p s same broken =
     (broken.first_breaks, store_after a (reads_to_break (scan_table a) a.zones [] f p) s same (broken.reads.grown ∙ broken.reads.told) broken.unfailed)
 
 -- a scan that reports ends so
-pub reported_scan : (a : RequestedScan) (holds : ExprEncoding → Bool) (before : Seen) (s : StoreState) (r : ScanReport) (text : String Global) → holds ≡ is_default_kind
+pub reported_scan : (a : RequestedScan) (holds : ExprEncoding → Bool) (before : Seen) (s : StoreState) (r : ScanReport) (text : String Global)
+    → holds ≡ is_default_kind
     → before ≡ fresh a → IsSameStore before (store_seen s) → IsScan holds a.filter a.projection before (store_seen s) (Ok r)
-    → string_bytes text ≡ report_text (map value_text (report_view r).rows) (report_view r).skipped (read_columns (table_of s.zones s.blocks) s.reads) (length s.reads)
+    → string_bytes text
+    ≡ report_text (map value_text (report_view r).rows) (report_view r).skipped (read_columns (table_of s.zones s.blocks) s.reads) (length s.reads)
     → IsScanned a (Told text) (store_seen s)
 reported_scan a holds before s r text kinds is same ended told =
     elim (subst (λ k. k) (λ i. IsScan (kinds i) a.filter a.projection (is i) (store_seen s) (Ok r)) ended) [
@@ -138,7 +141,8 @@ broken_scan cause ending a f p s spelled same broken ends = record {
 }
 
 -- a scan of such a store that gives no report
-pub unreported_fresh : (a : RequestedScan) (s : Seen) (e : ScanError) → IsSameStore (fresh a) s → IsScan is_default_kind a.filter a.projection (fresh a) s (Err e)
+pub unreported_fresh : (a : RequestedScan) (s : Seen) (e : ScanError) → IsSameStore (fresh a) s
+    → IsScan is_default_kind a.filter a.projection (fresh a) s (Err e)
     → IsUnreported a e s
 unreported_fresh a s scans.NoMemory same ended = tt
 unreported_fresh a s scans.Overflow same ended =
@@ -178,7 +182,8 @@ if_err P r (Ok x) h k = absurd h
 if_err P r (Err x) h k = subst P (sym h) k
 
 -- an input that holds a scan whose expressions are typed is answered by how it ends
-pub answered_by : (input : Bytes) (s : RequestedScan) (ending : Ending) (seen : Seen) → request_of input ≡ Ok s → IsScanned s ending seen → IsAnswered input ending seen
+pub answered_by : (input : Bytes) (s : RequestedScan) (ending : Ending) (seen : Seen) → request_of input ≡ Ok s → IsScanned s ending seen
+    → IsAnswered input ending seen
 answered_by input s ending seen found scanned = record {
   asked = s;
   filter = scanned.filter;

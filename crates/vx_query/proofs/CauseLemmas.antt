@@ -93,7 +93,8 @@ unasked form i i' o o' used run = by run.outcome run.writing run.comes run.writt
     by versioned whole comes written held = absurd (omega (arith, written.0))
     by out_of_memory whole comes written held = absurd (omega (arith, written.0))
     by unread whole comes written held = absurd (omega (arith, written.0))
-    by (refused input e) whole comes written held = record { input = input; refusal = e; taken = comes.1.0; cause = comes.1.1; written = written.1.0; unheld = held }
+    by (refused input e) whole comes written held =
+        record { input = input; refusal = e; taken = comes.1.0; cause = comes.1.1; written = written.1.0; unheld = held }
     by (unscanned input e) whole comes written held = absurd (omega (arith, written.0))
     by (broken cause input a f p) whole comes written held = absurd (omega (arith, written.0))
     by (answered input a f p) whole comes written held = absurd (omega (arith, written.0))
@@ -111,7 +112,8 @@ unspelled form i i' o o' used run = by run.outcome run.writing run.comes run.wri
     by out_of_memory whole comes written held = absurd (omega (arith, written.0))
     by unread whole comes written held = absurd (omega (arith, written.0))
     by (refused input e) whole comes written held = absurd (omega (arith, written.0))
-    by (unscanned input e) whole comes written held = record { input = input; refusal = e; taken = comes.1.0; cause = comes.1.1; written = written.1.0; unheld = held }
+    by (unscanned input e) whole comes written held =
+        record { input = input; refusal = e; taken = comes.1.0; cause = comes.1.1; written = written.1.0; unheld = held }
     by (broken cause input a f p) whole comes written held = absurd (omega (arith, written.0))
     by (answered input a f p) whole comes written held = absurd (omega (arith, written.0))
 
@@ -190,32 +192,41 @@ unfolding request_of
 asks_within input a e = leb-true (length input) most_bytes (asks_where (nat_le (length input) most_bytes) (json_in input >>= scan_of) a e)
 
 -- such an input is taken whole
-taken_whole : (before after : End) (all input : Bytes) → before.bytes ≡ Some all → length all ≤ most_bytes → TookUpTo (most_bytes + 1) before.bytes after.bytes input → input ≡ all
+taken_whole : (before after : End) (all input : Bytes) → before.bytes ≡ Some all → length all ≤ most_bytes
+    → TookUpTo (most_bytes + 1) before.bytes after.bytes input → input ≡ all
 taken_whole before after all input told within took =
     let own = subst (λ b. TookUpTo (most_bytes + 1) b after.bytes input) told took in
     own.0 ∙ take_all (most_bytes + 1) all (omega (arith, within))
 
 -- such an input is taken as far as it may be
-taken_part : (before after : End) (all input : Bytes) → before.bytes ≡ Some all → TookUpTo (most_bytes + 1) before.bytes after.bytes input → input ≡ take (most_bytes + 1) all
+taken_part : (before after : End) (all input : Bytes) → before.bytes ≡ Some all → TookUpTo (most_bytes + 1) before.bytes after.bytes input
+    → input ≡ take (most_bytes + 1) all
 taken_part before after all input told took = (subst (λ b. TookUpTo (most_bytes + 1) b after.bytes input) told took).0
 
+-- the input that holds a scan is the one that the end tells
+told_input : (i i' : End) (input : Bytes) (told : TellsScan i) → TookUpTo (most_bytes + 1) i.bytes i'.bytes input → input ≡ told.input
+told_input i i' input told took = taken_whole i i' told.input input told.told (asks_within told.input told.asked told.asks.asked) took
+
 -- a scan that is held is the one that the end tells
-told_scan : WireLaws → (i i' : End) (input : Bytes) (a : RequestedScan) (f p : Tree) (told : TellsScan i) → TookUpTo (most_bytes + 1) i.bytes i'.bytes input → HoldsScan input a f p
+told_scan : WireLaws → (i i' : End) (input : Bytes) (a : RequestedScan) (f p : Tree) (told : TellsScan i) → TookUpTo (most_bytes + 1) i.bytes i'.bytes input
+    → HoldsScan input a f p
     → IsSameScan a f p told.asked told.filter told.projection
 told_scan laws i i' input a f p told took held =
-    let same : input ≡ told.input = taken_whole i i' told.input input told.told (asks_within told.input told.asked told.asks.asked) took in
+    let same = told_input i i' input told took in
     one_scan laws told.input a f p told.asked told.filter told.projection (subst (λ bytes. HoldsScan bytes a f p) same held) told.asks
 
 -- such an input is a request
-told_unrefused : (i i' : End) (input : Bytes) (e : RequestError) (told : TellsScan i) → TookUpTo (most_bytes + 1) i.bytes i'.bytes input → ¬ (request_of input ≡ Err e)
+told_unrefused : (i i' : End) (input : Bytes) (e : RequestError) (told : TellsScan i) → TookUpTo (most_bytes + 1) i.bytes i'.bytes input
+    → ¬ (request_of input ≡ Err e)
 told_unrefused i i' input e told took h =
-    let same : input ≡ told.input = taken_whole i i' told.input input told.told (asks_within told.input told.asked told.asks.asked) took in
+    let same = told_input i i' input told took in
     not_err (request_of told.input) told.asked e told.asks.asked (sym (ap request_of same) ∙ h)
 
 -- and its expressions are not refused
-told_spelled : WireLaws → (i i' : End) (input : Bytes) (e : ScanError) (told : TellsScan i) → TookUpTo (most_bytes + 1) i.bytes i'.bytes input → ¬ (HoldsRefused input e)
+told_spelled : WireLaws → (i i' : End) (input : Bytes) (e : ScanError) (told : TellsScan i) → TookUpTo (most_bytes + 1) i.bytes i'.bytes input
+    → ¬ (HoldsRefused input e)
 told_spelled laws i i' input e told took h =
-    let same : input ≡ told.input = taken_whole i i' told.input input told.told (asks_within told.input told.asked told.asks.asked) took in
+    let same = told_input i i' input told took in
     held_unrefused laws told.input told.asked told.filter told.projection e told.asks (subst (λ bytes. HoldsRefused bytes e) same h)
 
 -- ---- phases that break
@@ -225,17 +236,19 @@ break_step : (own other rest some : Bool) → (rest ≡ true → some ≡ true) 
 break_step true other rest some more h = refl
 break_step false other rest some more h = more h
 
-some_breaks : (cause : Cause) (t : Ty) (slots : Slots) (phases : List Phase) → first_breaks_by cause t slots phases ≡ true → list_any (phase_breaks t slots) phases ≡ true
+some_breaks : (cause : Cause) (t : Ty) (slots : Slots) (phases : List Phase) → first_breaks_by cause t slots phases ≡ true
+    → list_any (phase_breaks t slots) phases ≡ true
 some_breaks cause t slots [] h = absurd (true≢false (sym h))
 some_breaks cause t slots (phase ∷ phases) h =
-    break_step (phase_breaks t slots phase) (phase_breaks_by cause t slots phase) (first_breaks_by cause t slots phases) (list_any (phase_breaks t slots) phases)
-    (some_breaks cause t slots phases) h
+    break_step (phase_breaks t slots phase) (phase_breaks_by cause t slots phase) (first_breaks_by cause t slots phases)
+    (list_any (phase_breaks t slots) phases) (some_breaks cause t slots phases) h
 
 breaks_by_one : (cause : Cause) (a : RequestedScan) (f p : Tree) → scan_breaks_by cause a f p ≡ true → scan_breaks a f p ≡ true
 breaks_by_one cause a f p h = some_breaks cause (row_type a.zones.columns) [] (scan_phases a f p) h
 
 -- the scan that is told breaks as the same one does
-told_breaking : {i : End} (told : TellsScan i) (a : RequestedScan) (f p : Tree) (b : Bool) → IsSameScan a f p told.asked told.filter told.projection → scan_breaks a f p ≡ b
+told_breaking : {i : End} (told : TellsScan i) (a : RequestedScan) (f p : Tree) (b : Bool) → IsSameScan a f p told.asked told.filter told.projection
+    → scan_breaks a f p ≡ b
     → told_breaks told ≡ b
 told_breaking told a f p b same h = sym (λ j. scan_breaks (same.asked j) (same.filter j) (same.projection j)) ∙ h
 
@@ -246,7 +259,8 @@ pub completed : WireLaws → (i i' o o' : End) (used : Option Seen) (status : �
     → IsRun (Some scan_form) i i' o o' used status → ¬ (HasRisen i i') → ¬ (HasRisen o o') → ¬ (status ≡ 8) → status ≡ 0
 completed laws i i' o o' used status told breaks run still quiet memory = by run.outcome run.writing run.comes run.written
   where
-    by : (outcome : Outcome) (writing : Writing) → IsOutcome (Some scan_form) i i' outcome → IsWriting o o' (text_of outcome) (status_of outcome) status writing
+    by : (outcome : Outcome) (writing : Writing) → IsOutcome (Some scan_form) i i' outcome
+        → IsWriting o o' (text_of outcome) (status_of outcome) status writing
         → status ≡ 0
     by outcome cut comes written = absurd (quiet written.1.1)
     by misused whole comes written = absurd (not_none comes.0)
@@ -257,7 +271,8 @@ completed laws i i' o o' used status told breaks run still quiet memory = by run
     by (refused input e) whole comes written = absurd (told_unrefused i i' input e told comes.1.0.bytes comes.1.1)
     by (unscanned input e) whole comes written = absurd (told_spelled laws i i' input e told comes.1.0.bytes comes.1.1)
     by (broken cause input a f p) whole comes written =
-        let breaking = told_breaking told a f p true (told_scan laws i i' input a f p told comes.1.0.bytes comes.1.1.0) (breaks_by_one cause a f p comes.1.1.1) in
+        let same = told_scan laws i i' input a f p told comes.1.0.bytes comes.1.1.0 in
+        let breaking = told_breaking told a f p true same (breaks_by_one cause a f p comes.1.1.1) in
         absurd (true≢false (sym breaking ∙ breaks))
     by (answered input a f p) whole comes written = written.0
 
@@ -267,10 +282,12 @@ SaysWhy o o' status told name = (status ≡ told) × Added o.bytes o'.bytes (ref
 
 -- where the bytes that are told are no request
 pub says_why : (e : RequestError) (i i' o o' : End) (used : Option Seen) (status : ℕ) → TellsRefused i e
-    → IsRun (Some scan_form) i i' o o' used status → ¬ (HasRisen i i') → ¬ (HasRisen o o') → ¬ (status ≡ 8) → SaysWhy o o' status 3 (request_refusal_name e)
+    → IsRun (Some scan_form) i i' o o' used status → ¬ (HasRisen i i') → ¬ (HasRisen o o') → ¬ (status ≡ 8)
+    → SaysWhy o o' status 3 (request_refusal_name e)
 says_why e i i' o o' used status tells run still quiet memory = by run.outcome run.writing run.comes run.written
   where
-    by : (outcome : Outcome) (writing : Writing) → IsOutcome (Some scan_form) i i' outcome → IsWriting o o' (text_of outcome) (status_of outcome) status writing
+    by : (outcome : Outcome) (writing : Writing) → IsOutcome (Some scan_form) i i' outcome
+        → IsWriting o o' (text_of outcome) (status_of outcome) status writing
         → SaysWhy o o' status 3 (request_refusal_name e)
     by outcome cut comes written = absurd (quiet written.1.1)
     by misused whole comes written = absurd (not_none comes.0)
@@ -292,12 +309,20 @@ says_why e i i' o o' used status tells run still quiet memory = by run.outcome r
         let part = taken_part i i' tells.input input tells.told comes.1.0.bytes in
         absurd (not_err (request_of input) a e comes.1.1.0.asked (ap request_of part ∙ tells.refused))
 
+-- the input of a scan whose expressions are refused is taken whole
+unscanned_input : (i i' : End) (input : Bytes) (e : ScanError) (tells : TellsUnscanned i e)
+    → TookUpTo (most_bytes + 1) i.bytes i'.bytes input → input ≡ tells.input
+unscanned_input i i' input e tells took =
+    taken_whole i i' tells.input input tells.told (asks_within tells.input tells.refused.asked tells.refused.held) took
+
 -- where the expressions of the scan that is told are refused
 pub says_refusal : WireLaws → (e : ScanError) (i i' o o' : End) (used : Option Seen) (status : ℕ) → TellsUnscanned i e
-    → IsRun (Some scan_form) i i' o o' used status → ¬ (HasRisen i i') → ¬ (HasRisen o o') → ¬ (status ≡ 8) → SaysWhy o o' status 4 (scan_refusal_name e)
+    → IsRun (Some scan_form) i i' o o' used status → ¬ (HasRisen i i') → ¬ (HasRisen o o') → ¬ (status ≡ 8)
+    → SaysWhy o o' status 4 (scan_refusal_name e)
 says_refusal laws e i i' o o' used status tells run still quiet memory = by run.outcome run.writing run.comes run.written
   where
-    by : (outcome : Outcome) (writing : Writing) → IsOutcome (Some scan_form) i i' outcome → IsWriting o o' (text_of outcome) (status_of outcome) status writing
+    by : (outcome : Outcome) (writing : Writing) → IsOutcome (Some scan_form) i i' outcome
+        → IsWriting o o' (text_of outcome) (status_of outcome) status writing
         → SaysWhy o o' status 4 (scan_refusal_name e)
     by outcome cut comes written = absurd (quiet written.1.1)
     by misused whole comes written = absurd (not_none comes.0)
@@ -306,17 +331,17 @@ says_refusal laws e i i' o o' used status tells run still quiet memory = by run.
     by out_of_memory whole comes written = absurd (memory written.0)
     by unread whole comes written = absurd (still comes.1.1)
     by (refused input g) whole comes written =
-        let same : input ≡ tells.input = taken_whole i i' tells.input input tells.told (asks_within tells.input tells.refused.asked tells.refused.held) comes.1.0.bytes in
+        let same = unscanned_input i i' input e tells comes.1.0.bytes in
         absurd (not_err (request_of input) tells.refused.asked g (ap request_of same ∙ tells.refused.held) comes.1.1)
     by (unscanned input g) whole comes written =
-        let same : input ≡ tells.input = taken_whole i i' tells.input input tells.told (asks_within tells.input tells.refused.asked tells.refused.held) comes.1.0.bytes in
+        let same = unscanned_input i i' input e tells comes.1.0.bytes in
         let one : g ≡ e = one_held_refusal laws tells.input g e (subst (λ bytes. HoldsRefused bytes g) same comes.1.1) tells.refused in
         (written.0, subst (λ x. Added o.bytes o'.bytes (refusal_line (scan_refusal_name x))) one written.1.0)
     by (broken cause input a f p) whole comes written =
-        let same : input ≡ tells.input = taken_whole i i' tells.input input tells.told (asks_within tells.input tells.refused.asked tells.refused.held) comes.1.0.bytes in
+        let same = unscanned_input i i' input e tells comes.1.0.bytes in
         absurd (held_unrefused laws tells.input a f p e (subst (λ bytes. HoldsScan bytes a f p) same comes.1.1.0) tells.refused)
     by (answered input a f p) whole comes written =
-        let same : input ≡ tells.input = taken_whole i i' tells.input input tells.told (asks_within tells.input tells.refused.asked tells.refused.held) comes.1.0.bytes in
+        let same = unscanned_input i i' input e tells comes.1.0.bytes in
         absurd (held_unrefused laws tells.input a f p e (subst (λ bytes. HoldsScan bytes a f p) same comes.1.1.0) tells.refused)
 
 -- the run of a scan that breaks says why, and holds its store
@@ -330,7 +355,8 @@ pub says_break : WireLaws → (i i' o o' : End) (used : Option Seen) (status : �
     → IsRun (Some scan_form) i i' o o' used status → ¬ (HasRisen i i') → ¬ (HasRisen o o') → ¬ (status ≡ 8) → SaysBreak told o o' used status
 says_break laws i i' o o' used status told breaks run still quiet memory = by run.outcome run.writing run.comes run.written run.held
   where
-    by : (outcome : Outcome) (writing : Writing) → IsOutcome (Some scan_form) i i' outcome → IsWriting o o' (text_of outcome) (status_of outcome) status writing
+    by : (outcome : Outcome) (writing : Writing) → IsOutcome (Some scan_form) i i' outcome
+        → IsWriting o o' (text_of outcome) (status_of outcome) status writing
         → used ≡ used_by outcome
         → SaysBreak told o o' used status
     by outcome cut comes written held = absurd (quiet written.1.1)
@@ -343,7 +369,8 @@ says_break laws i i' o o' used status told breaks run still quiet memory = by ru
     by (unscanned input e) whole comes written held = absurd (told_spelled laws i i' input e told comes.1.0.bytes comes.1.1)
     by (broken cause input a f p) whole comes written held =
         let same = told_scan laws i i' input a f p told comes.1.0.bytes comes.1.1.0 in
-        let by_cause : told_breaks_by cause told ≡ true = sym (λ j. scan_breaks_by cause (same.asked j) (same.filter j) (same.projection j)) ∙ comes.1.1.1 in
+        let by_cause : told_breaks_by cause told ≡ true =
+        sym (λ j. scan_breaks_by cause (same.asked j) (same.filter j) (same.projection j)) ∙ comes.1.1.1 in
         (written.0, (cause, by_cause, written.1.0), held ∙ (λ j. Some (broken_store (same.asked j) (same.filter j) (same.projection j))))
     by (answered input a f p) whole comes written held =
         let unbroken = told_breaking told a f p false (told_scan laws i i' input a f p told comes.1.0.bytes comes.1.1.0) comes.1.1.1 in

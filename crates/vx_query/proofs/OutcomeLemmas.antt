@@ -7,10 +7,10 @@ use Rattle.vx_semantics.specs.Breaks.{by_sum, by_cast}
 use Rattle.vx_io.specs.Counts.{one_more}
 use Rattle.vx_io.specs.Ends.{TookUpTo}
 use Rattle.vx_scan.specs.Stores.{Seen}
-use Rattle.vx_request.specs.Requests.{RequestedScan, most_bytes}
+use Rattle.vx_request.specs.Requests.{most_bytes}
 use Rattle.vx_request.specs.declared.errors.RequestError.TheVariants as requests
 use Rattle.vx_query.specs.EndingViews.{ending_status, ending_text, EndsBy, IsAnswered}
-use Rattle.vx_query.specs.Running.{End, Form, scan_form, Outcome, out_of_memory, unread, refused, unscanned, broken, answered, Writing, IsOutcome, IsTaken, IsPartTaken, IsWriting, IsRun, HoldsScan, scan_report, scanned_store, status_of, text_of, used_by}
+use Rattle.vx_query.specs.Running.{End, Form, scan_form, Outcome, out_of_memory, unread, refused, unscanned, broken, answered, Writing, IsOutcome, IsTaken, IsPartTaken, IsWriting, IsRun, status_of, text_of, used_by}
 use Rattle.vx_query.specs.RefusalViews.{refusal_status, refusal_text, input_refusal, IsUnanswered}
 use Rattle.vx_io.specs.declared.reading.InputError.{InputError}
 use Rattle.vx_io.specs.declared.reading.InputError.TheVariants as inputs
@@ -31,7 +31,8 @@ refused_unread before after inputs.NoMemory part later cause = (out_of_memory, (
 refused_unread before after inputs.ReadFault part later cause = (unread, (refl, (part, cause refl)), refl, refl, refl)
 
 -- an input that is taken and has no report
-pub refused_taken : (before after : End) (input : Bytes) (r : Refusal) → IsPartTaken before after → IsTaken before after input → IsUnanswered input r → IsRefused before after r
+pub refused_taken : (before after : End) (input : Bytes) (r : Refusal) → IsPartTaken before after → IsTaken before after input → IsUnanswered input r
+    → IsRefused before after r
 refused_taken before after input NoMemory part taken told = (out_of_memory, (refl, (part, taken.later)), refl, refl, refl)
 refused_taken before after input ReadFault part taken told = absurd told
 refused_taken before after input InputTooLong part taken told = (refused input requests.InputTooLong, (refl, (taken, told)), refl, refl, refl)
@@ -48,7 +49,8 @@ refused_by before after r (Ok x) h k = absurd h
 refused_by before after r (Err x) h k = subst (IsRefused before after) (sym h) k
 
 -- what is taken is the input
-pub taken_as : (before after : End) (bytes input : Bytes) → input ≡ bytes → TookUpTo (most_bytes + 1) before.bytes after.bytes bytes → length bytes ≤ most_bytes + 1
+pub taken_as : (before after : End) (bytes input : Bytes) → input ≡ bytes → TookUpTo (most_bytes + 1) before.bytes after.bytes bytes
+    → length bytes ≤ most_bytes + 1
     → before.faults ≤ after.faults → IsTaken before after input
 taken_as before after bytes input e took within later = record {
   bytes = subst (TookUpTo (most_bytes + 1) before.bytes after.bytes) (sym e) took;
@@ -59,7 +61,8 @@ taken_as before after bytes input e took within later = record {
 -- an outcome that an ending stands for
 abbrev pub IsEnded : End → End → Ending → Option Seen → Type 0
 IsEnded before after ending used =
-    (o : Outcome) × IsOutcome (Some scan_form) before after o × (status_of o ≡ ending_status ending) × (text_of o ≡ ending_text ending) × (used ≡ used_by o)
+    (o : Outcome) × IsOutcome (Some scan_form) before after o × (status_of o ≡ ending_status ending) × (text_of o ≡ ending_text ending)
+    × (used ≡ used_by o)
 
 -- an input that holds a scan
 pub told_taken : (before after : End) (input : Bytes) (ending : Ending) (seen : Seen) → IsTaken before after input → IsAnswered input ending seen
@@ -72,6 +75,8 @@ told_taken before after input ending seen taken found = by ending found.ends
     by BadCast ends = (broken by_cast input found.asked found.filter found.projection, (refl, (taken, (found.holds, ends.0))), refl, refl, ap Some ends.1)
 
 -- a run of an outcome
-pub run_of : (form : Option Form) (i i' o o' : End) (used : Option Seen) (status : ℕ) (outcome : Outcome) → IsOutcome form i i' outcome → used ≡ used_by outcome
+pub run_of : (form : Option Form) (i i' o o' : End) (used : Option Seen) (status : ℕ) (outcome : Outcome) → IsOutcome form i i' outcome
+    → used ≡ used_by outcome
     → (writing : Writing) × IsWriting o o' (text_of outcome) (status_of outcome) status writing → IsRun form i i' o o' used status
-run_of form i i' o o' used status outcome comes held (writing, written) = record { outcome = outcome; comes = comes; writing = writing; written = written; held = held }
+run_of form i i' o o' used status outcome comes held (writing, written) =
+    record { outcome = outcome; comes = comes; writing = writing; written = written; held = held }

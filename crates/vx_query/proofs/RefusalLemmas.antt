@@ -1,5 +1,5 @@
 -- A text is refused for one reason at most, and never where it spells an expression: so an input holds one scan, or a scan that is refused for one reason.
-use Rattle.std.proofs.Common.{◌≡◌, ◌≢◌, ◌∙◌, sym, ap, refl, subst, inl, inr, ℕ, Bool, true, false, Option, Some, None, Result, Ok, Err, true≢false}
+use Rattle.std.proofs.Common.{◌≡◌, ◌≢◌, ◌∙◌, sym, ap, refl, subst, inl, inr, ℕ, Bool, Option, Some, None, Result, Ok, Err}
 use Rattle.vx_dtype.specs.Types.{Bytes, Ty}
 use Rattle.vx_expr.specs.Trees.{Tree}
 use Rattle.vx_wire_text.specs.Openings.{IsTooDeep, IsTooMany}
@@ -11,7 +11,7 @@ use Rattle.vx_wire.specs.Registries.{held_named}
 use Rattle.vx_wire.specs.declared.ExprEncoding.{ExprEncoding}
 use Rattle.vx_wire.specs.declared.errors.BuildError.{BuildError}
 use Rattle.vx_wire.specs.declared.errors.BuildError.TheVariants as builds
-use Rattle.vx_scan.specs.Texts.{SpellsTree, SpellsUnbuilt, SpellBoth, IsTextRefused, AreRefused}
+use Rattle.vx_scan.specs.Texts.{SpellsTree, SpellsUnbuilt, IsTextRefused, AreRefused}
 use Rattle.vx_scan.specs.declared.errors.Side.{Side}
 use Rattle.vx_scan.specs.declared.errors.Side.TheVariants.{Filter, Projection}
 use Rattle.vx_scan.specs.declared.errors.ScanError.{ScanError}
@@ -50,7 +50,8 @@ one_at (Some k) m n builds.WrongChildren builds.BadMetadata h g = absurd (g h.0 
 one_at (Some k) m n builds.WrongChildren builds.WrongChildren h g = refl
 
 -- of nodes that all build an expression none is refused
-none_refused : WireLaws → (holds : ExprEncoding → Bool) (why : BuildError) → why ≢ builds.NoMemory → (ns : Wires) → AreBuilt holds ns → ¬ (IsOneRefused holds why ns)
+none_refused : WireLaws → (holds : ExprEncoding → Bool) (why : BuildError) → why ≢ builds.NoMemory → (ns : Wires) → AreBuilt holds ns
+    → ¬ (IsOneRefused holds why ns)
 none_refused laws holds why cause no_wires built h = h
 none_refused laws holds why cause (first n ns) built h =
     elim h [
@@ -59,7 +60,8 @@ none_refused laws holds why cause (first n ns) built h =
     ]
 
 mutual
-  one_first : WireLaws → (holds : ExprEncoding → Bool) (why other : BuildError) → why ≢ builds.NoMemory → other ≢ builds.NoMemory → (w : Wire) → IsRefusedFirst holds why w
+  one_first : WireLaws → (holds : ExprEncoding → Bool) (why other : BuildError) → why ≢ builds.NoMemory → other ≢ builds.NoMemory → (w : Wire)
+      → IsRefusedFirst holds why w
       → IsRefusedFirst holds other w → why ≡ other
   one_first laws holds why other cause cause' (node id m ns) h g =
       elim h [
@@ -73,7 +75,8 @@ mutual
         ]
       ]
 
-  one_in_row : WireLaws → (holds : ExprEncoding → Bool) (why other : BuildError) → why ≢ builds.NoMemory → other ≢ builds.NoMemory → (ns : Wires) → IsOneRefused holds why ns
+  one_in_row : WireLaws → (holds : ExprEncoding → Bool) (why other : BuildError) → why ≢ builds.NoMemory → other ≢ builds.NoMemory → (ns : Wires)
+      → IsOneRefused holds why ns
       → IsOneRefused holds other ns → why ≡ other
   one_in_row laws holds why other cause cause' no_wires h g = absurd h
   one_in_row laws holds why other cause cause' (first n ns) h g =
@@ -158,13 +161,15 @@ one_fault laws holds bytes (unbuilt why) (unbuilt other) h g =
     let own = first_of holds g.1.0 why h.0 (subst (λ w. IsUnbuilt holds w why) same h.1.2) in
     ap unbuilt (one_first laws holds why other h.0 g.0 g.1.0 own (first_of holds g.1.0 other g.0 g.1.2))
 
-one_refusal : WireLaws → (holds : ExprEncoding → Bool) (side : Side) (bytes : Bytes) (e g : ScanError) → IsTextRefused holds side bytes e → IsTextRefused holds side bytes g → e ≡ g
+one_refusal : WireLaws → (holds : ExprEncoding → Bool) (side : Side) (bytes : Bytes) (e g : ScanError) → IsTextRefused holds side bytes e
+    → IsTextRefused holds side bytes g → e ≡ g
 one_refusal laws holds side bytes e g h k =
     let own = fault_of holds side bytes e h in
     let other = fault_of holds side bytes g k in
     own.2 ∙ ap (fault_error side) (one_fault laws holds bytes own.0 other.0 own.1 other.1) ∙ sym other.2
 
-never_both : WireLaws → (holds : ExprEncoding → Bool) (side : Side) (bytes : Bytes) (t : Tree) (e : ScanError) → SpellsTree holds bytes t → ¬ (IsTextRefused holds side bytes e)
+never_both : WireLaws → (holds : ExprEncoding → Bool) (side : Side) (bytes : Bytes) (t : Tree) (e : ScanError) → SpellsTree holds bytes t
+    → ¬ (IsTextRefused holds side bytes e)
 never_both laws holds side bytes t e spelled h = let own = fault_of holds side bytes e h in unfaulted laws holds bytes t own.0 spelled own.1
 
 -- ---- the texts of a scan
@@ -188,7 +193,8 @@ unrefused laws a f p e spelled h =
       | inr later ↦ never_both laws is_default_kind Projection a.projection p e spelled.projection_spelled later.1
     ]
 
-one_of_both : WireLaws → (a : RequestedScan) (e g : ScanError) → AreRefused is_default_kind a.filter a.projection e → AreRefused is_default_kind a.filter a.projection g → e ≡ g
+one_of_both : WireLaws → (a : RequestedScan) (e g : ScanError) → AreRefused is_default_kind a.filter a.projection e
+    → AreRefused is_default_kind a.filter a.projection g → e ≡ g
 one_of_both laws a e g h k =
     elim h [
       | inl filter ↦ elim k [
@@ -210,7 +216,8 @@ one_err (Err x) e g h k =
     sym own ∙ other
 
 -- the type of a pair is that of the pair that is spelled
-typed_alike : WireLaws → (a : RequestedScan) (f p g q : Tree) (r : Result Ty ScanError) → Spells a f p → Spells a g q → type_of_scan a f p ≡ r → type_of_scan a g q ≡ r
+typed_alike : WireLaws → (a : RequestedScan) (f p g q : Tree) (r : Result Ty ScanError) → Spells a f p → Spells a g q → type_of_scan a f p ≡ r
+    → type_of_scan a g q ≡ r
 typed_alike laws a f p g q r x y h = let same = one_pair laws a f p g q x y in sym (λ i. type_of_scan a (same.0 i) (same.1 i)) ∙ h
 
 -- the expressions of a scan are refused for one reason
@@ -268,8 +275,8 @@ pub record IsSameScan (a : RequestedScan) (f p : Tree) (b : RequestedScan) (g q 
   pub filter : f ≡ g
   pub projection : p ≡ q
 
-pub one_scan : WireLaws → (input : Bytes) (a : RequestedScan) (f p : Tree) (b : RequestedScan) (g q : Tree) → HoldsScan input a f p → HoldsScan input b g q
-    → IsSameScan a f p b g q
+pub one_scan : WireLaws → (input : Bytes) (a : RequestedScan) (f p : Tree) (b : RequestedScan) (g q : Tree) → HoldsScan input a f p
+    → HoldsScan input b g q → IsSameScan a f p b g q
 one_scan laws input a f p b g q h k =
     let asked : a ≡ b = one_ok (request_of input) a b h.asked k.asked in
     let pair = one_pair laws b f p g q (subst (λ c. Spells c f p) asked h.spelled) k.spelled in

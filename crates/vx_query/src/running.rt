@@ -37,6 +37,9 @@ const VERSION: &str = "vx 0.1.0\n";
 /// - 7 only where the sink did, and then the first bytes of the text or line were written;
 /// - 8 where there was no memory.
 ///
+/// Want of memory may come at any time, in the place of each other end; and a line or text that isn't written whole ends
+/// with 7.
+///
 /// A refusal writes a line, `error: ` and its name: Usage; ReadFault; NoMemory; InputTooLong, BadJson, BadRequest with its
 /// place, BadHex with `filter` or `projection`, and BadTable with the name of the table's refusal; BadWire, TooDeep,
 /// TooManyNodes, UnknownExpr, BadMetadata, WrongChildren, NotStruct, NullableSelect, UnknownField, DuplicateField and

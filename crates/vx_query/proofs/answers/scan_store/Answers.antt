@@ -9,8 +9,9 @@ use Rattle.vx_query.proofs.answers.scan_store.Goals as goal
 pub returns-in_ok-text_of-in-Ok-clause-scanned : goal.returns-in_ok-text_of-in-Ok-clause-scanned
 returns-in_ok-text_of-in-Ok-clause-scanned c =
     let kinds : registered c.default-registry.result ≡ is_default_kind = λ j e. (c.default-registry.ensures e) j in
-    reported_scan (scan_of c.args.store c.args.filter.now c.args.projection.now) (registered c.default-registry.result) (store_seen c.args.store) c.scan.new.store
-    c.in-Ok.report c.in_ok-text_of-in-Ok.field-0 kinds (ap store_seen c.requires) c.in-Ok.ensures.same c.in-Ok.ensures.ends c.in_ok-text_of-in-Ok.ensures
+    let a = scan_of c.args.store c.args.filter.now c.args.projection.now in
+    reported_scan a (registered c.default-registry.result) (store_seen c.args.store) c.scan.new.store c.in-Ok.report
+    c.in_ok-text_of-in-Ok.field-0 kinds (ap store_seen c.requires) c.in-Ok.ensures.same c.in-Ok.ensures.ends c.in_ok-text_of-in-Ok.ensures
 
 pub unreported-requires : goal.unreported-requires
 unreported-requires c =
@@ -25,13 +26,13 @@ returns-in-Err-clause-scanned c =
     let a = scan_of c.args.store c.args.filter.now c.args.projection.now in
     let kinds : registered c.default-registry.result ≡ is_default_kind = λ j e. (c.default-registry.ensures e) j in
     c.unreported.ensures.broken a
-    (unreported_scan a (registered c.default-registry.result) (store_seen c.args.store) (store_seen c.scan.new.store) c.in-Err.error kinds (ap store_seen c.requires)
-    c.in-Err.ensures.same c.in-Err.ensures.ends)
+    (unreported_scan a (registered c.default-registry.result) (store_seen c.args.store) (store_seen c.scan.new.store) c.in-Err.error kinds
+    (ap store_seen c.requires) c.in-Err.ensures.same c.in-Err.ensures.ends)
 
 pub returns-in-Err-clause-refused : goal.returns-in-Err-clause-refused
 returns-in-Err-clause-refused c =
     let a = scan_of c.args.store c.args.filter.now c.args.projection.now in
     let kinds : registered c.default-registry.result ≡ is_default_kind = λ j e. (c.default-registry.ensures e) j in
     c.unreported.ensures.refused a
-    (unreported_scan a (registered c.default-registry.result) (store_seen c.args.store) (store_seen c.scan.new.store) c.in-Err.error kinds (ap store_seen c.requires)
-    c.in-Err.ensures.same c.in-Err.ensures.ends)
+    (unreported_scan a (registered c.default-registry.result) (store_seen c.args.store) (store_seen c.scan.new.store) c.in-Err.error kinds
+    (ap store_seen c.requires) c.in-Err.ensures.same c.in-Err.ensures.ends)
