@@ -13,7 +13,7 @@ ghost use Rattle.vx_query.specs.WireLaws.{WireLaws};
 ghost use Rattle.vx_query.specs.Running.{End, Form, IsRun, scan_table, scan_report, scan_form, scanned_store, broken_store};
 
 use vx_laws_scan::kept_rows_are_all;
-use vx_wire::{built_is_not_refused, one_expression, one_limit, one_tree};
+use vx_wire::{one_expression, one_tree};
 
 /// What the exit status of each run tells. Of the argument `scan` 0 means that the report was written whole, of a scan no
 /// phase of which breaks. 2 comes only where the arguments have no form. 3, 4 and 5 mean that the input was taken and that
@@ -88,12 +88,10 @@ pub fn honest_reports_are_whole()
     kept_rows_are_all();
 }
 
-/// What is known of wire texts: a text spells one expression or is refused for one reason.
+/// A wire text spells one expression at most.
 fn wire_laws()
     ensures { WireLaws }
 {
     one_tree();
     one_expression();
-    one_limit();
-    built_is_not_refused();
 }
