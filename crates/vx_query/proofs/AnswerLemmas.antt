@@ -1,30 +1,43 @@
--- The answer to an input: what a scan of a store that wasn't read yet reports.
-use Rattle.std.proofs.Common.{◌≡◌, ◌∙◌, sym, ap, refl, subst, ℕ, ◌+◌, ◌<◌, Bool, true, false, List, [], ◌∷◌, ◌++◌, length, drop, get_or, map, Some, None, Option, ◌&&◌, Result, Ok, Err}
-use Rattle.std.proofs.lemmas.List.{append_assoc, append-nil, drop_more}
+-- The answer to an input: how a scan of a store that wasn't read yet ends.
+use Rattle.std.proofs.Common.{◌≡◌, ◌≢◌, ◌∙◌, sym, ap, refl, subst, arith, inl, inr, ℕ, ◌+◌, ◌<◌, Bool, true, false, List, [], ◌∷◌, ◌++◌, length, drop, get_or, map, None, ◌&&◌, Result, Ok, Err}
+use Rattle.std.proofs.lemmas.List.{append_assoc, drop_more}
+use Rattle.std.proofs.lemmas.Option.{same_Some}
 use Rattle.std.specs.List.{filter}
 use Rattle.std.specs.Prelude.{IfOk, IfErr}
 use Rattle.std.specs.Result.{IsErrAnd}
+use Rattle.std.specs.String.{string_bytes}
+use Rattle.std.specs.declared.string.String.{String}
+use Rattle.std.specs.declared.alloc.Global.{Global}
 use Rattle.vx_dtype.specs.Types.{Bytes}
 use Rattle.vx_column.specs.Columns.{Column}
 use Rattle.vx_expr.specs.Trees.{Tree}
-use Rattle.vx_semantics.specs.Tables.{Table, Zones}
-use Rattle.vx_semantics.specs.Scans.{read_columns}
+use Rattle.vx_semantics.specs.Breaks.{Cause, by_sum, by_cast}
+use Rattle.vx_semantics.specs.Tables.{Zones}
+use Rattle.vx_semantics.specs.Scans.{read_columns, reads_to_break}
 use Rattle.vx_display.specs.ValueTexts.{value_text}
+use Rattle.vx_wire.specs.Encodings.{is_default_kind}
+use Rattle.vx_wire.specs.declared.ExprEncoding.{ExprEncoding}
 use Rattle.vx_scan.specs.Blocks.{table_of, table_refusal, have_lengths, have_types}
-use Rattle.vx_scan.specs.Scanning.{Seen, Report, ReadFirst, IsSameStore, IsReport}
-use Rattle.vx_scan.specs.Stores.{Read}
-use Rattle.vx_scan.specs.StoreViews.{StoreState}
-use Rattle.vx_scan.proofs.BlockScanLemmas.{some_same}
+use Rattle.vx_scan.specs.Reports.{Report, report_view}
+use Rattle.vx_scan.specs.Scanning.{IsScan, IsReport, IsBroken}
+use Rattle.vx_scan.specs.Stores.{Read, Seen, IsSameStore}
+use Rattle.vx_scan.specs.StoreViews.{StoreState, store_seen}
+use Rattle.vx_scan.specs.Texts.{SpellBoth, AreRefused}
+use Rattle.vx_scan.specs.declared.errors.ScanError.{ScanError}
+use Rattle.vx_scan.specs.declared.errors.ScanError.TheVariants as scans
+use Rattle.vx_scan.specs.declared.reports.ScanReport.{ScanReport}
 use Rattle.vx_query.specs.Reports.{report_text}
 use Rattle.vx_request.specs.Requests.{RequestedScan, request_of}
 use Rattle.vx_request.specs.RequestViews.{Answers, scan_view}
 use Rattle.vx_request.specs.declared.errors.RequestError.{RequestError}
 use Rattle.vx_request.specs.declared.errors.RequestError.TheVariants as requests
-use Rattle.vx_query.specs.Running.{scan_table, scan_reads, scan_report, scanned_store, Spells, HoldsScan}
-use Rattle.vx_query.specs.RunViews.{store_view}
-use Rattle.vx_query.specs.RefusalViews.{IsAnsweredBy, IsUnscanned, request_refusal}
+use Rattle.vx_query.specs.EndingViews.{EndsBy, IsAnswered, IsScanned, IsUnreported}
+use Rattle.vx_query.specs.Running.{scan_table, scan_reads, scan_report, scan_breaks, scan_breaks_by, store_with, scanned_store, broken_store}
+use Rattle.vx_query.specs.RefusalViews.{IsUnanswered, IsUnscanned, request_refusal}
+use Rattle.vx_query.specs.declared.endings.Ending.{Ending}
+use Rattle.vx_query.specs.declared.endings.Ending.TheVariants.{Report as Told, Overflow, BadCast}
 use Rattle.vx_query.specs.declared.refusals.Refusal.{Refusal}
-use Rattle.vx_query.specs.declared.refusals.Refusal.TheVariants.{NoMemory, ReadFault, InputTooLong, BadJson, BadRequest, BadHex, BadTable, NotBuilt}
+use Rattle.vx_query.specs.declared.refusals.Refusal.TheVariants.{NoMemory, ReadFault, InputTooLong, BadJson, BadRequest, BadHex, BadTable, Scan}
 use Rattle.vx_query.proofs.CellLemmas.{and_left, and_right}
 
 -- reports of equal parts are equal
@@ -55,41 +68,99 @@ filter_left p xs found i x h is fails kept =
     let next : drop i xs ≡ x ∷ drop (i + 1) xs = drop_more xs i x h ∙ ap (λ y. y ∷ drop (i + 1) xs) (sym is) in
     kept ∙ ap (λ ys. found ++ filter p ys) next ∙ ap (λ ys. found ++ ys) (filter_rest p x (drop (i + 1) xs) fails)
 
--- what a scan of a store that wasn't read yet finds
+-- the store of a request that wasn't read yet
 abbrev pub fresh : RequestedScan → Seen
-fresh a = record { zones = a.zones; held = Some (scan_table a); log = []; faults = 0; failed = None; faultless = true }
+fresh a = store_with a []
 
--- what is there is equal where both are there
--- two stores are seen alike
-abbrev same_seen : Seen → Seen → Type 0
-same_seen s t = s ≡ t
-
--- a store by equal meanings is the same
-seen_same : (z z' : Zones) (h h' : Option Table) (l l' : List Read) (n n' : ℕ) (o o' : Option Read) (b b' : Bool) → z ≡ z' → h ≡ h' → l ≡ l' → n ≡ n' → o ≡ o' → b ≡ b'
-    → same_seen (record { zones = z; held = h; log = l; faults = n; failed = o; faultless = b }) (record { zones = z'; held = h'; log = l'; faults = n'; failed = o'; faultless = b' })
-seen_same z z' h h' l l' n n' o o' b b' e1 e2 e3 e4 e5 e6 = λ i. record { zones = e1 i; held = e2 i; log = e3 i; faults = e4 i; failed = e5 i; faultless = e6 i }
-
--- the reads that a report leaves are all of them
-read_all : (a : RequestedScan) (f p : Tree) (reads : List Read) → ReadFirst (Some (scan_table a)) a.zones f p [] reads [] → reads ≡ scan_reads a f p
-read_all a f p reads (done, after, all) = after ∙ sym (all ∙ append-nil done)
+-- a store that is the same but for these reads, none of which failed
+store_after : (a : RequestedScan) (reads : List Read) (s : Seen) → IsSameStore (fresh a) s → s.log ≡ reads → s.failed ≡ None
+    → s ≡ store_with a reads
+store_after a reads s same log failed =
+    λ i. record { zones = same.zones i; held = same.held i; log = log i; faults = same.quiet refl i; failed = failed i; faultless = same.faultless i }
 
 -- the text and the store of a scan that reports
-pub report_told : (a : RequestedScan) (f p : Tree) (s : StoreState) (r : Report) (text : Bytes) → IsSameStore (fresh a) (store_view s) → IsReport f p (fresh a) (store_view s) r
+report_told : (a : RequestedScan) (f p : Tree) (s : StoreState) (r : Report) (text : Bytes) → IsSameStore (fresh a) (store_seen s)
+    → IsReport [] f p (fresh a) (store_seen s) r
     → text ≡ report_text (map value_text r.rows) r.skipped (read_columns (table_of s.zones s.blocks) s.reads) (length s.reads)
-    → (text ≡ scan_report a f p) × (store_view s ≡ scanned_store a f p)
+    → (scan_breaks a f p ≡ false) × (text ≡ scan_report a f p) × (store_seen s ≡ scanned_store a f p)
 report_told a f p s r text same report told =
-    let held : table_of s.zones s.blocks ≡ scan_table a = some_same same.held in
-    let reads : s.reads ≡ scan_reads a f p = read_all a f p s.reads report.reads in (
+    let held : table_of s.zones s.blocks ≡ scan_table a = same_Some _ _ same.held in
+    let reads : s.reads ≡ scan_reads a f p = report.reads.grown ∙ report.reads.told in (
+      report.unbroken,
       told ∙ report_text_of_same _ _ _ _ _ _ _ _ (ap (map value_text) report.rows) report.skipped (λ i. read_columns (held i) (reads i)) (ap length reads),
-      seen_same _ _ _ _ _ _ _ _ _ _ _ _ same.zones same.held reads (same.quiet refl) report.unfailed same.faultless,
+      store_after a (scan_reads a f p) (store_seen s) same reads report.unfailed,
     )
 
--- the same of a store that is seen so
-pub scan_told : (a : RequestedScan) (f p : Tree) (before : Seen) (s : StoreState) (r : Report) (text : Bytes) → before ≡ fresh a → IsSameStore before (store_view s)
-    → IsReport f p before (store_view s) r → text ≡ report_text (map value_text r.rows) r.skipped (read_columns (table_of s.zones s.blocks) s.reads) (length s.reads)
-    → (text ≡ scan_report a f p) × (store_view s ≡ scanned_store a f p)
-scan_told a f p before s r text e same report told =
-    report_told a f p s r text (subst (λ b. IsSameStore b (store_view s)) e same) (subst (λ b. IsReport f p b (store_view s) r) e report) told
+-- and of one that breaks
+broken_told : (cause : Cause) (a : RequestedScan) (f p : Tree) (s : Seen) → IsSameStore (fresh a) s → IsBroken cause [] f p (fresh a) s
+    → (scan_breaks_by cause a f p ≡ true) × (s ≡ broken_store a f p)
+broken_told cause a f p s same broken =
+    (broken.first_breaks, store_after a (reads_to_break (scan_table a) a.zones [] f p) s same (broken.reads.grown ∙ broken.reads.told) broken.unfailed)
+
+-- a scan that reports ends so
+pub reported_scan : (a : RequestedScan) (holds : ExprEncoding → Bool) (before : Seen) (s : StoreState) (r : ScanReport) (text : String Global)
+    → holds ≡ is_default_kind
+    → before ≡ fresh a → IsSameStore before (store_seen s) → IsScan holds a.filter a.projection before (store_seen s) (Ok r)
+    → string_bytes text
+    ≡ report_text (map value_text (report_view r).rows) (report_view r).skipped (read_columns (table_of s.zones s.blocks) s.reads) (length s.reads)
+    → IsScanned a (Told text) (store_seen s)
+reported_scan a holds before s r text kinds is same ended told =
+    elim (subst (λ k. k) (λ i. IsScan (kinds i) a.filter a.projection (is i) (store_seen s) (Ok r)) ended) [
+      | inl none ↦ absurd none
+      | inr own ↦ record {
+        filter = own.0;
+        projection = own.1;
+        spelled = own.2;
+        ty = (report_view r).ty;
+        typed = own.3.typed;
+        ends = report_told a own.0 own.1 s (report_view r) (string_bytes text) (subst (λ b. IsSameStore b (store_seen s)) is same) own.3 told;
+      }
+    ]
+
+-- two texts are never refused by a sum or a cast that has no value, nor by a read that failed
+no_break : (a : RequestedScan) → ¬ (AreRefused is_default_kind a.filter a.projection scans.Overflow)
+no_break a refused = elim refused [ inl none ↦ none | inr later ↦ later.1 ]
+
+no_bad_cast : (a : RequestedScan) → ¬ (AreRefused is_default_kind a.filter a.projection scans.BadCast)
+no_bad_cast a refused = elim refused [ inl none ↦ none | inr later ↦ later.1 ]
+
+no_fault : (a : RequestedScan) → ¬ (AreRefused is_default_kind a.filter a.projection scans.StoreFault)
+no_fault a refused = elim refused [ inl none ↦ none | inr later ↦ later.1 ]
+
+-- the scan of a filter and a projection that breaks ends so
+broken_scan : (cause : Cause) (ending : Ending) (a : RequestedScan) (f p : Tree) (s : Seen) → SpellBoth is_default_kind a.filter a.projection f p
+    → IsSameStore (fresh a) s → IsBroken cause [] f p (fresh a) s
+    → ((scan_breaks_by cause a f p ≡ true) × (s ≡ broken_store a f p) → EndsBy a f p ending s) → IsScanned a ending s
+broken_scan cause ending a f p s spelled same broken ends = record {
+  filter = f;
+  projection = p;
+  spelled = spelled;
+  ty = broken.ty;
+  typed = broken.typed;
+  ends = ends (broken_told cause a f p s same broken);
+}
+
+-- a scan of such a store that gives no report
+pub unreported_fresh : (a : RequestedScan) (s : Seen) (e : ScanError) → IsSameStore (fresh a) s
+    → IsScan is_default_kind a.filter a.projection (fresh a) s (Err e)
+    → IsUnreported a e s
+unreported_fresh a s scans.NoMemory same ended = tt
+unreported_fresh a s scans.Overflow same ended =
+    elim ended [ inl none ↦ absurd (no_break a none.1) | inr own ↦ broken_scan by_sum Overflow a own.0 own.1 s own.2 same own.3 (λ h. h) ]
+unreported_fresh a s scans.BadCast same ended =
+    elim ended [ inl none ↦ absurd (no_bad_cast a none.1) | inr own ↦ broken_scan by_cast BadCast a own.0 own.1 s own.2 same own.3 (λ h. h) ]
+unreported_fresh a s scans.StoreFault same ended =
+    elim ended [ inl none ↦ no_fault a none.1 | inr own ↦ absurd (omega (arith, own.3.risen, same.quiet refl)) ]
+unreported_fresh a s e same ended = elim ended [ inl none ↦ inl none.1 | inr own ↦ inr (own.0, own.1, own.2, own.3.1) ]
+
+pub unreported_scan : (a : RequestedScan) (holds : ExprEncoding → Bool) (before s : Seen) (e : ScanError) → holds ≡ is_default_kind → before ≡ fresh a
+    → IsSameStore before s → IsScan holds a.filter a.projection before s (Err e) → IsUnreported a e s
+unreported_scan a holds before s e kinds is same ended =
+    unreported_fresh a s e (subst (λ b. IsSameStore b s) is same) (subst (λ k. k) (λ i. IsScan (kinds i) a.filter a.projection (is i) s (Err e)) ended)
+
+-- and that is never a read that failed
+pub unfailing : (a : RequestedScan) (s : Seen) (e : ScanError) → IsUnreported a e s → e ≢ scans.StoreFault
+unfailing a s e h is = subst (λ g. IsUnreported a g s) is h
 
 -- blocks that agree with zones are a table with them
 pub table_of_agreeing : (z : Zones) (bs : List (List Column)) → (have_lengths z bs && have_types z bs) ≡ true → table_refusal z bs ≡ None
@@ -110,14 +181,19 @@ pub if_err : {T : Type 0} (P : Refusal → Type 0) (r : Refusal) (result : Resul
 if_err P r (Ok x) h k = absurd h
 if_err P r (Err x) h k = subst P (sym h) k
 
--- an input that holds a scan whose texts are spelled is answered by its report
-pub answered_by : (input : Bytes) (s : RequestedScan) (text : Bytes) (seen : Seen) → request_of input ≡ Ok s
-    → (f : Tree) × (p : Tree) × Spells s f p × (text ≡ scan_report s f p) × (seen ≡ scanned_store s f p)
-    → (a : RequestedScan) × (f : Tree) × (p : Tree) × HoldsScan input a f p × (text ≡ scan_report a f p) × (seen ≡ scanned_store a f p)
-answered_by input s text seen found (f, p, spelled, told, held) = (s, f, p, record { asked = found; spelled = spelled }, told, held)
+-- an input that holds a scan whose expressions are typed is answered by how it ends
+pub answered_by : (input : Bytes) (s : RequestedScan) (ending : Ending) (seen : Seen) → request_of input ≡ Ok s → IsScanned s ending seen
+    → IsAnswered input ending seen
+answered_by input s ending seen found scanned = record {
+  asked = s;
+  filter = scanned.filter;
+  projection = scanned.projection;
+  holds = record { asked = found; spelled = scanned.spelled; ty = scanned.ty; typed = scanned.typed };
+  ends = scanned.ends;
+}
 
--- an input that holds a scan whose texts are not spelled is answered so
-pub unscanned_by : (input : Bytes) (s : RequestedScan) (r : Refusal) → request_of input ≡ Ok s → IsUnscanned s r → IsAnsweredBy input r
+-- an input that holds a scan whose expressions are refused is answered so
+pub unscanned_by : (input : Bytes) (s : RequestedScan) (r : Refusal) → request_of input ≡ Ok s → IsUnscanned s r → IsUnanswered input r
 unscanned_by input s NoMemory found none = tt
 unscanned_by input s ReadFault found none = absurd none
 unscanned_by input s InputTooLong found none = absurd none
@@ -125,13 +201,13 @@ unscanned_by input s BadJson found none = absurd none
 unscanned_by input s (BadRequest place) found none = absurd none
 unscanned_by input s (BadHex side) found none = absurd none
 unscanned_by input s (BadTable refusal) found none = absurd none
-unscanned_by input s NotBuilt found none = rw found (none, refl)
+unscanned_by input s (Scan e) found refused = record { asked = s; held = found; refused = refused }
 
 -- an input whose request is refused is answered by the refusal
-pub refused_by : (input : Bytes) (e : RequestError) → Answers scan_view (request_of input) (Err e) → IsAnsweredBy input (request_refusal e)
+pub refused_by : (input : Bytes) (e : RequestError) → Answers scan_view (request_of input) (Err e) → IsUnanswered input (request_refusal e)
 refused_by input requests.NoMemory told = tt
-refused_by input requests.InputTooLong told = rw told refl
-refused_by input requests.BadJson told = rw told refl
-refused_by input (requests.BadRequest place) told = rw told refl
-refused_by input (requests.BadHex side) told = rw told refl
-refused_by input (requests.BadTable refusal) told = rw told refl
+refused_by input requests.InputTooLong told = told
+refused_by input requests.BadJson told = told
+refused_by input (requests.BadRequest place) told = told
+refused_by input (requests.BadHex side) told = told
+refused_by input (requests.BadTable refusal) told = told

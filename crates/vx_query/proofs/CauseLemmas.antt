@@ -1,23 +1,29 @@
 -- What the status of a run tells.
-use Rattle.std.proofs.Common.{◌≡◌, ◌∙◌, sym, ap, refl, subst, ℕ, ◌+◌, ◌≤◌, Bool, true, false, nat_le, length, take, Option, Some, None, Result, Ok, Err, is_some, arith, true≢false}
-use Rattle.vx_expr.specs.Trees.{Tree}
-use Rattle.vx_wire_text.specs.Wires.{Wire}
-use Rattle.vx_wire_text.specs.Wires as wires
-use Rattle.vx_wire.specs.Building.{IsBuilt}
-use Rattle.vx_wire.specs.Encodings.{is_default_kind}
-use Rattle.vx_wire.specs.declared.ExprEncoding.{ExprEncoding}
-use Rattle.vx_scan.specs.FirstForm.{SpellsTree}
+use Rattle.std.proofs.Common.{◌≡◌, ◌∙◌, sym, ap, refl, subst, ℕ, ◌+◌, ◌≤◌, Bool, true, false, ◌||◌, cond, List, [], ◌∷◌, nat_le, map, length, take, Option, Some, None, Result, Ok, Err, is_some, arith, true≢false}
+use Rattle.std.specs.List.{list_any}
 use Rattle.std.proofs.lemmas.Bool.{leb-true}
 use Rattle.std.proofs.lemmas.List.{take_all}
-use Rattle.vx_dtype.specs.Types.{Bytes}
-use Rattle.vx_scan.specs.Scanning.{Seen}
+use Rattle.vx_dtype.specs.Types.{Bytes, Ty}
+use Rattle.vx_expr.specs.Trees.{Tree}
+use Rattle.vx_semantics.specs.Breaks.{Cause}
+use Rattle.vx_semantics.specs.Honest.{IsHonest}
+use Rattle.vx_semantics.specs.Meaning.{Slots}
+use Rattle.vx_semantics.specs.Scans.{Phase, phase_breaks, phase_breaks_by, first_breaks_by, skipped_blocks, read_columns}
+use Rattle.vx_semantics.specs.Tables.{row_type}
+use Rattle.vx_display.specs.ValueTexts.{value_text}
+use Rattle.vx_laws_scan.specs.Pruned.{KeptRowsAreAll}
 use Rattle.vx_io.specs.Ends.{TookUpTo, Added}
+use Rattle.vx_scan.specs.Stores.{Seen}
+use Rattle.vx_scan.specs.declared.errors.ScanError.{ScanError}
 use Rattle.vx_request.specs.Requests.{◌>>=◌, RequestedScan, request_of, ensured, json_in, scan_of, most_bytes}
 use Rattle.vx_request.specs.declared.errors.RequestError.{RequestError}
 use Rattle.vx_request.specs.declared.errors.RequestError.TheVariants.{InputTooLong}
-use Rattle.vx_query.specs.Refusals.{request_refusal_name, refusal_line}
-use Rattle.vx_query.specs.Running.{End, Form, Spells, scan_report, scanned_store, UnansweredBy, scan_form, help_form, version_form, Outcome, misused, helped, versioned, out_of_memory, unread, unanswered, answered, Writing, whole, cut, IsOutcome, IsWriting, IsRun, status_of, text_of, used_by}
-use Rattle.vx_query.specs.Causes.{HasRisen, IsReported, IsWithoutReport, TellsScan, TellsRefused}
+use Rattle.vx_query.specs.Reports.{report_text}
+use Rattle.vx_query.specs.Refusals.{request_refusal_name, scan_refusal_name, break_name, refusal_line}
+use Rattle.vx_query.specs.Running.{End, Form, HoldsScan, HoldsRefused, scan_table, scan_reads, scan_phases, scan_breaks, scan_breaks_by, scan_report, scanned_store, broken_store, scan_form, help_form, version_form, Outcome, misused, helped, versioned, out_of_memory, unread, refused, unscanned, broken, answered, Writing, whole, cut, IsOutcome, IsWriting, IsRun, status_of, text_of, used_by}
+use Rattle.vx_query.specs.WireLaws.{WireLaws}
+use Rattle.vx_query.specs.Causes.{HasRisen, IsReported, IsRefused, IsUnscanned, IsBroken, TellsScan, TellsRefused, TellsUnscanned, told_breaks, told_breaks_by, whole_report}
+use Rattle.vx_query.proofs.RefusalLemmas.{IsSameScan, one_err, not_err, one_scan, one_held_refusal, held_unrefused}
 
 not_none : {X : Type 0} {x : X} → Some x ≡ None → ⊥
 not_none e = true≢false (ap is_some e)
@@ -28,6 +34,8 @@ is_scan None = false
 is_scan (Some scan_form) = true
 is_scan (Some help_form) = false
 is_scan (Some version_form) = false
+
+-- ---- what each status means
 
 -- the report that status 0 means
 pub reported : (i i' o o' : End) (used : Option Seen) → IsRun (Some scan_form) i i' o o' used 0 → IsReported i i' o o' used
@@ -41,65 +49,137 @@ reported i i' o o' used run = by run.outcome run.writing run.comes run.written r
     by versioned whole comes written held = absurd (true≢false (ap is_scan comes.0))
     by out_of_memory whole comes written held = absurd (omega (arith, written.0))
     by unread whole comes written held = absurd (omega (arith, written.0))
-    by (unanswered input name) whole comes written held = absurd (omega (arith, written.0))
-    by (answered input a f p) whole comes written held =
-        record { input = input; asked = a; filter = f; projection = p; taken = comes.1.0; asks = comes.1.1; written = written.1.0; held = held }
+    by (refused input e) whole comes written held = absurd (omega (arith, written.0))
+    by (unscanned input e) whole comes written held = absurd (omega (arith, written.0))
+    by (broken cause input a f p) whole comes written held = absurd (omega (arith, written.0))
+    by (answered input a f p) whole comes written held = record {
+      input = input;
+      asked = a;
+      filter = f;
+      projection = p;
+      taken = comes.1.0;
+      asks = comes.1.1.0;
+      unbroken = comes.1.1.1;
+      written = written.1.0;
+      held = held;
+    }
 
 -- arguments of no form
 pub unformed : (form : Option Form) (i i' o o' : End) (used : Option Seen) → IsRun form i i' o o' used 2 → form ≡ None
-unformed form i i' o o' used run = by run.outcome run.writing run.comes run.written
+unformed form i i' o o' used run = by run.outcome run.writing run.comes run.written run.held
   where
-    by : (outcome : Outcome) (writing : Writing) → IsOutcome form i i' outcome → IsWriting o o' (text_of outcome) (status_of outcome) 2 writing → form ≡ None
-    by outcome cut comes written = absurd (omega (arith, written.0))
-    by misused whole comes written = comes.0
-    by helped whole comes written = absurd (omega (arith, written.0))
-    by versioned whole comes written = absurd (omega (arith, written.0))
-    by out_of_memory whole comes written = absurd (omega (arith, written.0))
-    by unread whole comes written = absurd (omega (arith, written.0))
-    by (unanswered input name) whole comes written = absurd (omega (arith, written.0))
-    by (answered input a f p) whole comes written = absurd (omega (arith, written.0))
+    by : (outcome : Outcome) (writing : Writing) → IsOutcome form i i' outcome → IsWriting o o' (text_of outcome) (status_of outcome) 2 writing
+        → used ≡ used_by outcome → form ≡ None
+    by outcome cut comes written held = absurd (omega (arith, written.0))
+    by misused whole comes written held = comes.0
+    by helped whole comes written held = absurd (omega (arith, written.0))
+    by versioned whole comes written held = absurd (omega (arith, written.0))
+    by out_of_memory whole comes written held = absurd (omega (arith, written.0))
+    by unread whole comes written held = absurd (omega (arith, written.0))
+    by (refused input e) whole comes written held = absurd (omega (arith, written.0))
+    by (unscanned input e) whole comes written held = absurd (omega (arith, written.0))
+    by (broken cause input a f p) whole comes written held = absurd (omega (arith, written.0))
+    by (answered input a f p) whole comes written held = absurd (omega (arith, written.0))
 
--- an input that has no report
-pub unasked : (form : Option Form) (i i' o o' : End) (used : Option Seen) → IsRun form i i' o o' used 3 → IsWithoutReport i i' o o'
-unasked form i i' o o' used run = by run.outcome run.writing run.comes run.written
+-- an input that is no request
+pub unasked : (form : Option Form) (i i' o o' : End) (used : Option Seen) → IsRun form i i' o o' used 3 → IsRefused i i' o o' used
+unasked form i i' o o' used run = by run.outcome run.writing run.comes run.written run.held
   where
-    by : (outcome : Outcome) (writing : Writing) → IsOutcome form i i' outcome → IsWriting o o' (text_of outcome) (status_of outcome) 3 writing → IsWithoutReport i i' o o'
-    by outcome cut comes written = absurd (omega (arith, written.0))
-    by misused whole comes written = absurd (omega (arith, written.0))
-    by helped whole comes written = absurd (omega (arith, written.0))
-    by versioned whole comes written = absurd (omega (arith, written.0))
-    by out_of_memory whole comes written = absurd (omega (arith, written.0))
-    by unread whole comes written = absurd (omega (arith, written.0))
-    by (unanswered input name) whole comes written = record { input = input; name = name; taken = comes.1.0; cause = comes.1.1; written = written.1.0 }
-    by (answered input a f p) whole comes written = absurd (omega (arith, written.0))
+    by : (outcome : Outcome) (writing : Writing) → IsOutcome form i i' outcome → IsWriting o o' (text_of outcome) (status_of outcome) 3 writing
+        → used ≡ used_by outcome → IsRefused i i' o o' used
+    by outcome cut comes written held = absurd (omega (arith, written.0))
+    by misused whole comes written held = absurd (omega (arith, written.0))
+    by helped whole comes written held = absurd (omega (arith, written.0))
+    by versioned whole comes written held = absurd (omega (arith, written.0))
+    by out_of_memory whole comes written held = absurd (omega (arith, written.0))
+    by unread whole comes written held = absurd (omega (arith, written.0))
+    by (refused input e) whole comes written held =
+        record { input = input; refusal = e; taken = comes.1.0; cause = comes.1.1; written = written.1.0; unheld = held }
+    by (unscanned input e) whole comes written held = absurd (omega (arith, written.0))
+    by (broken cause input a f p) whole comes written held = absurd (omega (arith, written.0))
+    by (answered input a f p) whole comes written held = absurd (omega (arith, written.0))
+
+-- a scan whose expressions are refused
+pub unspelled : (form : Option Form) (i i' o o' : End) (used : Option Seen) → IsRun form i i' o o' used 4 → IsUnscanned i i' o o' used
+unspelled form i i' o o' used run = by run.outcome run.writing run.comes run.written run.held
+  where
+    by : (outcome : Outcome) (writing : Writing) → IsOutcome form i i' outcome → IsWriting o o' (text_of outcome) (status_of outcome) 4 writing
+        → used ≡ used_by outcome → IsUnscanned i i' o o' used
+    by outcome cut comes written held = absurd (omega (arith, written.0))
+    by misused whole comes written held = absurd (omega (arith, written.0))
+    by helped whole comes written held = absurd (omega (arith, written.0))
+    by versioned whole comes written held = absurd (omega (arith, written.0))
+    by out_of_memory whole comes written held = absurd (omega (arith, written.0))
+    by unread whole comes written held = absurd (omega (arith, written.0))
+    by (refused input e) whole comes written held = absurd (omega (arith, written.0))
+    by (unscanned input e) whole comes written held =
+        record { input = input; refusal = e; taken = comes.1.0; cause = comes.1.1; written = written.1.0; unheld = held }
+    by (broken cause input a f p) whole comes written held = absurd (omega (arith, written.0))
+    by (answered input a f p) whole comes written held = absurd (omega (arith, written.0))
+
+-- a scan that broke
+pub stopped : (form : Option Form) (i i' o o' : End) (used : Option Seen) → IsRun form i i' o o' used 5 → IsBroken i i' o o' used
+stopped form i i' o o' used run = by run.outcome run.writing run.comes run.written run.held
+  where
+    by : (outcome : Outcome) (writing : Writing) → IsOutcome form i i' outcome → IsWriting o o' (text_of outcome) (status_of outcome) 5 writing
+        → used ≡ used_by outcome → IsBroken i i' o o' used
+    by outcome cut comes written held = absurd (omega (arith, written.0))
+    by misused whole comes written held = absurd (omega (arith, written.0))
+    by helped whole comes written held = absurd (omega (arith, written.0))
+    by versioned whole comes written held = absurd (omega (arith, written.0))
+    by out_of_memory whole comes written held = absurd (omega (arith, written.0))
+    by unread whole comes written held = absurd (omega (arith, written.0))
+    by (refused input e) whole comes written held = absurd (omega (arith, written.0))
+    by (unscanned input e) whole comes written held = absurd (omega (arith, written.0))
+    by (broken cause input a f p) whole comes written held = record {
+      input = input;
+      asked = a;
+      filter = f;
+      projection = p;
+      cause = cause;
+      taken = comes.1.0;
+      asks = comes.1.1.0;
+      breaks = comes.1.1.1;
+      written = written.1.0;
+      held = held;
+    }
+    by (answered input a f p) whole comes written held = absurd (omega (arith, written.0))
 
 -- a source that failed
 pub source_risen : (form : Option Form) (i i' o o' : End) (used : Option Seen) → IsRun form i i' o o' used 6 → HasRisen i i'
-source_risen form i i' o o' used run = by run.outcome run.writing run.comes run.written
+source_risen form i i' o o' used run = by run.outcome run.writing run.comes run.written run.held
   where
-    by : (outcome : Outcome) (writing : Writing) → IsOutcome form i i' outcome → IsWriting o o' (text_of outcome) (status_of outcome) 6 writing → HasRisen i i'
-    by outcome cut comes written = absurd (omega (arith, written.0))
-    by misused whole comes written = absurd (omega (arith, written.0))
-    by helped whole comes written = absurd (omega (arith, written.0))
-    by versioned whole comes written = absurd (omega (arith, written.0))
-    by out_of_memory whole comes written = absurd (omega (arith, written.0))
-    by unread whole comes written = comes.1.1
-    by (unanswered input name) whole comes written = absurd (omega (arith, written.0))
-    by (answered input a f p) whole comes written = absurd (omega (arith, written.0))
+    by : (outcome : Outcome) (writing : Writing) → IsOutcome form i i' outcome → IsWriting o o' (text_of outcome) (status_of outcome) 6 writing
+        → used ≡ used_by outcome → HasRisen i i'
+    by outcome cut comes written held = absurd (omega (arith, written.0))
+    by misused whole comes written held = absurd (omega (arith, written.0))
+    by helped whole comes written held = absurd (omega (arith, written.0))
+    by versioned whole comes written held = absurd (omega (arith, written.0))
+    by out_of_memory whole comes written held = absurd (omega (arith, written.0))
+    by unread whole comes written held = comes.1.1
+    by (refused input e) whole comes written held = absurd (omega (arith, written.0))
+    by (unscanned input e) whole comes written held = absurd (omega (arith, written.0))
+    by (broken cause input a f p) whole comes written held = absurd (omega (arith, written.0))
+    by (answered input a f p) whole comes written held = absurd (omega (arith, written.0))
 
 -- a sink that failed
 pub sink_risen : (form : Option Form) (i i' o o' : End) (used : Option Seen) → IsRun form i i' o o' used 7 → HasRisen o o'
-sink_risen form i i' o o' used run = by run.outcome run.writing run.written
+sink_risen form i i' o o' used run = by run.outcome run.writing run.comes run.written run.held
   where
-    by : (outcome : Outcome) (writing : Writing) → IsWriting o o' (text_of outcome) (status_of outcome) 7 writing → HasRisen o o'
-    by outcome cut written = written.1.1
-    by misused whole written = absurd (omega (arith, written.0))
-    by helped whole written = absurd (omega (arith, written.0))
-    by versioned whole written = absurd (omega (arith, written.0))
-    by out_of_memory whole written = absurd (omega (arith, written.0))
-    by unread whole written = absurd (omega (arith, written.0))
-    by (unanswered input name) whole written = absurd (omega (arith, written.0))
-    by (answered input a f p) whole written = absurd (omega (arith, written.0))
+    by : (outcome : Outcome) (writing : Writing) → IsOutcome form i i' outcome → IsWriting o o' (text_of outcome) (status_of outcome) 7 writing
+        → used ≡ used_by outcome → HasRisen o o'
+    by outcome cut comes written held = written.1.1
+    by misused whole comes written held = absurd (omega (arith, written.0))
+    by helped whole comes written held = absurd (omega (arith, written.0))
+    by versioned whole comes written held = absurd (omega (arith, written.0))
+    by out_of_memory whole comes written held = absurd (omega (arith, written.0))
+    by unread whole comes written held = absurd (omega (arith, written.0))
+    by (refused input e) whole comes written held = absurd (omega (arith, written.0))
+    by (unscanned input e) whole comes written held = absurd (omega (arith, written.0))
+    by (broken cause input a f p) whole comes written held = absurd (omega (arith, written.0))
+    by (answered input a f p) whole comes written held = absurd (omega (arith, written.0))
+
+-- ---- what is taken of an input
 
 -- what is answered under a condition shows it
 asks_where : (b : Bool) (r : Result RequestedScan RequestError) (a : RequestedScan) → (ensured b InputTooLong >>= λ _. r) ≡ Ok a → b ≡ true
@@ -112,94 +192,202 @@ unfolding request_of
 asks_within input a e = leb-true (length input) most_bytes (asks_where (nat_le (length input) most_bytes) (json_in input >>= scan_of) a e)
 
 -- such an input is taken whole
-taken_whole : (before after : End) (all input : Bytes) → before.bytes ≡ Some all → length all ≤ most_bytes → TookUpTo (most_bytes + 1) before.bytes after.bytes input → input ≡ all
+taken_whole : (before after : End) (all input : Bytes) → before.bytes ≡ Some all → length all ≤ most_bytes
+    → TookUpTo (most_bytes + 1) before.bytes after.bytes input → input ≡ all
 taken_whole before after all input told within took =
     let own = subst (λ b. TookUpTo (most_bytes + 1) b after.bytes input) told took in
     own.0 ∙ take_all (most_bytes + 1) all (omega (arith, within))
 
--- an input that holds a scan without a report has texts that spell none
-not_unanswered : (a : RequestedScan) (name : Bytes) (r : Result RequestedScan RequestError) → r ≡ Ok a → UnansweredBy r name → (f p : Tree) → ¬ (Spells a f p)
-not_unanswered a name (Err e) is told = absurd (cc is)
-not_unanswered a name (Ok b) is told = λ f p. let same : b ≡ a = cc is in subst (λ x. ¬ (Spells x f p)) same (told.0 f p)
-
--- a run over a source whose bytes ask a scan, where no fault is counted
-pub completed : (i i' o o' : End) (used : Option Seen) (status : ℕ) → TellsScan i → IsRun (Some scan_form) i i' o o' used status → ¬ (HasRisen i i') → ¬ (HasRisen o o') → ¬ (status ≡ 8) → status ≡ 0
-completed i i' o o' used status tells run still quiet memory = by run.outcome run.writing run.comes run.written
-  where
-    by : (outcome : Outcome) (writing : Writing) → IsOutcome (Some scan_form) i i' outcome → IsWriting o o' (text_of outcome) (status_of outcome) status writing → status ≡ 0
-    by outcome cut comes written = absurd (quiet written.1.1)
-    by misused whole comes written = absurd (not_none comes.0)
-    by helped whole comes written = absurd (true≢false (ap is_scan comes.0))
-    by versioned whole comes written = absurd (true≢false (ap is_scan comes.0))
-    by out_of_memory whole comes written = absurd (memory written.0)
-    by unread whole comes written = absurd (still comes.1.1)
-    by (unanswered input name) whole comes written =
-        let same : input ≡ tells.input = taken_whole i i' tells.input input tells.told (asks_within tells.input tells.asked tells.asks.asked) comes.1.0.bytes in
-        absurd (not_unanswered tells.asked name (request_of input) (ap request_of same ∙ tells.asks.asked) comes.1.1 tells.filter tells.projection tells.asks.spelled)
-    by (answered input a f p) whole comes written = written.0
-
--- an answer is one value
-ok_same : {A E : Type 0} (r : Result A E) (x y : A) → r ≡ Ok x → r ≡ Ok y → x ≡ y
-ok_same (Ok z) x y a b =
-    let first : z ≡ x = cc a in
-    let second : z ≡ y = cc b in
-    sym first ∙ second
-ok_same (Err e) x y a b = absurd (cc a)
-
--- the run of an input whose request is refused says why, where no fault is counted
-abbrev pub SaysWhy : End → End → RequestError → ℕ → Type 0
-SaysWhy o o' e status = (status ≡ 3) × Added o.bytes o'.bytes (refusal_line (request_refusal_name e))
-
--- what is told of a refused request is its name
-told_name : (e : RequestError) (r : Result RequestedScan RequestError) (name : Bytes) → r ≡ Err e → UnansweredBy r name → name ≡ request_refusal_name e
-told_name e (Err g) name is told = let same : g ≡ e = cc is in told ∙ ap request_refusal_name same
-told_name e (Ok a) name is told = absurd (cc is)
-
 -- such an input is taken as far as it may be
-taken_part : (before after : End) (all input : Bytes) → before.bytes ≡ Some all → TookUpTo (most_bytes + 1) before.bytes after.bytes input → input ≡ take (most_bytes + 1) all
+taken_part : (before after : End) (all input : Bytes) → before.bytes ≡ Some all → TookUpTo (most_bytes + 1) before.bytes after.bytes input
+    → input ≡ take (most_bytes + 1) all
 taken_part before after all input told took = (subst (λ b. TookUpTo (most_bytes + 1) b after.bytes input) told took).0
 
-pub says_why : (e : RequestError) (i i' o o' : End) (used : Option Seen) (status : ℕ) → TellsRefused i e → IsRun (Some scan_form) i i' o o' used status → ¬ (HasRisen i i')
-    → ¬ (HasRisen o o') → ¬ (status ≡ 8) → SaysWhy o o' e status
-says_why e i i' o o' used status tells run still quiet memory = by run.outcome run.writing run.comes run.written
+-- the input that holds a scan is the one that the end tells
+told_input : (i i' : End) (input : Bytes) (told : TellsScan i) → TookUpTo (most_bytes + 1) i.bytes i'.bytes input → input ≡ told.input
+told_input i i' input told took = taken_whole i i' told.input input told.told (asks_within told.input told.asked told.asks.asked) took
+
+-- a scan that is held is the one that the end tells
+told_scan : WireLaws → (i i' : End) (input : Bytes) (a : RequestedScan) (f p : Tree) (told : TellsScan i) → TookUpTo (most_bytes + 1) i.bytes i'.bytes input
+    → HoldsScan input a f p
+    → IsSameScan a f p told.asked told.filter told.projection
+told_scan laws i i' input a f p told took held =
+    let same = told_input i i' input told took in
+    one_scan laws told.input a f p told.asked told.filter told.projection (subst (λ bytes. HoldsScan bytes a f p) same held) told.asks
+
+-- such an input is a request
+told_unrefused : (i i' : End) (input : Bytes) (e : RequestError) (told : TellsScan i) → TookUpTo (most_bytes + 1) i.bytes i'.bytes input
+    → ¬ (request_of input ≡ Err e)
+told_unrefused i i' input e told took h =
+    let same = told_input i i' input told took in
+    not_err (request_of told.input) told.asked e told.asks.asked (sym (ap request_of same) ∙ h)
+
+-- and its expressions are not refused
+told_spelled : WireLaws → (i i' : End) (input : Bytes) (e : ScanError) (told : TellsScan i) → TookUpTo (most_bytes + 1) i.bytes i'.bytes input
+    → ¬ (HoldsRefused input e)
+told_spelled laws i i' input e told took h =
+    let same = told_input i i' input told took in
+    held_unrefused laws told.input told.asked told.filter told.projection e told.asks (subst (λ bytes. HoldsRefused bytes e) same h)
+
+-- ---- phases that break
+
+-- where the first phase that breaks does so by a cause, a phase breaks
+break_step : (own other rest some : Bool) → (rest ≡ true → some ≡ true) → cond own other rest ≡ true → (own || some) ≡ true
+break_step true other rest some more h = refl
+break_step false other rest some more h = more h
+
+some_breaks : (cause : Cause) (t : Ty) (slots : Slots) (phases : List Phase) → first_breaks_by cause t slots phases ≡ true
+    → list_any (phase_breaks t slots) phases ≡ true
+some_breaks cause t slots [] h = absurd (true≢false (sym h))
+some_breaks cause t slots (phase ∷ phases) h =
+    break_step (phase_breaks t slots phase) (phase_breaks_by cause t slots phase) (first_breaks_by cause t slots phases)
+    (list_any (phase_breaks t slots) phases) (some_breaks cause t slots phases) h
+
+breaks_by_one : (cause : Cause) (a : RequestedScan) (f p : Tree) → scan_breaks_by cause a f p ≡ true → scan_breaks a f p ≡ true
+breaks_by_one cause a f p h = some_breaks cause (row_type a.zones.columns) [] (scan_phases a f p) h
+
+-- the scan that is told breaks as the same one does
+told_breaking : {i : End} (told : TellsScan i) (a : RequestedScan) (f p : Tree) (b : Bool) → IsSameScan a f p told.asked told.filter told.projection
+    → scan_breaks a f p ≡ b
+    → told_breaks told ≡ b
+told_breaking told a f p b same h = sym (λ j. scan_breaks (same.asked j) (same.filter j) (same.projection j)) ∙ h
+
+-- ---- runs over a source whose bytes are told
+
+-- where no phase of the scan that is told breaks
+pub completed : WireLaws → (i i' o o' : End) (used : Option Seen) (status : ℕ) (told : TellsScan i) → told_breaks told ≡ false
+    → IsRun (Some scan_form) i i' o o' used status → ¬ (HasRisen i i') → ¬ (HasRisen o o') → ¬ (status ≡ 8) → status ≡ 0
+completed laws i i' o o' used status told breaks run still quiet memory = by run.outcome run.writing run.comes run.written
   where
-    by : (outcome : Outcome) (writing : Writing) → IsOutcome (Some scan_form) i i' outcome → IsWriting o o' (text_of outcome) (status_of outcome) status writing → SaysWhy o o' e status
+    by : (outcome : Outcome) (writing : Writing) → IsOutcome (Some scan_form) i i' outcome
+        → IsWriting o o' (text_of outcome) (status_of outcome) status writing
+        → status ≡ 0
     by outcome cut comes written = absurd (quiet written.1.1)
     by misused whole comes written = absurd (not_none comes.0)
     by helped whole comes written = absurd (true≢false (ap is_scan comes.0))
     by versioned whole comes written = absurd (true≢false (ap is_scan comes.0))
     by out_of_memory whole comes written = absurd (memory written.0)
     by unread whole comes written = absurd (still comes.1.1)
-    by (unanswered input name) whole comes written =
+    by (refused input e) whole comes written = absurd (told_unrefused i i' input e told comes.1.0.bytes comes.1.1)
+    by (unscanned input e) whole comes written = absurd (told_spelled laws i i' input e told comes.1.0.bytes comes.1.1)
+    by (broken cause input a f p) whole comes written =
+        let same = told_scan laws i i' input a f p told comes.1.0.bytes comes.1.1.0 in
+        let breaking = told_breaking told a f p true same (breaks_by_one cause a f p comes.1.1.1) in
+        absurd (true≢false (sym breaking ∙ breaks))
+    by (answered input a f p) whole comes written = written.0
+
+-- the run of a request that is refused says why
+abbrev pub SaysWhy : End → End → ℕ → ℕ → Bytes → Type 0
+SaysWhy o o' status told name = (status ≡ told) × Added o.bytes o'.bytes (refusal_line name)
+
+-- where the bytes that are told are no request
+pub says_why : (e : RequestError) (i i' o o' : End) (used : Option Seen) (status : ℕ) → TellsRefused i e
+    → IsRun (Some scan_form) i i' o o' used status → ¬ (HasRisen i i') → ¬ (HasRisen o o') → ¬ (status ≡ 8)
+    → SaysWhy o o' status 3 (request_refusal_name e)
+says_why e i i' o o' used status tells run still quiet memory = by run.outcome run.writing run.comes run.written
+  where
+    by : (outcome : Outcome) (writing : Writing) → IsOutcome (Some scan_form) i i' outcome
+        → IsWriting o o' (text_of outcome) (status_of outcome) status writing
+        → SaysWhy o o' status 3 (request_refusal_name e)
+    by outcome cut comes written = absurd (quiet written.1.1)
+    by misused whole comes written = absurd (not_none comes.0)
+    by helped whole comes written = absurd (true≢false (ap is_scan comes.0))
+    by versioned whole comes written = absurd (true≢false (ap is_scan comes.0))
+    by out_of_memory whole comes written = absurd (memory written.0)
+    by unread whole comes written = absurd (still comes.1.1)
+    by (refused input g) whole comes written =
         let part = taken_part i i' tells.input input tells.told comes.1.0.bytes in
-        let is = told_name e (request_of input) name (ap request_of part ∙ tells.refused) comes.1.1 in
-        (written.0, subst (λ n. Added o.bytes o'.bytes (refusal_line n)) is written.1.0)
+        let same : g ≡ e = one_err (request_of input) g e comes.1.1 (ap request_of part ∙ tells.refused) in
+        (written.0, subst (λ x. Added o.bytes o'.bytes (refusal_line (request_refusal_name x))) same written.1.0)
+    by (unscanned input g) whole comes written =
+        let part = taken_part i i' tells.input input tells.told comes.1.0.bytes in
+        absurd (not_err (request_of input) comes.1.1.asked e comes.1.1.held (ap request_of part ∙ tells.refused))
+    by (broken cause input a f p) whole comes written =
+        let part = taken_part i i' tells.input input tells.told comes.1.0.bytes in
+        absurd (not_err (request_of input) a e comes.1.1.0.asked (ap request_of part ∙ tells.refused))
     by (answered input a f p) whole comes written =
         let part = taken_part i i' tells.input input tells.told comes.1.0.bytes in
-        absurd (let k = sym comes.1.1.asked ∙ ap request_of part ∙ tells.refused in cc k)
+        absurd (not_err (request_of input) a e comes.1.1.0.asked (ap request_of part ∙ tells.refused))
 
--- a wire text spells one tree at most, and a wire tree builds one expression at most
-abbrev pub SpellsOnce : Type 0
-SpellsOnce = (bytes : Bytes) (a b : Wire) → wires.Spells bytes a → wires.Spells bytes b → a ≡ b
+-- the input of a scan whose expressions are refused is taken whole
+unscanned_input : (i i' : End) (input : Bytes) (e : ScanError) (tells : TellsUnscanned i e)
+    → TookUpTo (most_bytes + 1) i.bytes i'.bytes input → input ≡ tells.input
+unscanned_input i i' input e tells took =
+    taken_whole i i' tells.input input tells.told (asks_within tells.input tells.refused.asked tells.refused.held) took
 
-abbrev pub BuildsOnce : Type 0
-BuildsOnce = (holds : ExprEncoding → Bool) (wire : Wire) (a b : Tree) → IsBuilt holds wire a → IsBuilt holds wire b → a ≡ b
+-- where the expressions of the scan that is told are refused
+pub says_refusal : WireLaws → (e : ScanError) (i i' o o' : End) (used : Option Seen) (status : ℕ) → TellsUnscanned i e
+    → IsRun (Some scan_form) i i' o o' used status → ¬ (HasRisen i i') → ¬ (HasRisen o o') → ¬ (status ≡ 8)
+    → SaysWhy o o' status 4 (scan_refusal_name e)
+says_refusal laws e i i' o o' used status tells run still quiet memory = by run.outcome run.writing run.comes run.written
+  where
+    by : (outcome : Outcome) (writing : Writing) → IsOutcome (Some scan_form) i i' outcome
+        → IsWriting o o' (text_of outcome) (status_of outcome) status writing
+        → SaysWhy o o' status 4 (scan_refusal_name e)
+    by outcome cut comes written = absurd (quiet written.1.1)
+    by misused whole comes written = absurd (not_none comes.0)
+    by helped whole comes written = absurd (true≢false (ap is_scan comes.0))
+    by versioned whole comes written = absurd (true≢false (ap is_scan comes.0))
+    by out_of_memory whole comes written = absurd (memory written.0)
+    by unread whole comes written = absurd (still comes.1.1)
+    by (refused input g) whole comes written =
+        let same = unscanned_input i i' input e tells comes.1.0.bytes in
+        absurd (not_err (request_of input) tells.refused.asked g (ap request_of same ∙ tells.refused.held) comes.1.1)
+    by (unscanned input g) whole comes written =
+        let same = unscanned_input i i' input e tells comes.1.0.bytes in
+        let one : g ≡ e = one_held_refusal laws tells.input g e (subst (λ bytes. HoldsRefused bytes g) same comes.1.1) tells.refused in
+        (written.0, subst (λ x. Added o.bytes o'.bytes (refusal_line (scan_refusal_name x))) one written.1.0)
+    by (broken cause input a f p) whole comes written =
+        let same = unscanned_input i i' input e tells comes.1.0.bytes in
+        absurd (held_unrefused laws tells.input a f p e (subst (λ bytes. HoldsScan bytes a f p) same comes.1.1.0) tells.refused)
+    by (answered input a f p) whole comes written =
+        let same = unscanned_input i i' input e tells comes.1.0.bytes in
+        absurd (held_unrefused laws tells.input a f p e (subst (λ bytes. HoldsScan bytes a f p) same comes.1.1.0) tells.refused)
 
--- so bytes spell one expression at most
-spelled_once : SpellsOnce → BuildsOnce → (holds : ExprEncoding → Bool) (bytes : Bytes) (a b : Tree) → SpellsTree holds bytes a → SpellsTree holds bytes b → a ≡ b
-spelled_once spells builds holds bytes a b (m, x, made) (n, y, made') =
-    builds holds n a b (subst (λ wire. IsBuilt holds wire a) (spells bytes m n x.spelled y.spelled) made) made'
+-- the run of a scan that breaks says why, and holds its store
+abbrev pub SaysBreak : {i : End} → TellsScan i → End → End → Option Seen → ℕ → Type 0
+SaysBreak told o o' used status =
+    (status ≡ 5) × ((cause : Cause) × (told_breaks_by cause told ≡ true) × Added o.bytes o'.bytes (refusal_line (break_name cause)))
+    × (used ≡ Some (broken_store told.asked told.filter told.projection))
+
+-- where a phase of the scan that is told breaks
+pub says_break : WireLaws → (i i' o o' : End) (used : Option Seen) (status : ℕ) (told : TellsScan i) → told_breaks told ≡ true
+    → IsRun (Some scan_form) i i' o o' used status → ¬ (HasRisen i i') → ¬ (HasRisen o o') → ¬ (status ≡ 8) → SaysBreak told o o' used status
+says_break laws i i' o o' used status told breaks run still quiet memory = by run.outcome run.writing run.comes run.written run.held
+  where
+    by : (outcome : Outcome) (writing : Writing) → IsOutcome (Some scan_form) i i' outcome
+        → IsWriting o o' (text_of outcome) (status_of outcome) status writing
+        → used ≡ used_by outcome
+        → SaysBreak told o o' used status
+    by outcome cut comes written held = absurd (quiet written.1.1)
+    by misused whole comes written held = absurd (not_none comes.0)
+    by helped whole comes written held = absurd (true≢false (ap is_scan comes.0))
+    by versioned whole comes written held = absurd (true≢false (ap is_scan comes.0))
+    by out_of_memory whole comes written held = absurd (memory written.0)
+    by unread whole comes written held = absurd (still comes.1.1)
+    by (refused input e) whole comes written held = absurd (told_unrefused i i' input e told comes.1.0.bytes comes.1.1)
+    by (unscanned input e) whole comes written held = absurd (told_spelled laws i i' input e told comes.1.0.bytes comes.1.1)
+    by (broken cause input a f p) whole comes written held =
+        let same = told_scan laws i i' input a f p told comes.1.0.bytes comes.1.1.0 in
+        let by_cause : told_breaks_by cause told ≡ true =
+        sym (λ j. scan_breaks_by cause (same.asked j) (same.filter j) (same.projection j)) ∙ comes.1.1.1 in
+        (written.0, (cause, by_cause, written.1.0), held ∙ (λ j. Some (broken_store (same.asked j) (same.filter j) (same.projection j))))
+    by (answered input a f p) whole comes written held =
+        let unbroken = told_breaking told a f p false (told_scan laws i i' input a f p told comes.1.0.bytes comes.1.1.0) comes.1.1.1 in
+        absurd (true≢false (sym breaks ∙ unbroken))
 
 -- the scan that a run reports is the one that the source's bytes ask
-pub reported_as_told : SpellsOnce → BuildsOnce → (i i' o o' : End) (used : Option Seen) (told : TellsScan i) → IsRun (Some scan_form) i i' o o' used 0
+pub reported_as_told : WireLaws → (i i' o o' : End) (used : Option Seen) (told : TellsScan i) → IsRun (Some scan_form) i i' o o' used 0
     → Added o.bytes o'.bytes (scan_report told.asked told.filter told.projection) × (used ≡ Some (scanned_store told.asked told.filter told.projection))
-reported_as_told spells builds i i' o o' used told run =
+reported_as_told laws i i' o o' used told run =
     let found = reported i i' o o' used run in
-    let input : found.input ≡ told.input = taken_whole i i' told.input found.input told.told (asks_within told.input told.asked told.asks.asked) found.taken.bytes in
-    let asked : found.asked ≡ told.asked = ok_same (request_of found.input) found.asked told.asked found.asks.asked (ap request_of input ∙ told.asks.asked) in
-    let own : Spells told.asked found.filter found.projection = subst (λ a. Spells a found.filter found.projection) asked found.asks.spelled in
-    let filter : found.filter ≡ told.filter = spelled_once spells builds is_default_kind told.asked.filter found.filter told.filter own.filter_spelled told.asks.spelled.filter_spelled in
-    let projection : found.projection ≡ told.projection = spelled_once spells builds is_default_kind told.asked.projection found.projection told.projection own.projection_spelled told.asks.spelled.projection_spelled in (
-      subst (Added o.bytes o'.bytes) (λ j. scan_report (asked j) (filter j) (projection j)) found.written,
-      found.held ∙ (λ j. Some (scanned_store (asked j) (filter j) (projection j))),
+    let same = told_scan laws i i' found.input found.asked found.filter found.projection told found.taken.bytes found.asks in (
+      subst (Added o.bytes o'.bytes) (λ j. scan_report (same.asked j) (same.filter j) (same.projection j)) found.written,
+      found.held ∙ (λ j. Some (scanned_store (same.asked j) (same.filter j) (same.projection j))),
     )
+
+-- where the statistics are honest, the report tells all rows
+pub whole_where_honest : KeptRowsAreAll → (a : RequestedScan) (f p : Tree) → IsHonest a.zones (scan_table a) → scan_report a f p ≡ whole_report a f p
+whole_where_honest all a f p honest =
+    ap (λ rows. report_text (map value_text rows) (skipped_blocks a.zones [] f) (read_columns (scan_table a) (scan_reads a f p)) (length (scan_reads a f p)))
+    (all a.zones (scan_table a) [] f p honest)

@@ -1,16 +1,21 @@
 -- What the exit status of a run tells: the report that 0 of a scan means, and the cause of each other one.
-use Rattle.std.specs.Prelude.{◌≡◌, ◌+◌, ◌≤◌, take, Option, Some, Err}
+use Rattle.std.specs.Prelude.{◌≡◌, ◌+◌, ◌≤◌, [], map, length, take, Bool, true, false, Option, Some, None, Err}
 use Rattle.vx_dtype.specs.Types.{Bytes}
 use Rattle.vx_expr.specs.Trees.{Tree}
+use Rattle.vx_semantics.specs.Breaks.{Cause}
+use Rattle.vx_semantics.specs.Scans.{rows_of, skipped_blocks, read_columns}
+use Rattle.vx_display.specs.ValueTexts.{value_text}
 use Rattle.vx_io.specs.Counts.{one_more}
-use Rattle.vx_scan.specs.Scanning.{Seen}
 use Rattle.vx_io.specs.Ends.{Added}
+use Rattle.vx_scan.specs.Stores.{Seen}
+use Rattle.vx_scan.specs.declared.errors.ScanError.{ScanError}
 use Rattle.vx_request.specs.Requests.{RequestedScan, request_of, most_bytes}
 use Rattle.vx_request.specs.declared.errors.RequestError.{RequestError}
-use Rattle.vx_query.specs.Refusals.{refusal_line}
-use Rattle.vx_query.specs.Running.{End, IsTaken, HoldsScan, UnansweredBy, scan_report, scanned_store}
+use Rattle.vx_query.specs.Reports.{report_text}
+use Rattle.vx_query.specs.Refusals.{request_refusal_name, scan_refusal_name, break_name, refusal_line}
+use Rattle.vx_query.specs.Running.{End, IsTaken, HoldsScan, HoldsRefused, scan_table, scan_reads, scan_report, scan_breaks, scan_breaks_by, scanned_store, broken_store}
 
--- a report was written whole: of the scan that the input holds, whose store is held
+-- a report was written whole: of the scan that the input holds, no phase of which breaks, and whose store is held
 pub record IsReported (in_before in_after out_before out_after : End) (used : Option Seen) : Type 0 where
   pub input : Bytes
   pub asked : RequestedScan
@@ -18,16 +23,41 @@ pub record IsReported (in_before in_after out_before out_after : End) (used : Op
   pub projection : Tree
   pub taken : IsTaken in_before in_after input
   pub asks : HoldsScan input asked filter projection
+  pub unbroken : scan_breaks asked filter projection ≡ false
   pub written : Added out_before.bytes out_after.bytes (scan_report asked filter projection)
   pub held : used ≡ Some (scanned_store asked filter projection)
 
--- an input was taken that has no report, and the line of its one cause was written
-pub record IsWithoutReport (in_before in_after out_before out_after : End) : Type 0 where
+-- an input was taken that is no request, and the line of its refusal was written; no store is held
+pub record IsRefused (in_before in_after out_before out_after : End) (used : Option Seen) : Type 0 where
   pub input : Bytes
-  pub name : Bytes
+  pub refusal : RequestError
   pub taken : IsTaken in_before in_after input
-  pub cause : UnansweredBy (request_of input) name
-  pub written : Added out_before.bytes out_after.bytes (refusal_line name)
+  pub cause : request_of input ≡ Err refusal
+  pub written : Added out_before.bytes out_after.bytes (refusal_line (request_refusal_name refusal))
+  pub unheld : used ≡ None
+
+-- an input was taken that holds a scan whose expressions are refused, and the line of the refusal was written; no store is held
+pub record IsUnscanned (in_before in_after out_before out_after : End) (used : Option Seen) : Type 0 where
+  pub input : Bytes
+  pub refusal : ScanError
+  pub taken : IsTaken in_before in_after input
+  pub cause : HoldsRefused input refusal
+  pub written : Added out_before.bytes out_after.bytes (refusal_line (scan_refusal_name refusal))
+  pub unheld : used ≡ None
+
+-- an input was taken that holds a scan whose first phase that breaks does so by a cause, and the line of the cause was written; the store is held with
+-- the reads up to there
+pub record IsBroken (in_before in_after out_before out_after : End) (used : Option Seen) : Type 0 where
+  pub input : Bytes
+  pub asked : RequestedScan
+  pub filter : Tree
+  pub projection : Tree
+  pub cause : Cause
+  pub taken : IsTaken in_before in_after input
+  pub asks : HoldsScan input asked filter projection
+  pub breaks : scan_breaks_by cause asked filter projection ≡ true
+  pub written : Added out_before.bytes out_after.bytes (refusal_line (break_name cause))
+  pub held : used ≡ Some (broken_store asked filter projection)
 
 -- an end counted a fault
 abbrev pub HasRisen : End → End → Type 0
@@ -42,8 +72,27 @@ pub record TellsScan (before : End) : Type 0 where
   pub projection : Tree
   pub asks : HoldsScan input asked filter projection
 
+-- whether a phase of this scan breaks, and whether the first that does so breaks by this cause
+abbrev pub told_breaks : {before : End} → TellsScan before → Bool
+told_breaks told = scan_breaks told.asked told.filter told.projection
+
+abbrev pub told_breaks_by : {before : End} → Cause → TellsScan before → Bool
+told_breaks_by cause told = scan_breaks_by cause told.asked told.filter told.projection
+
 -- an end that tells its bytes, which as far as they are taken are a request that is refused so
 pub record TellsRefused (before : End) (e : RequestError) : Type 0 where
   pub input : Bytes
   pub told : before.bytes ≡ Some input
   pub refused : request_of (take (most_bytes + 1) input) ≡ Err e
+
+-- an end that tells its bytes, which hold a scan whose expressions are refused so
+pub record TellsUnscanned (before : End) (e : ScanError) : Type 0 where
+  pub input : Bytes
+  pub told : before.bytes ≡ Some input
+  pub refused : HoldsRefused input e
+
+-- the report of a scan with what the projection means at all rows at which the filter means true, whatever the statistics say
+abbrev pub whole_report : RequestedScan → Tree → Tree → Bytes
+whole_report a f p =
+    report_text (map value_text (rows_of (scan_table a) [] f p)) (skipped_blocks a.zones [] f) (read_columns (scan_table a) (scan_reads a f p))
+    (length (scan_reads a f p))

@@ -4,4 +4,6 @@ pub mod Refusals
 pub mod Running
 pub mod RunViews
 pub mod RefusalViews
+pub mod EndingViews
 pub mod Causes
+pub mod WireLaws

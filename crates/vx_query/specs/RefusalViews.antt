@@ -1,21 +1,21 @@
 -- For the checker: no public clause cites this. The exit statuses and lines of refusals.
-use Rattle.std.specs.Prelude.{ℕ, codes}
+use Rattle.std.specs.Prelude.{◌≡◌, ℕ, codes, Err}
 use Rattle.vx_dtype.specs.Types.{Bytes}
-use Rattle.vx_expr.specs.Trees.{Tree}
 use Rattle.vx_request.specs.Requests.{RequestedScan, request_of}
 use Rattle.vx_request.specs.declared.errors.RequestError.{RequestError}
 use Rattle.vx_request.specs.declared.errors.RequestError.TheVariants as requests
 use Rattle.vx_io.specs.declared.reading.InputError.{InputError}
 use Rattle.vx_io.specs.declared.reading.InputError.TheVariants as inputs
-use Rattle.vx_query.specs.Refusals.{request_refusal_name, refusal_line}
-use Rattle.vx_query.specs.Running.{Spells, UnansweredBy}
+use Rattle.vx_query.specs.Refusals.{request_refusal_name, scan_refusal_name, refusal_line}
+use Rattle.vx_query.specs.Running.{HoldsRefused, IsScanRefused}
 use Rattle.vx_query.specs.declared.refusals.Refusal.{Refusal}
-use Rattle.vx_query.specs.declared.refusals.Refusal.TheVariants.{NoMemory, ReadFault, InputTooLong, BadJson, BadRequest, BadHex, BadTable, NotBuilt}
+use Rattle.vx_query.specs.declared.refusals.Refusal.TheVariants.{NoMemory, ReadFault, InputTooLong, BadJson, BadRequest, BadHex, BadTable, Scan}
 
 -- the exit status of a refusal
 abbrev pub refusal_status : Refusal → ℕ
 refusal_status NoMemory = 8
 refusal_status ReadFault = 6
+refusal_status (Scan e) = 4
 refusal_status _ = 3
 
 -- what is told of a refusal
@@ -27,7 +27,7 @@ refusal_name BadJson = codes "BadJson"
 refusal_name (BadRequest place) = request_refusal_name (requests.BadRequest place)
 refusal_name (BadHex side) = request_refusal_name (requests.BadHex side)
 refusal_name (BadTable refusal) = request_refusal_name (requests.BadTable refusal)
-refusal_name NotBuilt = codes "NotBuilt"
+refusal_name (Scan e) = scan_refusal_name e
 
 -- the line of a refusal
 abbrev pub refusal_text : Refusal → Bytes
@@ -48,13 +48,18 @@ request_refusal (requests.BadHex side) = BadHex side
 request_refusal (requests.BadTable refusal) = BadTable refusal
 
 -- an input is answered by this refusal: want of memory at any time, a fault of the source never, else what the input holds is told
-abbrev pub IsAnsweredBy : Bytes → Refusal → Type 0
-IsAnsweredBy input NoMemory = Unit {0}
-IsAnsweredBy input ReadFault = ⊥
-IsAnsweredBy input r = UnansweredBy (request_of input) (refusal_name r)
+abbrev pub IsUnanswered : Bytes → Refusal → Type 0
+IsUnanswered input NoMemory = Unit {0}
+IsUnanswered input ReadFault = ⊥
+IsUnanswered input InputTooLong = request_of input ≡ Err requests.InputTooLong
+IsUnanswered input BadJson = request_of input ≡ Err requests.BadJson
+IsUnanswered input (BadRequest place) = request_of input ≡ Err (requests.BadRequest place)
+IsUnanswered input (BadHex side) = request_of input ≡ Err (requests.BadHex side)
+IsUnanswered input (BadTable refusal) = request_of input ≡ Err (requests.BadTable refusal)
+IsUnanswered input (Scan e) = HoldsRefused input e
 
--- a scan is answered by this refusal: want of memory at any time, and that it isn't built where its texts spell none that is answered
+-- a scan is answered by this refusal: want of memory at any time, else why its expressions are refused
 abbrev pub IsUnscanned : RequestedScan → Refusal → Type 0
 IsUnscanned a NoMemory = Unit {0}
-IsUnscanned a NotBuilt = (f p : Tree) → ¬ (Spells a f p)
+IsUnscanned a (Scan e) = IsScanRefused a e
 IsUnscanned a _ = ⊥

@@ -1,6 +1,7 @@
 -- What the lines of refusals tell.
 use Rattle.std.specs.Prelude.{◌++◌, codes}
 use Rattle.vx_dtype.specs.Types.{Bytes}
+use Rattle.vx_semantics.specs.Breaks.{Cause, by_sum, by_cast}
 use Rattle.vx_request.specs.declared.errors.Place.{Place}
 use Rattle.vx_request.specs.declared.errors.Place.TheVariants.{Top, Columns, Blocks, Stats, Filter, Projection}
 use Rattle.vx_request.specs.declared.errors.Side.{Side}
@@ -8,6 +9,10 @@ use Rattle.vx_request.specs.declared.errors.Side.TheVariants as sides
 use Rattle.vx_request.specs.declared.errors.TableRefusal.{TableRefusal}
 use Rattle.vx_request.specs.declared.errors.TableRefusal.TheVariants.{DuplicateName, DeepType, BadStatPath, DuplicateStat, WrongStatCount, WrongStatType, WrongLength, WrongValue}
 use Rattle.vx_request.specs.declared.errors.RequestError.{RequestError}
+use Rattle.vx_scan.specs.declared.errors.Side.{Side as ScannedSide}
+use Rattle.vx_scan.specs.declared.errors.Side.TheVariants as scanned
+use Rattle.vx_scan.specs.declared.errors.ScanError.{ScanError}
+use Rattle.vx_scan.specs.declared.errors.ScanError.TheVariants as scans
 use Rattle.vx_request.specs.declared.errors.RequestError.TheVariants.{NoMemory, InputTooLong, BadJson, BadRequest, BadHex, BadTable}
 
 -- the name of a place of a request
@@ -43,6 +48,36 @@ request_refusal_name BadJson = codes "BadJson"
 request_refusal_name (BadRequest place) = codes "BadRequest " ++ place_name place
 request_refusal_name (BadHex side) = codes "BadHex " ++ side_name side
 request_refusal_name (BadTable refusal) = codes "BadTable " ++ table_refusal_name refusal
+
+-- the name of one of the expressions of a scan
+abbrev pub scanned_side_name : ScannedSide → Bytes
+scanned_side_name scanned.Filter = codes "filter"
+scanned_side_name scanned.Projection = codes "projection"
+scanned_side_name scanned.Text = codes "text"
+
+-- what is told of a scan that is refused or breaks: the refusal's name, and its side
+abbrev pub scan_refusal_name : ScanError → Bytes
+scan_refusal_name scans.NoMemory = codes "NoMemory"
+scan_refusal_name (scans.BadWire side) = codes "BadWire " ++ scanned_side_name side
+scan_refusal_name (scans.TooDeep side) = codes "TooDeep " ++ scanned_side_name side
+scan_refusal_name (scans.TooManyNodes side) = codes "TooManyNodes " ++ scanned_side_name side
+scan_refusal_name (scans.UnknownExpr side) = codes "UnknownExpr " ++ scanned_side_name side
+scan_refusal_name (scans.BadMetadata side) = codes "BadMetadata " ++ scanned_side_name side
+scan_refusal_name (scans.WrongChildren side) = codes "WrongChildren " ++ scanned_side_name side
+scan_refusal_name (scans.NotStruct side) = codes "NotStruct " ++ scanned_side_name side
+scan_refusal_name (scans.NullableSelect side) = codes "NullableSelect " ++ scanned_side_name side
+scan_refusal_name (scans.UnknownField side) = codes "UnknownField " ++ scanned_side_name side
+scan_refusal_name (scans.DuplicateField side) = codes "DuplicateField " ++ scanned_side_name side
+scan_refusal_name (scans.TypeMismatch side) = codes "TypeMismatch " ++ scanned_side_name side
+scan_refusal_name scans.FilterNotBool = codes "FilterNotBool"
+scan_refusal_name scans.Overflow = codes "Overflow"
+scan_refusal_name scans.BadCast = codes "BadCast"
+scan_refusal_name scans.StoreFault = codes "StoreFault"
+
+-- what is told of a phase that breaks by a cause
+abbrev pub break_name : Cause → Bytes
+break_name by_sum = codes "Overflow"
+break_name by_cast = codes "BadCast"
 
 -- the line of a refusal
 abbrev pub refusal_line : Bytes → Bytes

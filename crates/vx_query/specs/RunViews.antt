@@ -1,8 +1,4 @@
--- How forms of arguments and the store of a run are seen.
-use Rattle.std.specs.Prelude.{Some}
-use Rattle.vx_scan.specs.Blocks.{table_of}
-use Rattle.vx_io.specs.Counts.{is_nothing}
-use Rattle.vx_scan.specs.Scanning.{Seen}
+-- How forms of arguments and the scan of a store are seen.
 use Rattle.vx_scan.specs.StoreViews.{StoreState}
 use Rattle.vx_dtype.specs.Types.{Bytes}
 use Rattle.vx_request.specs.Requests.{RequestedScan}
@@ -15,11 +11,6 @@ abbrev pub form_view : Form → running.Form
 form_view Scan = running.scan_form
 form_view Help = running.help_form
 form_view Version = running.version_form
-
--- a store in memory by its six meanings
-abbrev pub store_view : StoreState → Seen
-store_view s =
-    record { zones = s.zones; held = Some (table_of s.zones s.blocks); log = s.reads; faults = s.faults; failed = s.failed; faultless = is_nothing s.listed }
 
 -- the scan of a store and two byte texts
 abbrev pub scan_of : StoreState → Bytes → Bytes → RequestedScan

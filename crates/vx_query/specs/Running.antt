@@ -1,22 +1,24 @@
 -- What the program does: the forms of its arguments, how it comes to an end, and what it writes then.
-use Rattle.std.specs.Prelude.{◌≡◌, ℕ, ◌+◌, ◌≤◌, true, cond, List, [], ◌∷◌, ◌++◌, length, map, codes, Option, Some, None, Result, Ok, Err}
+use Rattle.std.specs.Prelude.{◌≡◌, ◌⊎◌, ℕ, ◌+◌, ◌≤◌, Bool, true, false, cond, List, [], ◌∷◌, ◌++◌, length, map, codes, Option, Some, None, Result, Ok, Err}
 use Rattle.std.specs.Str.{bytes_eq}
-use Rattle.vx_dtype.specs.Types.{Bytes}
+use Rattle.vx_dtype.specs.Types.{Bytes, Ty}
 use Rattle.vx_expr.specs.Trees.{Tree}
-use Rattle.vx_semantics.specs.Tables.{Table}
-use Rattle.vx_semantics.specs.Scans.{kept_rows_of, skipped_blocks, reads_of, read_columns}
+use Rattle.vx_semantics.specs.Breaks.{Cause}
+use Rattle.vx_semantics.specs.Tables.{Table, row_type}
+use Rattle.vx_semantics.specs.Scans.{kept_rows_of, skipped_blocks, reads_of, reads_to_break, read_columns, Phase, phases_of, some_phase_breaks, first_breaks_by}
 use Rattle.vx_wire.specs.Encodings.{is_default_kind}
 use Rattle.vx_display.specs.ValueTexts.{value_text}
 use Rattle.vx_scan.specs.Blocks.{table_of}
 use Rattle.vx_io.specs.Counts.{one_more}
-use Rattle.vx_scan.specs.FirstForm.{IsAsked}
-use Rattle.vx_scan.specs.Scanning.{Seen}
-use Rattle.vx_scan.specs.Stores.{Read}
+use Rattle.vx_scan.specs.Scanning.{scan_type}
+use Rattle.vx_scan.specs.Stores.{Read, Seen}
+use Rattle.vx_scan.specs.Texts.{SpellBoth, AreRefused}
+use Rattle.vx_scan.specs.declared.errors.ScanError.{ScanError}
 use Rattle.vx_io.specs.Ends.{TookPart, TookUpTo, Added, AddedPrefix}
 use Rattle.vx_query.specs.Reports.{report_text}
 use Rattle.vx_request.specs.Requests.{RequestedScan, request_of, most_bytes}
 use Rattle.vx_request.specs.declared.errors.RequestError.{RequestError}
-use Rattle.vx_query.specs.Refusals.{request_refusal_name, refusal_line}
+use Rattle.vx_query.specs.Refusals.{request_refusal_name, scan_refusal_name, break_name, refusal_line}
 
 -- the forms of arguments
 pub data Form : Type 0 where
@@ -60,34 +62,65 @@ scan_report a f p =
     report_text (map value_text (kept_rows_of (scan_table a) a.zones [] f p)) (skipped_blocks a.zones [] f)
     (read_columns (scan_table a) (scan_reads a f p)) (length (scan_reads a f p))
 
--- the store that was scanned: it holds the table, and its reads are those of the scan; no read failed, and none can
+-- the store of a scan with these reads: it holds the table; no read failed, and none can
+abbrev pub store_with : RequestedScan → List Read → Seen
+store_with a reads = record { zones = a.zones; held = Some (scan_table a); log = reads; faults = 0; failed = None; faultless = true }
+
+-- the store that was scanned: its reads are those of the scan; and the store of a scan that broke: they are those up to the first phase that breaks
 abbrev pub scanned_store : RequestedScan → Tree → Tree → Seen
-scanned_store a f p =
-    record { zones = a.zones; held = Some (scan_table a); log = scan_reads a f p; faults = 0; failed = None; faultless = true }
+scanned_store a f p = store_with a (scan_reads a f p)
 
--- the two byte texts of a scan spell this filter and this projection, of the form that is answered
+abbrev pub broken_store : RequestedScan → Tree → Tree → Seen
+broken_store a f p = store_with a (reads_to_break (scan_table a) a.zones [] f p)
+
+-- the type of a scan's rows, or the refusal of its expressions
+abbrev pub type_of_scan : RequestedScan → Tree → Tree → Result Ty ScanError
+type_of_scan a f p = scan_type (row_type a.zones.columns) [] f p
+
+-- the two byte texts of a scan spell this filter and this projection
 abbrev pub Spells : RequestedScan → Tree → Tree → Type 0
-Spells a f p = IsAsked is_default_kind a.zones a.filter a.projection f p
+Spells a f p = SpellBoth is_default_kind a.filter a.projection f p
 
--- what is told of an input that has no report, by the request in it: the refusal of the request, else that its expressions have no answer yet
-abbrev pub UnansweredBy : Result RequestedScan RequestError → Bytes → Type 0
-UnansweredBy (Err e) name = name ≡ request_refusal_name e
-UnansweredBy (Ok a) name = ((f p : Tree) → ¬ (Spells a f p)) × (name ≡ codes "NotBuilt")
-
--- an input that holds this scan, of this filter and this projection
+-- an input that holds this scan, of this filter and this projection, both strictly typed for its table, the filter a boolean
 pub record HoldsScan (input : Bytes) (a : RequestedScan) (f p : Tree) : Type 0 where
   pub asked : request_of input ≡ Ok a
   pub spelled : Spells a f p
+  pub ty : Ty
+  pub typed : type_of_scan a f p ≡ Ok ty
 
--- how the program comes to an end: arguments of no form, help, the version, no memory, an input that can't be read, one that is answered by
--- no report, of which this is told, and one that is
+-- why the expressions of a scan are refused: its texts spell none, or they are not typed so
+abbrev pub IsScanRefused : RequestedScan → ScanError → Type 0
+IsScanRefused a e =
+    AreRefused is_default_kind a.filter a.projection e ⊎ ((f : Tree) × (p : Tree) × Spells a f p × (type_of_scan a f p ≡ Err e))
+
+-- an input that holds a scan whose expressions are refused so
+pub record HoldsRefused (input : Bytes) (e : ScanError) : Type 0 where
+  pub asked : RequestedScan
+  pub held : request_of input ≡ Ok asked
+  pub refused : IsScanRefused asked e
+
+-- the phases of the scan of a filter and a projection
+abbrev pub scan_phases : RequestedScan → Tree → Tree → List Phase
+scan_phases a f p = phases_of (scan_table a) a.zones [] f p
+
+-- whether one of them breaks, and whether the first that does so breaks by this cause
+abbrev pub scan_breaks : RequestedScan → Tree → Tree → Bool
+scan_breaks a f p = some_phase_breaks (scan_table a) a.zones [] f p
+
+abbrev pub scan_breaks_by : Cause → RequestedScan → Tree → Tree → Bool
+scan_breaks_by cause a f p = first_breaks_by cause (row_type a.zones.columns) [] (scan_phases a f p)
+
+-- how the program comes to an end: arguments of no form, help, the version, no memory, an input that can't be read, one that is no request, one whose
+-- expressions are refused, one whose scan breaks by a sum or a cast, and one that is answered by a report
 pub data Outcome : Type 0 where
   misused : Outcome
   helped : Outcome
   versioned : Outcome
   out_of_memory : Outcome
   unread : Outcome
-  unanswered : Bytes → Bytes → Outcome
+  refused : Bytes → RequestError → Outcome
+  unscanned : Bytes → ScanError → Outcome
+  broken : Cause → Bytes → RequestedScan → Tree → Tree → Outcome
   answered : Bytes → RequestedScan → Tree → Tree → Outcome
 
 -- the input was taken to its end, or to one byte more than the most; that many bytes are no request
@@ -107,8 +140,12 @@ IsOutcome form before after helped = (form ≡ Some help_form) × (after ≡ bef
 IsOutcome form before after versioned = (form ≡ Some version_form) × (after ≡ before)
 IsOutcome form before after out_of_memory = (form ≡ Some scan_form) × (IsPartTaken before after × (before.faults ≤ after.faults))
 IsOutcome form before after unread = (form ≡ Some scan_form) × (IsPartTaken before after × (one_more before.faults ≤ after.faults))
-IsOutcome form before after (unanswered input name) = (form ≡ Some scan_form) × (IsTaken before after input × UnansweredBy (request_of input) name)
-IsOutcome form before after (answered input a f p) = (form ≡ Some scan_form) × (IsTaken before after input × HoldsScan input a f p)
+IsOutcome form before after (refused input e) = (form ≡ Some scan_form) × (IsTaken before after input × (request_of input ≡ Err e))
+IsOutcome form before after (unscanned input e) = (form ≡ Some scan_form) × (IsTaken before after input × HoldsRefused input e)
+IsOutcome form before after (broken cause input a f p) =
+    (form ≡ Some scan_form) × (IsTaken before after input × (HoldsScan input a f p × (scan_breaks_by cause a f p ≡ true)))
+IsOutcome form before after (answered input a f p) =
+    (form ≡ Some scan_form) × (IsTaken before after input × (HoldsScan input a f p × (scan_breaks a f p ≡ false)))
 
 -- the text of `--version`
 abbrev pub version_text : Bytes
@@ -127,7 +164,9 @@ status_of helped = 0
 status_of versioned = 0
 status_of out_of_memory = 8
 status_of unread = 6
-status_of (unanswered input name) = 3
+status_of (refused input e) = 3
+status_of (unscanned input e) = 4
+status_of (broken cause input a f p) = 5
 status_of (answered input a f p) = 0
 
 -- the text that an outcome writes
@@ -137,11 +176,14 @@ text_of helped = help_text
 text_of versioned = version_text
 text_of out_of_memory = refusal_line (codes "NoMemory")
 text_of unread = refusal_line (codes "ReadFault")
-text_of (unanswered input name) = refusal_line name
+text_of (refused input e) = refusal_line (request_refusal_name e)
+text_of (unscanned input e) = refusal_line (scan_refusal_name e)
+text_of (broken cause input a f p) = refusal_line (break_name cause)
 text_of (answered input a f p) = scan_report a f p
 
--- the store that is held after an outcome: the one that was scanned, where a report was made
+-- the store that is held after an outcome: the one that was scanned, where a report was made or a phase broke
 abbrev pub used_by : Outcome → Option Seen
+used_by (broken cause input a f p) = Some (broken_store a f p)
 used_by (answered input a f p) = Some (scanned_store a f p)
 used_by _ = None
 

@@ -1,5 +1,5 @@
-// The answer to an input: the report of the scan that it holds.
-ghost use Rattle.std.specs.Prelude.{◌≡◌, true, [], length, map, None, IfOk, IfErr, IsErrOf};
+// The answer to an input: how the scan that it holds ends.
+ghost use Rattle.std.specs.Prelude.{◌≡◌, ◌≢◌, true, [], length, map, None, IfOk, IfErr, IsErrOf};
 ghost use Rattle.std.specs.List.{filter, list_any};
 ghost use Rattle.std.specs.Str.{bytes_eq};
 ghost use Rattle.std.specs.String.{string_bytes};
@@ -7,18 +7,19 @@ ghost use Rattle.vx_dtype.specs.RawViews.{raw_view};
 ghost use Rattle.vx_dtype.specs.TypeViews.{type_view};
 ghost use Rattle.vx_column.specs.Columns.{values_fit, seen_rows, raws_fit};
 ghost use Rattle.vx_display.specs.ValueTexts.{value_text};
-ghost use Rattle.vx_expr.specs.Trees.{Tree};
-ghost use Rattle.vx_scan.specs.ReportViews.{report_view};
+ghost use Rattle.vx_scan.specs.Reports.{report_view};
 ghost use Rattle.vx_scan.specs.StoreAnswers.{new_store};
-ghost use Rattle.vx_scan.specs.StoreViews.{block_view, entry_view};
+ghost use Rattle.vx_scan.specs.StoreViews.{block_view, entry_view, store_seen};
+ghost use Rattle.vx_scan.specs.declared.errors.ScanError.TheVariants as scans;
 ghost use Rattle.vx_semantics.specs.Scans.{read_columns};
 ghost use Rattle.vx_scan.specs.Blocks.{table_of, table_refusal};
+ghost use Rattle.vx_query.specs.EndingViews.{IsAnswered, IsScanned, IsUnreported};
 ghost use Rattle.vx_query.specs.Reports.{report_text};
 ghost use Rattle.vx_request.specs.Requests.{RequestedScan};
-ghost use Rattle.vx_query.specs.RefusalViews.{IsAnsweredBy, IsUnscanned};
-ghost use Rattle.vx_query.specs.Running.{HoldsScan, Spells, scan_report, scanned_store};
-ghost use Rattle.vx_query.specs.RunViews.{scan_of, store_view};
+ghost use Rattle.vx_query.specs.RefusalViews.{IsUnanswered, IsUnscanned};
+ghost use Rattle.vx_query.specs.RunViews.{scan_of};
 
+use crate::endings::Ending;
 use crate::refusals::Refusal;
 use crate::reports::report_text;
 use std::alloc::Global;
@@ -30,18 +31,17 @@ use vx_scan::{ColumnStore, MemoryStore, ReadEntry, ScanError, ScanReport, TableE
 use vx_wire::{ExprRegistry, ExprRegistryExt};
 use vx_zones::ZoneMap;
 
-/// The text of a report, and the store that was scanned.
+/// How a scan ended, and the store that was scanned.
 #[derive(Drop)]
 pub(crate) struct Scanned {
-    pub(crate) text: String,
+    pub(crate) ending: Ending,
     pub(crate) store: MemoryStore,
 }
 
-/// The report of the scan that an input holds, or the one cause that it has none.
+/// How the scan that an input holds ends, or the one cause that there is none.
 pub(crate) fn answer(alloc: Global, input: &[u8]) -> Result<Scanned, Refusal>
-    ensures answered { IfOk result (λ scanned. (a : RequestedScan) × (f : Tree) × (p : Tree) × HoldsScan input.now a f p
-        × (string_bytes scanned.text ≡ scan_report a f p) × (store_view scanned.store ≡ scanned_store a f p)) }
-    ensures refused { IfErr result (IsAnsweredBy input.now) }
+    ensures answered { IfOk result (λ scanned. IsAnswered input.now scanned.ending (store_seen scanned.store)) }
+    ensures refused { IfErr result (IsUnanswered input.now) }
 {
     let request = decode_request(alloc, input)?;
     let ScanRequest {
@@ -67,7 +67,7 @@ fn store_of(alloc: Global, zones: ZoneMap, blocks: Vec<Vec<ColumnRef>>) -> Mem<M
     }
 }
 
-/// The report of the scan of a store that wasn't read yet.
+/// How the scan of a store ends that wasn't read yet.
 fn scan_store(
     alloc: Global,
     filter: &[u8],
@@ -75,20 +75,49 @@ fn scan_store(
     mut store: MemoryStore,
 ) -> Result<Scanned, Refusal>
     requires { store ≡ new_store store.zones store.blocks [] }
-    ensures scanned { IfOk result (λ scanned. (f : Tree) × (p : Tree) × Spells (scan_of store filter.now projection.now) f p
-        × (string_bytes scanned.text ≡ scan_report (scan_of store filter.now projection.now) f p)
-        × (store_view scanned.store ≡ scanned_store (scan_of store filter.now projection.now) f p)) }
+    ensures scanned { IfOk result (λ scanned. IsScanned (scan_of store filter.now projection.now) scanned.ending (store_seen scanned.store)) }
     ensures refused { IfErr result (IsUnscanned (scan_of store filter.now projection.now)) }
 {
     let registry = ExprRegistry::default();
     match scan(alloc, &registry, filter, projection, &mut store) {
         Ok(report) => Ok(Scanned {
-            text: text_of(alloc, &report, &store)?,
+            ending: Ending::Report(text_of(alloc, &report, &store)?),
             store,
         }),
-        Err(ScanError::NoMemory) => Err(Refusal::NoMemory),
-        Err(ScanError::NotBuilt) => Err(Refusal::NotBuilt),
-        Err(ScanError::StoreFault) => unreachable!(),
+        Err(error) => unreported(error, store),
+    }
+}
+
+/// What becomes of a scan without a report: where it broke the store is kept, which holds the reads that were made.
+fn unreported(error: ScanError, store: MemoryStore) -> Result<Scanned, Refusal>
+    requires faultless { error ≢ scans.StoreFault }
+    ensures broken { (a : RequestedScan) → IsUnreported a error (store_seen store)
+        → IfOk result (λ scanned. IsScanned a scanned.ending (store_seen scanned.store)) }
+    ensures refused { (a : RequestedScan) → IsUnreported a error (store_seen store) → IfErr result (IsUnscanned a) }
+{
+    match error {
+        ScanError::NoMemory => Err(Refusal::NoMemory),
+        ScanError::BadWire(side) => Err(Refusal::Scan(ScanError::BadWire(side))),
+        ScanError::TooDeep(side) => Err(Refusal::Scan(ScanError::TooDeep(side))),
+        ScanError::TooManyNodes(side) => Err(Refusal::Scan(ScanError::TooManyNodes(side))),
+        ScanError::UnknownExpr(side) => Err(Refusal::Scan(ScanError::UnknownExpr(side))),
+        ScanError::BadMetadata(side) => Err(Refusal::Scan(ScanError::BadMetadata(side))),
+        ScanError::WrongChildren(side) => Err(Refusal::Scan(ScanError::WrongChildren(side))),
+        ScanError::NotStruct(side) => Err(Refusal::Scan(ScanError::NotStruct(side))),
+        ScanError::NullableSelect(side) => Err(Refusal::Scan(ScanError::NullableSelect(side))),
+        ScanError::UnknownField(side) => Err(Refusal::Scan(ScanError::UnknownField(side))),
+        ScanError::DuplicateField(side) => Err(Refusal::Scan(ScanError::DuplicateField(side))),
+        ScanError::TypeMismatch(side) => Err(Refusal::Scan(ScanError::TypeMismatch(side))),
+        ScanError::FilterNotBool => Err(Refusal::Scan(ScanError::FilterNotBool)),
+        ScanError::Overflow => Ok(Scanned {
+            ending: Ending::Overflow,
+            store,
+        }),
+        ScanError::BadCast => Ok(Scanned {
+            ending: Ending::BadCast,
+            store,
+        }),
+        ScanError::StoreFault => unreachable!(),
     }
 }
 

@@ -1,12 +1,13 @@
 // Why the program writes no report.
 ghost use Rattle.std.specs.Prelude.{◌≡◌};
 ghost use Rattle.vx_request.specs.declared.errors.RequestError.TheVariants as requests;
-ghost use Rattle.vx_query.specs.Refusals.{refusal_line, request_refusal_name};
+ghost use Rattle.vx_query.specs.Refusals.{refusal_line, request_refusal_name, scan_refusal_name};
 ghost use Rattle.vx_query.specs.RefusalViews.{refusal_status, refusal_text};
 
 use vx_dtype::NoMemory;
 use vx_io::InputError;
 use vx_request::{Place, RequestError, Side, TableRefusal};
+use vx_scan::{ScanError, Side as ScannedSide};
 
 /// Why an input has no report.
 #[derive(PartialEq, Eq, Debug, Drop)]
@@ -25,8 +26,8 @@ pub(crate) enum Refusal {
     BadHex(Side),
     /// The request's table is refused.
     BadTable(TableRefusal),
-    /// The request's expressions have no answer yet.
-    NotBuilt,
+    /// The request's expressions are refused.
+    Scan(ScanError),
 }
 
 impl Refusal {
@@ -41,8 +42,8 @@ impl Refusal {
             | Refusal::BadJson
             | Refusal::BadRequest(_)
             | Refusal::BadHex(_)
-            | Refusal::BadTable(_)
-            | Refusal::NotBuilt => 3,
+            | Refusal::BadTable(_) => 3,
+            Refusal::Scan(_) => 4,
         }
     }
 
@@ -59,7 +60,7 @@ impl Refusal {
             Refusal::BadHex(Side::Filter) => "error: BadHex filter\n",
             Refusal::BadHex(Side::Projection) => "error: BadHex projection\n",
             Refusal::BadTable(refusal) => table_line(*refusal),
-            Refusal::NotBuilt => "error: NotBuilt\n",
+            Refusal::Scan(error) => scan_line(error),
         }
     }
 }
@@ -91,6 +92,41 @@ fn table_line(refusal: TableRefusal) -> &'static str
         TableRefusal::WrongStatType => "error: BadTable WrongStatType\n",
         TableRefusal::WrongLength => "error: BadTable WrongLength\n",
         TableRefusal::WrongValue => "error: BadTable WrongValue\n",
+    }
+}
+
+/// The line of a name with the side behind it.
+macro_rules! sided_line {
+    ($name:literal, $side:expr) => {
+        match $side {
+            ScannedSide::Filter => concat!("error: ", $name, " filter\n"),
+            ScannedSide::Projection => concat!("error: ", $name, " projection\n"),
+            ScannedSide::Text => concat!("error: ", $name, " text\n"),
+        }
+    };
+}
+
+/// The line of a scan that is refused.
+fn scan_line(error: &ScanError) -> &'static str
+    ensures { result.now ≡ refusal_line (scan_refusal_name error.now) }
+{
+    match error {
+        ScanError::NoMemory => "error: NoMemory\n",
+        ScanError::BadWire(side) => sided_line!("BadWire", side),
+        ScanError::TooDeep(side) => sided_line!("TooDeep", side),
+        ScanError::TooManyNodes(side) => sided_line!("TooManyNodes", side),
+        ScanError::UnknownExpr(side) => sided_line!("UnknownExpr", side),
+        ScanError::BadMetadata(side) => sided_line!("BadMetadata", side),
+        ScanError::WrongChildren(side) => sided_line!("WrongChildren", side),
+        ScanError::NotStruct(side) => sided_line!("NotStruct", side),
+        ScanError::NullableSelect(side) => sided_line!("NullableSelect", side),
+        ScanError::UnknownField(side) => sided_line!("UnknownField", side),
+        ScanError::DuplicateField(side) => sided_line!("DuplicateField", side),
+        ScanError::TypeMismatch(side) => sided_line!("TypeMismatch", side),
+        ScanError::FilterNotBool => "error: FilterNotBool\n",
+        ScanError::Overflow => "error: Overflow\n",
+        ScanError::BadCast => "error: BadCast\n",
+        ScanError::StoreFault => "error: StoreFault\n",
     }
 }
 

@@ -2,10 +2,12 @@
 ghost use Rattle.std.specs.Prelude.{◌≡◌, map, option_map, Some, None, IfOk, IfErr, IsErr};
 ghost use Rattle.std.specs.String.{string_bytes};
 ghost use Rattle.vx_query.specs.Running.{Outcome, Writing, IsOutcome, IsRun, IsWriting, end_by, form_of, scan_form, status_of, text_of, used_by};
-ghost use Rattle.vx_query.specs.RunViews.{store_view};
+ghost use Rattle.vx_scan.specs.StoreViews.{store_seen};
+ghost use Rattle.vx_query.specs.EndingViews.{ending_status, ending_text};
 ghost use Rattle.vx_query.specs.RefusalViews.{refusal_status, refusal_text};
 
 use crate::answers::answer;
+use crate::endings::Ending;
 use crate::forms::{Form, form_of};
 use crate::refusals::Refusal;
 use std::alloc::Global;
@@ -23,14 +25,28 @@ const VERSION: &str = "vx 0.1.0\n";
 /// Does all that the program does, and answers its exit status.
 ///
 /// The argument `scan` takes the input, at most 16,777,217 bytes of it, and writes the report of the scan that the
-/// request in it holds; `--help` and `--version` write their texts and take nothing. The exit status is 0 where the text
-/// was written whole; 2 where the arguments have none of these forms; 3 exactly where the input is no request, or holds a
-/// scan of another form than is answered yet; 6 only where the source counted a fault; 7 only where the sink did, and
-/// then the first bytes of the text or line were written; 8 where there was no memory. A refusal writes a line `error: `
-/// and its name: Usage, ReadFault, NoMemory, NotBuilt, or that of the request's refusal with its place.
+/// request in it holds; `--help` and `--version` write their texts and take nothing. The exit status is
 ///
-/// Afterwards `used` holds the store that was scanned where a report was made, also where its writing failed; its reads
-/// are those of the scan. Else it is none.
+/// - 0 where the text was written whole;
+/// - 2 where the arguments have none of these forms;
+/// - 3 exactly where the input is no request;
+/// - 4 exactly where the request's byte texts spell no two expressions, or these are not strictly typed for its table,
+///   the filter a boolean;
+/// - 5 only where a phase of the scan breaks, and by a cause by which the first one that does so breaks;
+/// - 6 only where the source counted a fault;
+/// - 7 only where the sink did, and then the first bytes of the text or line were written;
+/// - 8 where there was no memory.
+///
+/// Want of memory may come at any time, in the place of each other end; and a line or text that isn't written whole ends
+/// with 7.
+///
+/// A refusal writes a line, `error: ` and its name: Usage; ReadFault; NoMemory; InputTooLong, BadJson, BadRequest with its
+/// place, BadHex with `filter` or `projection`, and BadTable with the name of the table's refusal; BadWire, TooDeep,
+/// TooManyNodes, UnknownExpr, BadMetadata, WrongChildren, NotStruct, NullableSelect, UnknownField, DuplicateField and
+/// TypeMismatch, each with `filter` or `projection`, and FilterNotBool; Overflow and BadCast. The lines take no memory.
+///
+/// Afterwards `used` holds the store that was scanned where a report was made or a phase broke, also where the writing
+/// failed; its reads are those of the scan, up to and with those of the phase that broke. Else it is none.
 pub fn run<I: Source, O: Sink>(
     alloc: Global,
     arguments: &[String],
@@ -39,7 +55,7 @@ pub fn run<I: Source, O: Sink>(
     used: &mut Option<MemoryStore>,
 ) -> u8
     ensures { let source = end_by I.left I.faults in let sink = end_by O.written O.faults in IsRun (form_of (map string_bytes arguments.now))
-        (source input.old) (source input.new) (sink output.old) (sink output.new) (option_map store_view used.new) result }
+        (source input.old) (source input.new) (sink output.old) (sink output.new) (option_map store_seen used.new) result }
 {
     *used = None;
     match form_of(arguments) {
@@ -47,21 +63,21 @@ pub fn run<I: Source, O: Sink>(
         Some(Form::Help) => write(output, HELP, 0),
         Some(Form::Version) => write(output, VERSION, 0),
         Some(Form::Scan) => match scan_input(alloc, input, used) {
-            Ok(text) => write(output, text.as_str(), 0),
+            Ok(ending) => write(output, ending.text(), ending.status()),
             Err(refusal) => write(output, refusal.line(), refusal.status()),
         },
     }
 }
 
-/// Takes the input and makes the report of the scan that it holds.
+/// Takes the input and scans what it holds.
 fn scan_input<I: Source>(
     alloc: Global,
     input: &mut I,
     used: &mut Option<MemoryStore>,
-) -> Result<String, Refusal>
-    ensures told { let source = end_by I.left I.faults in IfOk result (λ text. (outcome : Outcome)
-        × IsOutcome (Some scan_form) (source input.old) (source input.new) outcome × (status_of outcome ≡ 0) × (text_of outcome ≡ string_bytes text)
-        × (option_map store_view used.new ≡ used_by outcome)) }
+) -> Result<Ending, Refusal>
+    ensures told { let source = end_by I.left I.faults in IfOk result (λ ending. (outcome : Outcome)
+        × IsOutcome (Some scan_form) (source input.old) (source input.new) outcome × (status_of outcome ≡ ending_status ending)
+        × (text_of outcome ≡ ending_text ending) × (option_map store_seen used.new ≡ used_by outcome)) }
     ensures refused { let source = end_by I.left I.faults in IfErr result
         (λ refusal. (outcome : Outcome) × IsOutcome (Some scan_form) (source input.old) (source input.new) outcome
         × (status_of outcome ≡ refusal_status refusal) × (text_of outcome ≡ refusal_text refusal) × (used_by outcome ≡ None)) }
@@ -70,7 +86,7 @@ fn scan_input<I: Source>(
     let bytes = read_up_to(alloc, MOST_BYTES + 1, input)?;
     let scanned = answer(alloc, bytes.as_slice())?;
     *used = Some(scanned.store);
-    Ok(scanned.text)
+    Ok(scanned.ending)
 }
 
 /// Writes a text, and answers the exit status that goes with a whole one, or 7 where it isn't written whole.

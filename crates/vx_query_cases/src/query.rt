@@ -10,16 +10,13 @@ use vx_query::{report_text, run};
 use vx_scan::MemoryStore;
 
 const EXPRESSIONS: &str =
-    "\"filter\":\"0662696e617279010202086765745f6974656d0201780104726f6f740000076c69746572616c0c010007010a0000000000000000\",\"projection\":\"086765745f6974656d0201780104726f6f740000\"}";
+    "\"filter\":\"0662696e617279010202086765745f6974656d0201780104726f6f740000076c69746572616c08010006010a00000000\",\"projection\":\"086765745f6974656d0201780104726f6f740000\"}";
 
 const FIRST: &str =
-    "{\"columns\":[{\"name\":\"x\",\"type\":\"i64\"}],\"blocks\":[{\"rows\":2,\"values\":[[1,12]]},{\"rows\":1,\"values\":[[20]]}],\"stats\":[],";
-
-const FIRST_OF_I32: &str =
     "{\"columns\":[{\"name\":\"x\",\"type\":\"i32\"}],\"blocks\":[{\"rows\":2,\"values\":[[1,12]]},{\"rows\":1,\"values\":[[20]]}],\"stats\":[],";
 
 const SKIPPED: &str =
-    "{\"columns\":[{\"name\":\"x\",\"type\":\"i64\"}],\"blocks\":[{\"rows\":2,\"values\":[[1,10]]},{\"rows\":1,\"values\":[[11]]}],\"stats\":[{\"path\":[\"x\"],\"stat\":\"min\",\"values\":[0,0]},{\"path\":[\"x\"],\"stat\":\"max\",\"values\":[10,11]}],";
+    "{\"columns\":[{\"name\":\"x\",\"type\":\"i32\"}],\"blocks\":[{\"rows\":2,\"values\":[[1,10]]},{\"rows\":1,\"values\":[[11]]}],\"stats\":[{\"path\":[\"x\"],\"stat\":\"min\",\"values\":[0,0]},{\"path\":[\"x\"],\"stat\":\"max\",\"values\":[10,11]}],";
 
 const FIRST_REPORT: &str = "rows 2\n12\n20\nskipped -\ncolumns \"x\"\nreads 2\n";
 
@@ -103,7 +100,6 @@ fn inputs_end_with_a_report_or_a_line(rt: HostRuntime) -> Result<(), Fail> {
     for (table, status, text) in [
         (FIRST, 0, FIRST_REPORT),
         (SKIPPED, 0, skipped),
-        (FIRST_OF_I32, 3, "error: NotBuilt\n"),
         ("{", 3, "error: BadRequest top\n"),
         ("", 3, "error: BadJson\n"),
     ] {
@@ -163,20 +159,13 @@ const TWICE: &str = "[{\"name\":\"x\",\"type\":\"i64\"},{\"name\":\"x\",\"type\"
 
 const BLOCKS: &str = "[{\"rows\":1,\"values\":[[1]]}]";
 
-/// Checks that the request of these members is refused by this line.
-fn is_refused(rt: &impl Abort, alloc: Global, members: [&str; 5], line: &str) -> Result<(), Fail> {
+/// The request of these members.
+fn request_of(alloc: Global, members: [&str; 5]) -> Result<Vec<u8>, Fail> {
     let [columns, blocks, stats, filter, projection] = members;
     let text = format!(in alloc;
         "{{\"columns\":{columns},\"blocks\":{blocks},\"stats\":{stats},\"filter\":{filter},\"projection\":{projection}}}"
     )?;
-    ends(
-        rt,
-        alloc,
-        &["scan"],
-        text.as_bytes().to_vec(alloc)?,
-        3,
-        line,
-    )
+    Ok(text.as_bytes().to_vec(alloc)?)
 }
 
 #[test]
@@ -235,7 +224,89 @@ fn lines_tell_the_refusal_and_its_place(rt: HostRuntime) -> Result<(), Fail> {
             "error: BadTable WrongValue\n",
         ),
     ] {
-        is_refused(&rt, alloc, members, line)?;
+        let input = request_of(alloc, members)?;
+        ends(&rt, alloc, &["scan"], input, 3, line)?;
+    }
+    Ok(())
+}
+
+const I8: &str = "[{\"name\":\"x\",\"type\":\"i8\"}]";
+
+const MOST: &str = "[{\"rows\":1,\"values\":[[127]]}]";
+
+/// `$.x`
+const X: &str = "\"086765745f6974656d0201780104726f6f740000\"";
+
+/// `($.x < 5i8)`
+const BELOW: &str =
+    "\"0662696e617279010402086765745f6974656d0201780104726f6f740000076c69746572616c05010004010500\"";
+
+/// `($.x + 1i8)`
+const NEXT: &str =
+    "\"0662696e617279010802086765745f6974656d0201780104726f6f740000076c69746572616c05010004010100\"";
+
+/// `(($.x + 1i8) > 0i8)`
+const NEXT_ABOVE: &str =
+    "\"0662696e6172790102020662696e617279010802086765745f6974656d0201780104726f6f740000076c69746572616c05010004010100076c69746572616c05010004010000\"";
+
+/// `cast($.x, u8)`
+const CAST: &str = "\"04636173740301000001086765745f6974656d0201780104726f6f740000\"";
+
+#[test]
+fn scans_end_with_a_report_or_break(rt: HostRuntime) -> Result<(), Fail> {
+    let alloc = rt.alloc();
+    let two = "[{\"rows\":2,\"values\":[[127,1]]}]";
+    let negative = "[{\"rows\":1,\"values\":[[-1]]}]";
+    let next = "rows 1\n2\nskipped -\ncolumns \"x\"\nreads 1\n";
+    for (blocks, filter, projection, status, text) in [
+        (two, BELOW, NEXT, 0, next),
+        (MOST, NEXT_ABOVE, X, 5, "error: Overflow\n"),
+        (negative, BELOW, CAST, 5, "error: BadCast\n"),
+    ] {
+        let input = request_of(alloc, [I8, blocks, "[]", filter, projection])?;
+        let end = run_over(alloc, &["scan"], input, &[], 1000, &[])?;
+        assert_eq!(rt; end.status, status);
+        assert_eq!(rt; end.sink.written(), text.as_bytes());
+        assert!(rt; end.used.is_some());
+    }
+    Ok(())
+}
+
+#[test]
+fn expressions_are_refused_with_their_side(rt: HostRuntime) -> Result<(), Fail> {
+    let alloc = rt.alloc();
+    let ternary = "\"0662696e61727901020304726f6f74000004726f6f74000004726f6f740000\"";
+    for (filter, projection, line) in [
+        ("\"0662\"", "\"\"", "error: BadWire filter\n"),
+        (BELOW, "\"\"", "error: BadWire projection\n"),
+        (
+            "\"0662696e617279010a02086765745f6974656d0201780104726f6f740000076c69746572616c05010004010500\"",
+            X,
+            "error: BadMetadata filter\n",
+        ),
+        ("\"0764796e616d69630000\"", X, "error: UnknownExpr filter\n"),
+        (ternary, X, "error: WrongChildren filter\n"),
+        (
+            X,
+            "\"086765745f6974656d0201790104726f6f740000\"",
+            "error: FilterNotBool\n",
+        ),
+        (
+            BELOW,
+            "\"086765745f6974656d0201790104726f6f740000\"",
+            "error: UnknownField projection\n",
+        ),
+        (
+            "\"036e6f740001086765745f6974656d0201780104726f6f740000\"",
+            X,
+            "error: TypeMismatch filter\n",
+        ),
+    ] {
+        let input = request_of(alloc, [I8, MOST, "[]", filter, projection])?;
+        let end = run_over(alloc, &["scan"], input, &[], 1000, &[])?;
+        assert_eq!(rt; end.status, 4);
+        assert_eq!(rt; end.sink.written(), line.as_bytes());
+        assert!(rt; end.used.is_none());
     }
     Ok(())
 }

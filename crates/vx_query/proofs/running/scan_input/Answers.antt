@@ -1,6 +1,5 @@
 use Rattle.std.proofs.Common.{ap, Err}
-use Rattle.std.specs.String.{string_bytes}
-use Rattle.vx_query.specs.RunViews.{store_view}
+use Rattle.vx_scan.specs.StoreViews.{store_seen}
 use Rattle.vx_query.specs.RefusalViews.{input_refusal}
 use Rattle.vx_query.specs.Running.{end_by}
 use Rattle.vx_query.proofs.OutcomeLemmas.{refused_unread, refused_taken, refused_by, taken_as, told_taken}
@@ -29,4 +28,4 @@ returns-clause-told g c =
     let before = source c.args.input.now in
     let after = source c.read_up_to.new.input in
     let taken = taken_as before after c.in_ok-bytes.bytes.items c.as_slice.result.now c.as_slice.ensures.value c.in_ok-bytes.ensures.taken c.in_ok-bytes.ensures.within c.in_ok-bytes.ensures.later in
-    told_taken before after c.as_slice.result.now (string_bytes c.in_ok-scanned.scanned.text) (store_view c.in_ok-scanned.scanned.store) taken c.in_ok-scanned.ensures.answered
+    told_taken before after c.as_slice.result.now c.in_ok-scanned.scanned.ending (store_seen c.in_ok-scanned.scanned.store) taken c.in_ok-scanned.ensures.answered
