@@ -2,12 +2,14 @@
 
 use std::alloc::Global;
 use std::test::Fail;
+use vx_build::{checked_add, col, gt, lit, lt};
 use vx_column::ColumnRef;
 use vx_dtype::Nullability::{NonNullable, Nullable};
 use vx_dtype::{
     DType, FieldName, FieldNames, FieldPath, PType, Scalar, ScalarValue, Stat, StructFields,
 };
-use vx_scan::{MemoryStore, ReadEntry, ScanError, ScanReport, TableError, scan};
+use vx_expr::ExprRef;
+use vx_scan::{MemoryStore, ReadEntry, ScanError, ScanReport, Side, TableError, scan, scan_exprs};
 use vx_wire::{ExprRegistry, ExprRegistryExt};
 use vx_zones::{Scalars, ZoneMap, ZoneStat};
 
@@ -170,22 +172,24 @@ fn a_failed_read_is_a_store_fault(rt: HostRuntime) -> Result<(), Fail> {
 }
 
 #[test]
-fn other_forms_are_not_built(rt: HostRuntime) -> Result<(), Fail> {
+fn refusals_of_a_filter_have_their_names(rt: HostRuntime) -> Result<(), Fail> {
     let alloc = rt.alloc();
     let registry = <ExprRegistry as ExprRegistryExt>::default();
-    let none = Some(ScanError::NotBuilt);
-    let mut store_of = store(alloc, PType::I64, [1, 12], [20], Vec::new(alloc), false)?;
-    assert_eq!(rt; refusal(alloc, &registry, &PROJECTION, &mut store_of), none);
-    assert_eq!(rt;
-        refusal(alloc, &registry, &FILTER[..20], &mut store_of),
-        none
-    );
-    assert_eq!(rt; refusal(alloc, &registry, &[], &mut store_of), none);
+    let mut held = store(alloc, PType::I64, [1, 12], [20], Vec::new(alloc), false)?;
+    for (filter, error) in [
+        (PROJECTION.as_slice(), ScanError::FilterNotBool),
+        (&FILTER[..20], ScanError::BadWire(Side::Filter)),
+        ([].as_slice(), ScanError::BadWire(Side::Filter)),
+    ] {
+        assert_eq!(rt; refusal(alloc, &registry, filter, &mut held), Some(error));
+    }
     let empty = ExprRegistry::empty();
-    assert_eq!(rt; refusal(alloc, &empty, &FILTER, &mut store_of), none);
-    assert!(rt; store_of.log().is_empty() && store_of.failed().is_none());
+    let unknown = Some(ScanError::UnknownExpr(Side::Filter));
+    assert_eq!(rt; refusal(alloc, &empty, &FILTER, &mut held), unknown);
+    assert!(rt; held.log().is_empty() && held.failed().is_none());
     let mut small = store(alloc, PType::I32, [1, 12], [20], Vec::new(alloc), false)?;
-    assert_eq!(rt; refusal(alloc, &registry, &FILTER, &mut small), none);
+    let mismatch = Some(ScanError::TypeMismatch(Side::Filter));
+    assert_eq!(rt; refusal(alloc, &registry, &FILTER, &mut small), mismatch);
     assert!(rt; small.log().is_empty() && small.failed().is_none());
     Ok(())
 }
@@ -221,6 +225,32 @@ fn stores_are_refused_for_lengths_before_types(rt: HostRuntime) -> Result<(), Fa
     Ok(())
 }
 
+/// `$.x`, and `($.x + 1i8)`.
+fn x_and_next(alloc: Global) -> Result<(ExprRef, ExprRef), Fail> {
+    let x = col(alloc, FieldName::new(alloc, "x")?)?;
+    let next = checked_add(alloc, x.clone()?, lit(alloc, 1i8)?)?;
+    Ok((x, next))
+}
+
+#[test]
+fn a_phase_breaks_at_its_own_rows_alone(rt: HostRuntime) -> Result<(), Fail> {
+    let alloc = rt.alloc();
+    let (x, next) = x_and_next(alloc)?;
+    let below = lt(alloc, x.clone()?, lit(alloc, 5i8)?)?;
+    let mut unbroken = store(alloc, PType::I8, [127, 1], [2], Vec::new(alloc), false)?;
+    let report = scan_exprs(alloc, &below, &next, &[], &mut unbroken)?;
+    assert!(rt; are_rows(&report, &[2, 3]));
+    assert_eq!(rt; unbroken.log().len(), 2);
+    let above = gt(alloc, next, lit(alloc, 0i8)?)?;
+    let mut broken = store(alloc, PType::I8, [127, 1], [2], Vec::new(alloc), false)?;
+    match scan_exprs(alloc, &above, &x, &[], &mut broken) {
+        Ok(_) => panic!(rt; "a report"),
+        Err(error) => assert_eq!(rt; error, ScanError::Overflow),
+    }
+    assert_eq!(rt; broken.log().len(), 1);
+    Ok(())
+}
+
 #[test]
 fn ample(rt: HostRuntime) -> Result<(), Fail> {
     let alloc = rt.alloc();
@@ -228,5 +258,9 @@ fn ample(rt: HostRuntime) -> Result<(), Fail> {
     let mut store = store(alloc, PType::I64, [11, 2], [3], Vec::new(alloc), false)?;
     let report = scan(alloc, &registry, &FILTER, &PROJECTION, &mut store)?;
     assert!(rt; are_rows(&report, &[11]));
+    let x = col(alloc, FieldName::new(alloc, "x")?)?;
+    let above = gt(alloc, x.clone()?, lit(alloc, 2i64)?)?;
+    let report = scan_exprs(alloc, &above, &x, &[], &mut store)?;
+    assert!(rt; are_rows(&report, &[11, 3]));
     Ok(())
 }

@@ -1,0 +1,233 @@
+#!/usr/bin/env python3
+"""Runs requests that were worked out by hand through the built program, and compares what it prints and its exit status.
+
+usage: bench/rows.py [PROGRAM]     (first build the program: cd crates/vx && rt run)
+
+Prints a line for each row that differs, and how many agreed; the exit status is 1 where one differs. The bytes of expressions
+are made here, by the wire form in docs/FORMATS.md, and the answers are written out.
+"""
+import json
+import os
+import subprocess
+import sys
+
+HERE = os.path.dirname(os.path.dirname(os.path.abspath(__file__)))
+PROGRAM = os.path.join(HERE, "crates", "vx", "out", "vx")
+INTEGERS = ["u8", "u16", "u32", "u64", "i8", "i16", "i32", "i64"]
+OPERATORS = ["=", "!=", ">", ">=", "<", "<=", "and", "or", "+", "-"]
+
+
+def number(n):
+    low = n & 127
+    return bytes([low | 128]) + number(n >> 7) if n > 127 else bytes([low])
+
+
+def text(t):
+    t = t.encode()
+    return number(len(t)) + t
+
+
+def node(kind, metadata=b"", *children):
+    return text(kind) + number(len(metadata)) + metadata + number(len(children)) + b"".join(children)
+
+
+def type_bytes(t):
+    """A type as in a request: `i32`, `utf8?`, {"list": .., "nullable": ..}."""
+    if isinstance(t, dict):
+        return bytes([3, t["nullable"]]) + type_bytes(t["list"])
+    null, name = t.endswith("?"), t.rstrip("?")
+    if name in INTEGERS:
+        return bytes([1, null, INTEGERS.index(name)])
+    return bytes([{"bool": 0, "utf8": 2}[name], null])
+
+
+def value_bytes(t, v):
+    if v is None:
+        return b"\0"
+    if isinstance(t, dict):
+        return b"\1" + number(len(v)) + b"".join(value_bytes(t["list"], x) for x in v)
+    name = t.rstrip("?")
+    if name == "bool":
+        return bytes([1, v])
+    if name == "utf8":
+        return b"\1" + text(v)
+    return b"\1" + v.to_bytes(int(name[1:]) // 8, "little", signed=name[0] == "i")
+
+
+ROOT = node("root")
+TRUE = node("literal", type_bytes("bool") + value_bytes("bool", True))
+
+
+def lit(t, v):
+    return node("literal", type_bytes(t) + value_bytes(t, v))
+
+
+def item(name, of=ROOT):
+    return node("get_item", text(name), of)
+
+
+def binary(left, operator, right):
+    return node("binary", bytes([OPERATORS.index(operator)]), left, right)
+
+
+def negated(of):
+    return node("not", b"", of)
+
+
+def cast(of, t):
+    return node("cast", type_bytes(t), of)
+
+
+def pack(*fields):
+    names = b"".join(text(f) for f, _ in fields)
+    return node("pack", b"\0" + number(len(fields)) + names, *(e for _, e in fields))
+
+
+def select(of, *names, exclude=False):
+    return node("select", bytes([exclude]) + number(len(names)) + b"".join(text(f) for f in names), of)
+
+
+def merge(*of):
+    return node("merge", b"\0", *of)
+
+
+def struct(nullable=False, **fields):
+    return {"struct": [{"name": f, "type": t} for f, t in fields.items()], "nullable": nullable}
+
+
+def request(columns, blocks, filter_bytes, projection, stats=()):
+    """Blocks are lists of columns' cells."""
+    return {
+        "columns": [{"name": f, "type": t} for f, t in columns],
+        "blocks": [{"rows": len(b[0]) if b else 0, "values": b} for b in blocks],
+        "stats": [{"path": p, "stat": s, "values": v} for p, s, v in stats],
+        "filter": filter_bytes.hex(),
+        "projection": projection.hex(),
+    }
+
+
+X = item("x")
+ABOVE_TEN = binary(X, ">", lit("i32", 10))
+X32 = [("x", "i32")]
+X8 = [("x", "i8")]
+TWO = [[[1, 12]], [[20]]]
+NEXT = binary(X, "+", lit("i8", 1))
+NEXT_POSITIVE = binary(NEXT, ">", lit("i8", 0))
+EMPTY_LIST = {"list": "i32", "nullable": False}
+PQ = [("p", struct(True, a="i32")), ("q", struct(b="i32"))]
+PQ_ROW = [[[None], [{"b": 2}]]]
+NULL_OR_LESS = binary(binary(lit("i32?", None), "<=", X), "and", binary(X, "<=", lit("i32", 2)))
+
+
+def nots(n, of):
+    for _ in range(n):
+        of = negated(of)
+    return of
+
+
+def realistic():
+    columns = [("id", "u64"), ("name", "utf8?"), ("price", "i64"), ("tags", {"list": "utf8", "nullable": False})]
+    columns += [("address", struct(city="utf8?", zip="u32")), ("active", "bool")]
+    rows = [
+        [(1, "anna", 50, "Oslo"), (2, "bob", 90, "Rome")],
+        [(3, "alex", 100, "Oslo"), (4, "amy", 250, "Bonn")],
+        [(5, None, 300, "Oslo"), (6, "ann", 120, "Oslo")],
+        [(7, "carl", 400, "Oslo"), (8, "ada", 99, "Oslo")],
+        [(9, "abe", 10, "Oslo"), (10, "al", 20, "Oslo")],
+        [(11, "eve", 500, "Rome"), (12, "axel", 150, None)],
+        [(13, "arne", 700, "Oslo"), (14, "Anna", 800, "Oslo")],
+        [(15, "zoe", 100, "Oslo"), (16, "aki", 1000, "Oslo")],
+    ]
+    blocks = []
+    for block in rows:
+        ids, names, prices, cities = zip(*block)
+        addresses = [{"city": c, "zip": i} for c, i in zip(cities, ids)]
+        blocks.append([list(ids), list(names), list(prices), [[] for _ in ids], addresses, [True for _ in ids]])
+    like = node("like", b"\0\0", item("name"), lit("utf8", "a%"))
+    dear = binary(binary(item("price"), ">=", lit("i64", 100)), "and", like)
+    where = binary(dear, "and", binary(item("city", item("address")), "=", lit("utf8", "Oslo")))
+    brief = select(merge(ROOT, item("address")), "id", "name", "city")
+    stats = [(["price"], "max", [90, 250, 300, 400, 20, 500, 800, 1000])]
+    return request(columns, blocks, where, brief, stats)
+
+
+REALISTIC = """rows 4
+{"id":3,"name":"alex","city":"Oslo"}
+{"id":6,"name":"ann","city":"Oslo"}
+{"id":13,"name":"arne","city":"Oslo"}
+{"id":16,"name":"aki","city":"Oslo"}
+skipped 0 4
+columns "id" "name" "price" "address"
+reads 22"""
+
+
+def bytes_of(filter_bytes, projection=X):
+    return request(X32, TWO, filter_bytes, projection)
+
+
+def pq(filter_bytes, projection):
+    return request(PQ, PQ_ROW, filter_bytes, projection)
+
+
+NONE = "rows 0 / skipped - / columns - / reads 0"
+READ = "rows 0 / skipped - / columns \"x\" / reads 1"
+ROWS = [
+    ("two blocks", request(X32, TWO, ABOVE_TEN, X), 'rows 2 / 12 / 20 / skipped - / columns "x" / reads 2', 0),
+    ("a block below", request(X32, [[[1, 10]], [[11]]], ABOVE_TEN, X, [(["x"], "min", [0, 0]), (["x"], "max", [10, 11])]),
+     'rows 1 / 11 / skipped 0 / columns "x" / reads 1', 0),
+    ("no blocks", request(X32, [], TRUE, X), NONE, 0),
+    ("an empty list", request(X32, TWO, node("list_contains", b"", lit(EMPTY_LIST, []), X), X),
+     "rows 0 / skipped 0 1 / columns - / reads 0", 0),
+    ("no range", request(X32, [[[1, 3, 6]]], binary(binary(X, "<=", lit("i32", 2)), "and", binary(X, ">=", lit("i32", 5))), X), READ, 0),
+    ("false beside null", request(X32, [[[3, 1]]], NULL_OR_LESS, X), READ, 0),
+    ("its negation", request(X32, [[[3, 1]]], negated(NULL_OR_LESS), X), 'rows 1 / 3 / skipped - / columns "x" / reads 1', 0),
+    ("a sum out of range", request(X8, [[[127]]], NEXT_POSITIVE, X), "error: Overflow", 5),
+    ("a sum in a skipped block", request([("x", "i8"), ("y", "i8")], [[[127], [5]]],
+     binary(binary(item("y"), ">", lit("i8", 9)), "and", NEXT_POSITIVE), X, [(["y"], "max", [5])]),
+     "rows 0 / skipped 0 / columns - / reads 0", 0),
+    ("a sum at an unselected row", request(X8, [[[127, 1]]], binary(X, "<", lit("i8", 5)), NEXT),
+     'rows 1 / 2 / skipped - / columns "x" / reads 1', 0),
+    ("a cast", request(X8, [[[-1]]], binary(X, "<", lit("i8", 5)), cast(X, "u8")), "error: BadCast", 5),
+    ("a sum that isn't asked", request(X8, [[[127]]], TRUE, item("b", pack(("a", NEXT), ("b", X)))),
+     'rows 1 / 127 / skipped - / columns "x" / reads 1', 0),
+    ("a sum in a null test", request(X8, [[[127]]], node("is_null", b"", pack(("a", NEXT))), X), "error: Overflow", 5),
+    ("a merge", pq(TRUE, merge(item("p"), item("q"))), 'rows 1 / {"a":null,"b":2} / skipped - / columns "p" "q" / reads 2', 0),
+    ("a select of a nullable struct", pq(TRUE, select(item("p"), "a")), "error: NullableSelect projection", 4),
+    ("an unknown field", pq(TRUE, select(item("q"), "zz", exclude=True)), "error: UnknownField projection", 4),
+    ("a name twice", pq(TRUE, pack(("a", item("p")), ("a", item("q")))), "error: DuplicateField projection", 4),
+    ("a field of a number", pq(TRUE, item("c", item("b", item("q")))), "error: NotStruct projection", 4),
+    ("a filter of numbers", pq(item("b", item("q")), item("p")), "error: FilterNotBool", 4),
+    ("a name that two statistics have", request([("a_b", "i32"), ("a", struct(b="i32"))], [[[1], [{"b": 1}]]],
+     binary(binary(item("a_b"), ">", lit("i32", 5)), "and", binary(item("b", item("a")), ">", lit("i32", 5))), item("a_b"),
+     [(["a_b"], "max", [1]), (["a", "b"], "max", [1])]), 'rows 0 / skipped - / columns "a_b" "a" / reads 2', 0),
+    ("256 negations", bytes_of(nots(256, ROOT)), "error: TooDeep filter", 4),
+    ("255 negations", bytes_of(nots(255, ROOT)), "error: TypeMismatch filter", 4),
+    ("4,097 nodes", bytes_of(pack(*((str(i), ROOT) for i in range(4096)))), "error: TooManyNodes filter", 4),
+    ("a byte more", bytes_of(ABOVE_TEN + b"\0"), "error: BadWire filter", 4),
+    ("a padded number", bytes_of(b"\x86\0" + ABOVE_TEN[1:]), "error: BadWire filter", 4),
+    ("a shorter text", bytes_of(ABOVE_TEN[:-1]), "error: BadWire filter", 4),
+    ("an operator of no number", bytes_of(node("binary", b"\x0a", X, lit("i32", 10))), "error: BadMetadata filter", 4),
+    ("a kind that isn't registered", bytes_of(node("dynamic")), "error: UnknownExpr filter", 4),
+    ("three operands", bytes_of(node("binary", b"\3", ROOT, ROOT, ROOT)), "error: WrongChildren filter", 4),
+    ("the filter before the projection", request(X32, TWO, X, b"\0"), "error: BadWire projection", 4),
+    ("lying statistics", request(X32, [[[5]]], binary(X, "=", lit("i32", 5)), X, [(["x"], "min", [9]), (["x"], "max", [1])]),
+     "rows 0 / skipped 0 / columns - / reads 0", 0),
+    ("a catalog", realistic(), REALISTIC.replace("\n", " / "), 0),
+]
+
+
+def main():
+    program = sys.argv[1] if len(sys.argv) > 1 else PROGRAM
+    wrong = 0
+    for name, asked, told, status in ROWS:
+        ran = subprocess.run([program, "scan"], input=json.dumps(asked).encode(), stdout=subprocess.PIPE, check=False)
+        want = told.replace(" / ", "\n") + "\n"
+        if ran.stdout.decode() != want or ran.returncode != status:
+            wrong += 1
+            print("%s: %d %r instead of %d %r" % (name, ran.returncode, ran.stdout.decode(), status, want))
+    print("%d of %d rows agree" % (len(ROWS) - wrong, len(ROWS)))
+    return 1 if wrong else 0
+
+
+if __name__ == "__main__":
+    sys.exit(main())
