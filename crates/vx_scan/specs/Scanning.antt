@@ -4,8 +4,7 @@ use Rattle.std.specs.Prelude.{◌≡◌, ◌⊎◌, ℕ, ◌≤◌, Bool, true, 
 use Rattle.std.specs.List.{flat_map, list_any}
 use Rattle.vx_dtype.specs.Types.{Bytes, Ty}
 use Rattle.vx_dtype.specs.TypeRules.{is_bool_ty}
-use Rattle.vx_expr.specs.declared.Operator.{Operator}
-use Rattle.vx_expr.specs.Trees.{Tree, binary, cast}
+use Rattle.vx_expr.specs.Trees.{Tree}
 use Rattle.vx_semantics.specs.Typing.{Refusal, not_struct, nullable_select, unknown_field, duplicate_field, type_mismatch}
 use Rattle.vx_semantics.specs.Meaning.{Slots}
 use Rattle.vx_semantics.specs.Breaks.{Cause, by_sum, by_cast}
@@ -14,6 +13,7 @@ use Rattle.vx_semantics.specs.Tables.{Table, Zones, row_type}
 use Rattle.vx_semantics.specs.Scans.{kept_blocks, skipped_blocks, kept_rows_of, reads_in, further_columns, phases_of, reads_of, reads_to_break}
 use Rattle.vx_semantics.specs.Scans.{some_phase_breaks, first_breaks_by}
 use Rattle.vx_eval.specs.Evaluating.{checked_type}
+use Rattle.vx_prepare.specs.Preparing.{is_sum, is_cast}
 use Rattle.vx_io.specs.Counts.{one_more}
 use Rattle.vx_wire.specs.declared.encodings.ExprEncoding.{ExprEncoding}
 use Rattle.vx_scan.specs.Stores.{Read, Seen, WhereTold}
@@ -84,10 +84,8 @@ pub record IsReport (slots : Slots) (filter_expr projection : Tree) (before afte
 
 -- whether a node is one that can break by this cause: a sum or difference, or a cast
 abbrev pub can_break_by : Cause → Tree → Bool
-can_break_by by_sum (binary l Operator.Add r) = true
-can_break_by by_sum (binary l Operator.Sub r) = true
-can_break_by by_cast (cast e t) = true
-can_break_by _ _ = false
+can_break_by by_sum = is_sum
+can_break_by by_cast = is_cast
 
 -- whether an expression asks a node that can break by this cause
 abbrev pub asks_breaking : Cause → Ty → Tree → Bool
