@@ -99,7 +99,7 @@ def beside_python(name, make, whole):
         given = packed(make(n))
         ours, memory, answer = measure([PROGRAM, "scan"], given)
         theirs, their_memory, _ = measure([sys.executable, "-c", LOADS], given)
-        if not answer.startswith("error: NotBuilt"):
+        if not answer.startswith("error: BadWire filter"):
             sys.exit(f"{name}: {answer}")
         print(
             f"{n} {name}, {len(given)} bytes: vx {ours:.2f} s, {memory / len(given):.1f} times the bytes; "
