@@ -4,107 +4,17 @@
 usage: bench/rows.py [PROGRAM]     (first build the program: cd crates/vx && rt run)
 
 Prints a line for each row that differs, and how many agreed; the exit status is 1 where one differs. The bytes of expressions
-are made here, by the wire form in docs/FORMATS.md, and the answers are written out.
+are made by bench/wire.py, by the wire form in docs/FORMATS.md, and the answers are written out.
 """
 import json
 import os
 import subprocess
 import sys
 
+from wire import ROOT, TRUE, binary, cast, item, lit, merge, negated, node, pack, request, select, struct
+
 HERE = os.path.dirname(os.path.dirname(os.path.abspath(__file__)))
 PROGRAM = os.path.join(HERE, "crates", "vx", "out", "vx")
-INTEGERS = ["u8", "u16", "u32", "u64", "i8", "i16", "i32", "i64"]
-OPERATORS = ["=", "!=", ">", ">=", "<", "<=", "and", "or", "+", "-"]
-
-
-def number(n):
-    low = n & 127
-    return bytes([low | 128]) + number(n >> 7) if n > 127 else bytes([low])
-
-
-def text(t):
-    t = t.encode()
-    return number(len(t)) + t
-
-
-def node(kind, metadata=b"", *children):
-    return text(kind) + number(len(metadata)) + metadata + number(len(children)) + b"".join(children)
-
-
-def type_bytes(t):
-    """A type as in a request: `i32`, `utf8?`, {"list": .., "nullable": ..}."""
-    if isinstance(t, dict):
-        return bytes([3, t["nullable"]]) + type_bytes(t["list"])
-    null, name = t.endswith("?"), t.rstrip("?")
-    if name in INTEGERS:
-        return bytes([1, null, INTEGERS.index(name)])
-    return bytes([{"bool": 0, "utf8": 2}[name], null])
-
-
-def value_bytes(t, v):
-    if v is None:
-        return b"\0"
-    if isinstance(t, dict):
-        return b"\1" + number(len(v)) + b"".join(value_bytes(t["list"], x) for x in v)
-    name = t.rstrip("?")
-    if name == "bool":
-        return bytes([1, v])
-    if name == "utf8":
-        return b"\1" + text(v)
-    return b"\1" + v.to_bytes(int(name[1:]) // 8, "little", signed=name[0] == "i")
-
-
-ROOT = node("root")
-TRUE = node("literal", type_bytes("bool") + value_bytes("bool", True))
-
-
-def lit(t, v):
-    return node("literal", type_bytes(t) + value_bytes(t, v))
-
-
-def item(name, of=ROOT):
-    return node("get_item", text(name), of)
-
-
-def binary(left, operator, right):
-    return node("binary", bytes([OPERATORS.index(operator)]), left, right)
-
-
-def negated(of):
-    return node("not", b"", of)
-
-
-def cast(of, t):
-    return node("cast", type_bytes(t), of)
-
-
-def pack(*fields):
-    names = b"".join(text(f) for f, _ in fields)
-    return node("pack", b"\0" + number(len(fields)) + names, *(e for _, e in fields))
-
-
-def select(of, *names, exclude=False):
-    return node("select", bytes([exclude]) + number(len(names)) + b"".join(text(f) for f in names), of)
-
-
-def merge(*of):
-    return node("merge", b"\0", *of)
-
-
-def struct(nullable=False, **fields):
-    return {"struct": [{"name": f, "type": t} for f, t in fields.items()], "nullable": nullable}
-
-
-def request(columns, blocks, filter_bytes, projection, stats=()):
-    """Blocks are lists of columns' cells."""
-    return {
-        "columns": [{"name": f, "type": t} for f, t in columns],
-        "blocks": [{"rows": len(b[0]) if b else 0, "values": b} for b in blocks],
-        "stats": [{"path": p, "stat": s, "values": v} for p, s, v in stats],
-        "filter": filter_bytes.hex(),
-        "projection": projection.hex(),
-    }
-
 
 X = item("x")
 ABOVE_TEN = binary(X, ">", lit("i32", 10))

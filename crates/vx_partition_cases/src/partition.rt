@@ -1,8 +1,7 @@
 //! Splits of predicates over two columns.
-ghost use Rattle.std.specs.Prelude.{◌≡◌, length, IfOk};
+ghost use Rattle.std.specs.Prelude.{length, IfOk};
 
 use std::alloc::Global;
-use std::process::Abort;
 use std::test::Fail;
 use vx_dtype::{DType, FieldName, FieldNames, Mem, Nullability, PType, StructFields};
 use vx_expr::ExprRef;
@@ -81,11 +80,6 @@ fn both(alloc: Global) -> Mem<ExprRef> {
     vx_build::and(alloc, x_above(alloc)?, y_equal(alloc)?)
 }
 
-/// The root of [`both`] once it is split.
-fn root_of_both(alloc: Global) -> Mem<ExprRef> {
-    vx_build::and(alloc, place(alloc, "x_0", "x")?, place(alloc, "y_0", "y")?)
-}
-
 /// Whether the partition of a column is this expression alone.
 fn is_partition(
     alloc: Global,
@@ -100,15 +94,6 @@ fn is_partition(
 }
 
 #[test]
-fn splits_into_columns(rt: HostRuntime) -> Result<(), Fail> {
-    let alloc = rt.alloc();
-    let made = split(alloc, both(alloc)?)?;
-    assert!(rt; made.root == root_of_both(alloc)?);
-    assert!(rt; made.partitions.len() == 2);
-    Ok(())
-}
-
-#[test]
 fn finds_partitions_by_column(rt: HostRuntime) -> Result<(), Fail> {
     let alloc = rt.alloc();
     let made = split(alloc, both(alloc)?)?;
@@ -117,15 +102,6 @@ fn finds_partitions_by_column(rt: HostRuntime) -> Result<(), Fail> {
     let y = packed(alloc, "y_0", y_equal(alloc)?)?;
     assert!(rt; is_partition(alloc, &made, "y", &y)?);
     assert!(rt; made.find_partition(&name(alloc, "z")?).is_none());
-    Ok(())
-}
-
-#[test]
-fn constant_has_no_part(rt: HostRuntime) -> Result<(), Fail> {
-    let alloc = rt.alloc();
-    let made = split(alloc, vx_build::lit(alloc, 1i32)?)?;
-    assert!(rt; made.root == vx_build::lit(alloc, 1i32)?);
-    assert!(rt; made.partitions.is_empty() && made.partition_annotations.is_empty());
     Ok(())
 }
 

@@ -2,14 +2,13 @@
 
 use std::alloc::Global;
 use std::test::Fail;
-use vx_build::{checked_add, col, gt, lit, lt};
+use vx_build::{col, gt, lit};
 use vx_column::ColumnRef;
 use vx_dtype::Nullability::{NonNullable, Nullable};
 use vx_dtype::{
     DType, FieldName, FieldNames, FieldPath, PType, Scalar, ScalarValue, Stat, StructFields,
 };
-use vx_expr::ExprRef;
-use vx_scan::{MemoryStore, ReadEntry, ScanError, ScanReport, Side, TableError, scan, scan_exprs};
+use vx_scan::{MemoryStore, ScanError, ScanReport, TableError, scan, scan_exprs};
 use vx_wire::{ExprRegistry, ExprRegistryExt};
 use vx_zones::{Scalars, ZoneMap, ZoneStat};
 
@@ -102,14 +101,6 @@ fn are_rows(report: &ScanReport, numbers: &[i128]) -> bool {
     true
 }
 
-/// Whether an entry of the log is there, and is of this block and the column `x`.
-fn is_read(entry: Option<&ReadEntry>, block: u32) -> bool {
-    match entry {
-        Some(entry) => entry.block == block && entry.name.as_str() == "x",
-        None => false,
-    }
-}
-
 /// The refusal of a scan of these bytes, where nothing was read.
 fn refusal(
     alloc: Global,
@@ -141,60 +132,6 @@ fn table_refusal(
 }
 
 #[test]
-fn a_block_below_the_constant_is_skipped(rt: HostRuntime) -> Result<(), Fail> {
-    let alloc = rt.alloc();
-    let registry = <ExprRegistry as ExprRegistryExt>::default();
-    let mut stats = Vec::new(alloc);
-    stats.push(statistic(alloc, Stat::Min, 0, 0)?)?;
-    stats.push(statistic(alloc, Stat::Max, 10, 11)?)?;
-    let mut store = store(alloc, PType::I64, [1, 10], [11], stats, false)?;
-    let report = scan(alloc, &registry, &FILTER, &PROJECTION, &mut store)?;
-    assert!(rt; are_rows(&report, &[11]));
-    assert!(rt; report.kept.as_slice() == [1].as_slice());
-    assert!(rt; report.skipped.as_slice() == [0].as_slice());
-    assert_eq!(rt; store.log().len(), 1);
-    assert!(rt; is_read(store.log().first(), 1));
-    Ok(())
-}
-
-#[test]
-fn a_failed_read_is_a_store_fault(rt: HostRuntime) -> Result<(), Fail> {
-    let alloc = rt.alloc();
-    let registry = <ExprRegistry as ExprRegistryExt>::default();
-    let mut store = store(alloc, PType::I64, [1, 12], [20], Vec::new(alloc), true)?;
-    let refused = refusal(alloc, &registry, &FILTER, &mut store);
-    assert_eq!(rt; refused, Some(ScanError::StoreFault));
-    assert_eq!(rt; store.log().len(), 1);
-    assert!(rt; is_read(store.log().first(), 0));
-    assert!(rt; is_read(store.failed(), 1));
-    assert_eq!(rt; store.faults(), 1);
-    Ok(())
-}
-
-#[test]
-fn refusals_of_a_filter_have_their_names(rt: HostRuntime) -> Result<(), Fail> {
-    let alloc = rt.alloc();
-    let registry = <ExprRegistry as ExprRegistryExt>::default();
-    let mut held = store(alloc, PType::I64, [1, 12], [20], Vec::new(alloc), false)?;
-    for (filter, error) in [
-        (PROJECTION.as_slice(), ScanError::FilterNotBool),
-        (&FILTER[..20], ScanError::BadWire(Side::Filter)),
-        ([].as_slice(), ScanError::BadWire(Side::Filter)),
-    ] {
-        assert_eq!(rt; refusal(alloc, &registry, filter, &mut held), Some(error));
-    }
-    let empty = ExprRegistry::empty();
-    let unknown = Some(ScanError::UnknownExpr(Side::Filter));
-    assert_eq!(rt; refusal(alloc, &empty, &FILTER, &mut held), unknown);
-    assert!(rt; held.log().is_empty() && held.failed().is_none());
-    let mut small = store(alloc, PType::I32, [1, 12], [20], Vec::new(alloc), false)?;
-    let mismatch = Some(ScanError::TypeMismatch(Side::Filter));
-    assert_eq!(rt; refusal(alloc, &registry, &FILTER, &mut small), mismatch);
-    assert!(rt; small.log().is_empty() && small.failed().is_none());
-    Ok(())
-}
-
-#[test]
 fn stores_are_refused_for_lengths_before_types(rt: HostRuntime) -> Result<(), Fail> {
     let alloc = rt.alloc();
     let two = [1, 2];
@@ -222,32 +159,6 @@ fn stores_are_refused_for_lengths_before_types(rt: HostRuntime) -> Result<(), Fa
     ] {
         assert_eq!(rt; table_refusal(alloc, p, first, second)?, refusal);
     }
-    Ok(())
-}
-
-/// `$.x`, and `($.x + 1i8)`.
-fn x_and_next(alloc: Global) -> Result<(ExprRef, ExprRef), Fail> {
-    let x = col(alloc, FieldName::new(alloc, "x")?)?;
-    let next = checked_add(alloc, x.clone()?, lit(alloc, 1i8)?)?;
-    Ok((x, next))
-}
-
-#[test]
-fn a_phase_breaks_at_its_own_rows_alone(rt: HostRuntime) -> Result<(), Fail> {
-    let alloc = rt.alloc();
-    let (x, next) = x_and_next(alloc)?;
-    let below = lt(alloc, x.clone()?, lit(alloc, 5i8)?)?;
-    let mut unbroken = store(alloc, PType::I8, [127, 1], [2], Vec::new(alloc), false)?;
-    let report = scan_exprs(alloc, &below, &next, &[], &mut unbroken)?;
-    assert!(rt; are_rows(&report, &[2, 3]));
-    assert_eq!(rt; unbroken.log().len(), 2);
-    let above = gt(alloc, next, lit(alloc, 0i8)?)?;
-    let mut broken = store(alloc, PType::I8, [127, 1], [2], Vec::new(alloc), false)?;
-    match scan_exprs(alloc, &above, &x, &[], &mut broken) {
-        Ok(_) => panic!(rt; "a report"),
-        Err(error) => assert_eq!(rt; error, ScanError::Overflow),
-    }
-    assert_eq!(rt; broken.log().len(), 1);
     Ok(())
 }
 

@@ -3,13 +3,11 @@ use std::alloc::Global;
 use std::rc::Rc;
 use std::test::Fail;
 use vx_dtype::{
-    BetweenOptions, CompareOperator, DType, ElementType, FieldName, FieldNames, Mem, Nullability,
-    PType, Scalar, StrictComparison, Text,
+    CompareOperator, DType, ElementType, FieldName, FieldNames, Mem, Nullability, Scalar, Text,
 };
 use vx_expr::{
-    BetweenExpr, BinaryExpr, CastExpr, DynamicComparisonExpr, ExprError, ExprRef, FieldSelection,
-    GetItemExpr, IsNullExpr, LikeExpr, ListContainsExpr, LiteralExpr, MergeExpr, NotExpr, Operator,
-    PackExpr, RootExpr, SelectExpr,
+    BinaryExpr, CastExpr, DynamicComparisonExpr, ExprRef, GetItemExpr, LiteralExpr, MergeExpr,
+    NotExpr, Operator, RootExpr,
 };
 use vx_wire::{
     BuildError, ExprEncoding, ExprRegistry, ExprRegistryExt, ExprSerializeProtoExt,
@@ -34,10 +32,6 @@ fn column(alloc: Global, name: &str) -> Mem<ExprRef> {
 
 fn number(alloc: Global, n: i32) -> Mem<ExprRef> {
     LiteralExpr::new_expr(alloc, Scalar::from(n))
-}
-
-fn text(alloc: Global, s: &str) -> Mem<ExprRef> {
-    LiteralExpr::new_expr(alloc, Scalar::utf8(alloc, s, Nullability::NonNullable)?)
 }
 
 fn names(alloc: Global, first: &str, second: &str) -> Mem<FieldNames> {
@@ -388,158 +382,6 @@ fn returns(alloc: Global, made: Mem<ExprRef>) -> Result<bool, Fail> {
     Ok(built == expr)
 }
 
-/// `$.a` under an operator with a number.
-fn beside(alloc: Global, operator: Operator, n: i32) -> Mem<ExprRef> {
-    let left = column(alloc, "a")?;
-    BinaryExpr::new_expr(alloc, left, operator, number(alloc, n)?)
-}
-
-/// `$.a` under an operator with `$.b`.
-fn joined(alloc: Global, operator: Operator) -> Mem<ExprRef> {
-    let left = column(alloc, "a")?;
-    BinaryExpr::new_expr(alloc, left, operator, column(alloc, "b")?)
-}
-
-/// `${hello, world}`
-fn included(alloc: Global) -> Mem<ExprRef> {
-    let fields = FieldSelection::Include(names(alloc, "hello", "world")?);
-    SelectExpr::new_expr(alloc, fields, root(alloc)?)
-}
-
-/// `$~{world, hello}`
-fn excluded(alloc: Global) -> Mem<ExprRef> {
-    let fields = FieldSelection::Exclude(names(alloc, "world", "hello")?);
-    SelectExpr::new_expr(alloc, fields, root(alloc)?)
-}
-
-/// `(10i32 <= $.a < 20i32)`
-fn ranged(alloc: Global) -> Mem<ExprRef> {
-    let options = BetweenOptions {
-        lower_strict: StrictComparison::NonStrict,
-        upper_strict: StrictComparison::Strict,
-    };
-    let arr = column(alloc, "a")?;
-    let lower = number(alloc, 10)?;
-    BetweenExpr::new_expr(alloc, arr, lower, number(alloc, 20)?, options)
-}
-
-/// `$.a LIKE "%b"`, without regard to case
-fn matched(alloc: Global) -> Mem<ExprRef> {
-    let child = column(alloc, "a")?;
-    LikeExpr::new_expr(alloc, child, text(alloc, "%b")?, false, true)
-}
-
-/// `contains($.list_col, "item")`
-fn contained(alloc: Global) -> Mem<ExprRef> {
-    let list = column(alloc, "list_col")?;
-    ListContainsExpr::new_expr(alloc, list, text(alloc, "item")?)
-}
-
-/// `$.a` and `$.b`
-fn columns(alloc: Global) -> Mem<Vec<ExprRef>> {
-    let mut values = Vec::new(alloc);
-    values.push(column(alloc, "a")?)?;
-    values.push(column(alloc, "b")?)?;
-    Ok(values)
-}
-
-/// `pack(field1: $.a, field2: $.b)?`
-fn packed(alloc: Global) -> Result<ExprRef, ExprError> {
-    let fields = names(alloc, "field1", "field2")?;
-    PackExpr::try_new_expr(alloc, fields, columns(alloc)?, Nullability::Nullable)
-}
-
-/// `$`, `42i32`, `-42i32`, `"hello"`, `$.column_name`, and the selections.
-fn plain_forms(alloc: Global) -> Mem<Vec<ExprRef>> {
-    let mut made = Vec::new(alloc);
-    made.push(root(alloc)?)?;
-    made.push(number(alloc, 42)?)?;
-    made.push(number(alloc, -42)?)?;
-    made.push(text(alloc, "hello")?)?;
-    made.push(column(alloc, "column_name")?)?;
-    made.push(included(alloc)?)?;
-    made.push(excluded(alloc)?)?;
-    Ok(made)
-}
-
-/// `(!$.a)`, `is_null($.a)`, and `cast($.a, i64)`.
-fn forms_over_a(alloc: Global) -> Mem<Vec<ExprRef>> {
-    let wide = DType::Primitive(PType::I64, Nullability::NonNullable);
-    let mut made = Vec::new(alloc);
-    made.push(NotExpr::new_expr(alloc, column(alloc, "a")?)?)?;
-    made.push(IsNullExpr::new_expr(alloc, column(alloc, "a")?)?)?;
-    made.push(CastExpr::new_expr(alloc, column(alloc, "a")?, wide)?)?;
-    Ok(made)
-}
-
-/// A range, a match, a membership, a packed struct and a merge.
-fn wider_forms(alloc: Global) -> Result<Vec<ExprRef>, Fail> {
-    let mut made = Vec::new(alloc);
-    made.push(ranged(alloc)?)?;
-    made.push(matched(alloc)?)?;
-    made.push(contained(alloc)?)?;
-    made.push(packed(alloc)?)?;
-    made.push(MergeExpr::new_expr(alloc, columns(alloc)?, Nullability::NonNullable)?)?;
-    Ok(made)
-}
-
-/// Whether each of the expressions is the same once serialized, written, read and built again.
-fn all_return(alloc: Global, made: Vec<ExprRef>) -> Result<bool, Fail> {
-    for expr in &made {
-        if again(alloc, expr)? != *expr {
-            return Ok(false);
-        }
-    }
-    Ok(true)
-}
-
-#[test]
-fn round_trips(rt: HostRuntime) -> Result<(), Fail> {
-    let alloc = rt.alloc();
-    assert!(rt; all_return(alloc, plain_forms(alloc)?)?);
-    assert!(rt; all_return(alloc, forms_over_a(alloc)?)?);
-    assert!(rt; all_return(alloc, wider_forms(alloc)?)?);
-    Ok(())
-}
-
-#[test]
-fn operators_return(rt: HostRuntime) -> Result<(), Fail> {
-    let alloc = rt.alloc();
-    let comparisons = [
-        Operator::Eq,
-        Operator::NotEq,
-        Operator::Gt,
-        Operator::Gte,
-        Operator::Lt,
-        Operator::Lte,
-        Operator::Add,
-        Operator::Sub,
-    ];
-    for operator in &comparisons {
-        assert!(rt; returns(alloc, beside(alloc, *operator, 10))?, "{operator}");
-    }
-    for operator in &[Operator::And, Operator::Or] {
-        assert!(rt; returns(alloc, joined(alloc, *operator))?, "{operator}");
-    }
-    Ok(())
-}
-
-#[test]
-fn not_nodes_return(rt: HostRuntime) -> Result<(), Fail> {
-    let alloc = rt.alloc();
-    let mut most = root(alloc)?;
-    for _ in 0..255 {
-        most = NotExpr::new_expr(alloc, most)?;
-    }
-    assert!(rt; again(alloc, &most)? == most, "255 not nodes");
-    Ok(())
-}
-
-/// A node without children.
-fn leaf(alloc: Global, id: &str, metadata: &[u8]) -> Mem<WireTree> {
-    over(alloc, id, metadata, Vec::new(alloc))
-}
-
 /// A node over these.
 fn over(alloc: Global, id: &str, metadata: &[u8], children: Vec<WireTree>) -> Mem<WireTree> {
     Ok(WireTree {
@@ -555,55 +397,6 @@ fn binary(alloc: Global, operator: u8, left: WireTree, right: WireTree) -> Mem<W
     sides.push(left)?;
     sides.push(right)?;
     over(alloc, "binary", &[operator], sides)
-}
-
-/// `1i32` as a node
-fn one(alloc: Global) -> Mem<WireTree> {
-    leaf(alloc, "literal", &[1, 0, 6, 1, 1, 0, 0, 0])
-}
-
-/// `or((($ < (1 < $.a)) and 1), (1 = $))` as a tree
-fn nested_tree(alloc: Global) -> Mem<WireTree> {
-    let mut child = Vec::new(alloc);
-    child.push(leaf(alloc, "root", &[])?)?;
-    let field = over(alloc, "get_item", &[1, 0x61], child)?;
-    let inner = binary(alloc, 4, one(alloc)?, field)?;
-    let below = binary(alloc, 4, leaf(alloc, "root", &[])?, inner)?;
-    let left = binary(alloc, 6, below, one(alloc)?)?;
-    let right = binary(alloc, 0, one(alloc)?, leaf(alloc, "root", &[])?)?;
-    binary(alloc, 7, left, right)
-}
-
-/// `or((($ < (1 < $.a)) and 1), (1 = $))`
-fn nested_expression(alloc: Global) -> Mem<ExprRef> {
-    let field = column(alloc, "a")?;
-    let inner = BinaryExpr::new_expr(alloc, number(alloc, 1)?, Operator::Lt, field)?;
-    let below = BinaryExpr::new_expr(alloc, root(alloc)?, Operator::Lt, inner)?;
-    let left = BinaryExpr::new_expr(alloc, below, Operator::And, number(alloc, 1)?)?;
-    let right = BinaryExpr::new_expr(alloc, number(alloc, 1)?, Operator::Eq, root(alloc)?)?;
-    BinaryExpr::new_expr(alloc, left, Operator::Or, right)
-}
-
-#[test]
-fn nested_expressions_return(rt: HostRuntime) -> Result<(), Fail> {
-    let alloc = rt.alloc();
-    let expression = nested_expression(alloc)?;
-    let tree = expression.serialize_proto(alloc)?;
-    assert!(rt; tree == nested_tree(alloc)?, "written");
-    let read = decoded(alloc, &write_tree(alloc, &nested_tree(alloc)?)?)??;
-    assert!(rt; read == expression, "read");
-    Ok(())
-}
-
-#[test]
-fn true_returns(rt: HostRuntime) -> Result<(), Fail> {
-    let alloc = rt.alloc();
-    let expression = LiteralExpr::new_expr(alloc, Scalar::from(true))?;
-    let wanted = leaf(alloc, "literal", &[0, 0, 1, 1])?;
-    assert!(rt; expression.serialize_proto(alloc)? == wanted, "written");
-    let read = decoded(alloc, &write_tree(alloc, &wanted)?)??;
-    assert!(rt; read == expression, "read");
-    Ok(())
 }
 
 #[test]

@@ -1,0 +1,163 @@
+// Scans of a case's table.
+ghost use Rattle.std.specs.Prelude.{◌<◌, ◌^◌, ◌-◌, All, IfOk};
+
+use crate::errors::CaseError;
+use crate::opening::requested;
+use crate::tables::Case;
+use crate::untold_store::UntoldStore;
+use std::alloc::Global;
+use vx_display::row_text;
+use vx_dtype::{Mem, Scalar};
+use vx_request::ScanRequest;
+use vx_scan::{ColumnStore, MemoryStore, ReadEntry, ScanError, ScanReport, scan};
+use vx_wire::{ExprRegistry, ExprRegistryExt};
+
+/// A store of the table of a case, with the bytes of both expressions.
+#[derive(Drop)]
+struct Stored {
+    store: MemoryStore,
+    filter: Vec<u8>,
+    projection: Vec<u8>,
+}
+
+/// The rows and the reads of a scan.
+pub(crate) fn scan_of(alloc: Global, case: &Case<'_>) -> Result<String, CaseError> {
+    let mut stored = store_case(alloc, case, None)?;
+    let ended = scanned(
+        alloc,
+        &mut stored.store,
+        stored.filter.as_slice(),
+        stored.projection.as_slice(),
+    );
+    Ok(ended_text(alloc, &ended, stored.store.log())?)
+}
+
+/// The same over a store that doesn't tell its table.
+pub(crate) fn scan_untold(alloc: Global, case: &Case<'_>) -> Result<String, CaseError> {
+    let stored = store_case(alloc, case, None)?;
+    let mut store = UntoldStore::new(stored.store);
+    let ended = scanned(
+        alloc,
+        &mut store,
+        stored.filter.as_slice(),
+        stored.projection.as_slice(),
+    );
+    Ok(ended_text(alloc, &ended, store.log())?)
+}
+
+/// How many reads a scan makes, where each of them, when it fails, is a store fault behind the reads before it.
+pub(crate) fn scan_failing(alloc: Global, case: &Case<'_>) -> Result<String, CaseError> {
+    let mut whole = store_case(alloc, case, None)?;
+    if let Err(error) = scanned(
+        alloc,
+        &mut whole.store,
+        whole.filter.as_slice(),
+        whole.projection.as_slice(),
+    ) {
+        return Err(CaseError::Scan(error));
+    }
+    let reads = whole.store.log();
+    for i in 0..reads.len() {
+        if !fails_at(alloc, case, reads, i)? {
+            return Ok(format!(in alloc; "another end where read {} fails", i.saturating_add(1))?);
+        }
+    }
+    Ok(format!(in alloc; "{} reads", reads.len())?)
+}
+
+/// Whether a scan whose read at this place fails ends by a store fault, with the reads before it and no other.
+fn fails_at(
+    alloc: Global,
+    case: &Case<'_>,
+    reads: &[ReadEntry],
+    place: usize,
+) -> Result<bool, CaseError> {
+    let mut stored = store_case(alloc, case, Some(place as u32))?;
+    let ended = scanned(
+        alloc,
+        &mut stored.store,
+        stored.filter.as_slice(),
+        stored.projection.as_slice(),
+    );
+    let is_fault = matches!(&ended, Err(ScanError::StoreFault));
+    let is_logged = Some(stored.store.log()) == reads.get(..place);
+    let is_failed = stored.store.failed() == reads.get(place);
+    Ok(is_fault && is_logged && is_failed && stored.store.faults() == 1)
+}
+
+/// The table of a case as a store that fails at the read behind so many others, or at none.
+fn store_case(
+    alloc: Global,
+    case: &Case<'_>,
+    fails_behind: Option<u32>,
+) -> Result<Stored, CaseError> {
+    let ScanRequest {
+        zones,
+        blocks,
+        filter,
+        projection,
+    } = requested(alloc, case)?;
+    match MemoryStore::try_new(alloc, zones, blocks, numbers_of(alloc, fails_behind)?) {
+        Ok(store) => Ok(Stored {
+            store,
+            filter,
+            projection,
+        }),
+        Err(error) => Err(CaseError::Table(error)),
+    }
+}
+
+/// The number, from 1, of the read behind so many others, where one is given.
+fn numbers_of(alloc: Global, behind: Option<u32>) -> Mem<Vec<u64>>
+    ensures { IfOk result (λ numbers. All (λ n. n < 2 ^ 64 - 1) numbers.items) }
+{
+    match behind {
+        Some(behind) => Ok(vec![in alloc; behind as u64 + 1]?),
+        None => Ok(Vec::new(alloc)),
+    }
+}
+
+/// The scan of a store by the default kinds of expressions.
+fn scanned<S: ColumnStore>(
+    alloc: Global,
+    store: &mut S,
+    filter: &[u8],
+    projection: &[u8],
+) -> Result<ScanReport, ScanError> {
+    let registry = ExprRegistry::default();
+    scan(alloc, &registry, filter, projection, store)
+}
+
+/// The rows, the skipped blocks and the reads of a scan, or its refusal and the reads.
+fn ended_text(
+    alloc: Global,
+    ended: &Result<ScanReport, ScanError>,
+    reads: &[ReadEntry],
+) -> Mem<String> {
+    let mut text = match ended {
+        Ok(report) => report_text(alloc, report)?,
+        Err(error) => format!(in alloc; "{error:?}")?,
+    };
+    text.push_str(" / reads")?;
+    for read in reads {
+        text.push_str(format!(in alloc; " {} {}", read.block, read.name)?.as_str())?;
+    }
+    Ok(text)
+}
+
+/// The rows and the skipped blocks of a report.
+fn report_text(alloc: Global, report: &ScanReport) -> Mem<String> {
+    let mut text = String::from_str(alloc, "rows")?;
+    for row in report.rows.as_slice() {
+        text.push_str(" ")?;
+        match Scalar::try_new(report.dtype.clone()?, row.clone()?) {
+            Ok(row) => text.push_str(row_text(alloc, row.dtype(), row.value())?.as_str())?,
+            Err(_) => text.push_str("no value of its type")?,
+        }
+    }
+    text.push_str(" / skipped")?;
+    for block in report.skipped.as_slice() {
+        text.push_str(format!(in alloc; " {block}")?.as_str())?;
+    }
+    Ok(text)
+}

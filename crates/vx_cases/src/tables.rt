@@ -1,0 +1,103 @@
+// Tables of cases as JSON: a list of groups, each of which holds the columns, blocks and statistics of a table, and the cases over it.
+use crate::answers::answer;
+use crate::errors::CaseError;
+use crate::subjects::{SUBJECTS, Subject};
+use serde_json::Value;
+use std::alloc::Global;
+use vx_dtype::Mem;
+
+/// How the cases of a table came out: how many answers agreed, and a line for each that didn't.
+#[derive(Drop)]
+pub(crate) struct Tried {
+    pub(crate) agreed: u64,
+    pub(crate) differences: Vec<String>,
+}
+
+/// A case: the text of its request, and the column over whose values it stands in place of the rows.
+#[derive(Drop)]
+pub(crate) struct Case<'a> {
+    pub(crate) request: String,
+    pub(crate) over: Option<&'a str>,
+}
+
+/// Tries each case of a table.
+pub(crate) fn try_table(alloc: Global, text: &str) -> Result<Tried, CaseError> {
+    let table = Value::from_str(alloc, text)?;
+    let mut tried = Tried {
+        agreed: 0,
+        differences: Vec::new(alloc),
+    };
+    for group in list_of(Some(&table)) {
+        for case in list_of(group.get("cases")) {
+            try_case(alloc, group, case, &mut tried)?;
+        }
+    }
+    Ok(tried)
+}
+
+/// Tries each answer that a case holds.
+fn try_case(
+    alloc: Global,
+    group: &Value,
+    case: &Value,
+    tried: &mut Tried,
+) -> Result<(), CaseError> {
+    let opened = Case {
+        request: request_of(alloc, group, case)?,
+        over: case.get("over").and_then(Value::as_str),
+    };
+    for (name, subject) in SUBJECTS {
+        if let Some(want) = case.get(name).and_then(Value::as_str) {
+            try_answer(alloc, &opened, name, subject, want, tried)?;
+        }
+    }
+    Ok(())
+}
+
+/// Compares the answer on one subject with the one that is wanted.
+fn try_answer(
+    alloc: Global,
+    case: &Case<'_>,
+    name: &str,
+    subject: Subject,
+    want: &str,
+    tried: &mut Tried,
+) -> Result<(), CaseError> {
+    let found = answer(alloc, case, subject)?;
+    if found.as_str() == want {
+        tried.agreed = tried.agreed.saturating_add(1);
+    } else {
+        let line = format!(in alloc; "{name}: {found} in place of {want}")?;
+        tried.differences.push(line)?;
+    }
+    Ok(())
+}
+
+/// The text of a request for the expressions of a case over the table of its group.
+fn request_of(alloc: Global, group: &Value, case: &Value) -> Mem<String> {
+    let columns = member_text(alloc, group, "columns")?;
+    let blocks = member_text(alloc, group, "blocks")?;
+    let stats = member_text(alloc, group, "stats")?;
+    let filter = member_text(alloc, case, "filter")?;
+    let projection = member_text(alloc, case, "projection")?;
+    let text = format!(in alloc;
+        "{{\"columns\":{columns},\"blocks\":{blocks},\"stats\":{stats},\"filter\":{filter},\"projection\":{projection}}}"
+    )?;
+    Ok(text)
+}
+
+/// The text of a member of an object, `null` where it is missing.
+fn member_text(alloc: Global, object: &Value, name: &str) -> Mem<String> {
+    match object.get(name) {
+        Some(value) => Ok(value.to_string(alloc)?),
+        None => Ok(String::from_str(alloc, "null")?),
+    }
+}
+
+/// The elements of a list, none where it is no list.
+fn list_of(value: Option<&Value>) -> &[Value] {
+    match value.and_then(Value::as_array) {
+        Some(values) => values.as_slice(),
+        None => &[],
+    }
+}
