@@ -10,10 +10,10 @@ use Rattle.vx_semantics.specs.Slots.{slots_fit}
 use Rattle.vx_semantics.specs.Meaning.{Slots, mean}
 use Rattle.vx_semantics.specs.Breaks.{Cause, by_sum, by_cast}
 use Rattle.vx_semantics.specs.Nodes.{some_node_breaks}
-use Rattle.vx_eval.specs.TypingAnswers.{Refuses}
+use Rattle.vx_typing.specs.TypingAnswers.{Refuses}
 use Rattle.vx_eval.specs.declared.errors.EvalError.{EvalError}
 use Rattle.vx_eval.specs.declared.errors.EvalError.TheVariants.{NoMemory, Typing, Overflow, BadCast}
-use Rattle.vx_eval.specs.declared.errors.TypeError.TheVariants as typing
+use Rattle.vx_typing.specs.declared.errors.TypeError.TheVariants as typing
 
 -- the strict type of an expression whose slots fit; type mismatch where it is typed and a slot doesn't fit
 abbrev pub checked_type : Ty → Slots → Tree → Result Ty Refusal
