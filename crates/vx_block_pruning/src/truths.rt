@@ -21,7 +21,7 @@ pub(crate) fn evaluated(alloc: Global, expr: &ExprRef, scope: &Scope) -> Mem<Col
     match expr.evaluate(alloc, scope) {
         Ok(column) => Ok(column),
         Err(EvalError::NoMemory) => Err(NoMemory),
-        Err(EvalError::Typing(TypeError::NoMemory)) => Err(NoMemory),
+        Err(EvalError::Typing(TypeError::NoMemory)) => unreachable!(),
         Err(EvalError::Typing(TypeError::NotStruct)) => unreachable!(),
         Err(EvalError::Typing(TypeError::NullableSelect)) => unreachable!(),
         Err(EvalError::Typing(TypeError::UnknownField)) => unreachable!(),

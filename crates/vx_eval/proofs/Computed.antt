@@ -18,10 +18,11 @@ use Rattle.vx_semantics.specs.Nodes.{nodes_of, nodes_of_all, breaks_at_some, som
 use Rattle.vx_eval.specs.declared.errors.Failure.{Failure}
 use Rattle.vx_eval.specs.declared.errors.Failure.TheVariants.{NoMemory, Mistyped, Overflow, BadCast}
 use Rattle.vx_eval.specs.Meant.{AreMeant}
-use Rattle.vx_eval.specs.OwnSlots.{own_slot_fits}
+use Rattle.vx_typing.specs.OwnSlots.{own_slot_fits}
 use Rattle.vx_eval.specs.Steps.{NodeGives, IsComputed, AreComputed, Fails, Computes}
 use Rattle.vx_eval.proofs.FaultLemmas.{of_both, neither, one_fails, or_left}
-use Rattle.vx_eval.proofs.NodeSplits.{below, slots_split, slots_of_child, type_of_child, nodes_split, node_of_child}
+use Rattle.vx_typing.proofs.SlotLemmas.{below, slots_split, slots_of_child}
+use Rattle.vx_eval.proofs.NodeSplits.{type_of_child, nodes_split, node_of_child}
 
 module _ (t : Ty) (slots : Slots) (rows : List Val) where
   -- ---- what is known of the children

@@ -1,6 +1,3 @@
-pub mod JoinedFields
-pub mod MergeLemmas
-pub mod TypeLists
 pub mod FaultLemmas
 pub mod RowLemmas
 pub mod NodeSplits

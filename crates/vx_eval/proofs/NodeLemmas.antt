@@ -40,7 +40,7 @@ use Rattle.vx_semantics.specs.Nodes.{breaks_at_some}
 use Rattle.vx_eval.specs.declared.errors.Failure.{Failure}
 use Rattle.vx_eval.specs.declared.errors.Failure.TheVariants.{NoMemory, Mistyped, Overflow, BadCast}
 use Rattle.vx_eval.specs.Meant.{IsMeant, AreMeant}
-use Rattle.vx_eval.specs.OwnSlots.{own_slot_fits, dynamic_told}
+use Rattle.vx_typing.specs.OwnSlots.{own_slot_fits, dynamic_told}
 use Rattle.vx_eval.specs.Steps.{Makes, MakesUnlessBroken, NodeGives}
 use Rattle.vx_eval.proofs.FaultLemmas.{none_any, no_cause, none_broken, some_broken, no_faults_all, all_both}
 use Rattle.vx_eval.proofs.RowLemmas.{zip_map, zip_map3}

@@ -1,57 +1,18 @@
--- An expression's type, slots and nodes, by its own node and by its children.
-use Rattle.std.proofs.Common.{◌≡◌, ℕ, zero, suc, Bool, true, ◌&&◌, List, [], ◌∷◌, ◌++◌, Some, Result, Ok, Err, refl, ap, sym, ◌∙◌, append-nil}
+-- An expression's type and nodes, by its own node and by its children.
+use Rattle.std.proofs.Common.{◌≡◌, ℕ, zero, suc, Bool, true, List, [], ◌∷◌, ◌++◌, Some, Result, Ok, Err, refl, ap, sym, ◌∙◌, append-nil}
 use Rattle.std.specs.Result.{is_ok}
 use Rattle.std.specs.List.{list_any, slice_get}
-use Rattle.std.proofs.Math.Bool.{and-true}
-use Rattle.std.proofs.lemmas.Bool.{and_parts}
 use Rattle.std.proofs.lemmas.Option.{same_Some, none-some}
 use Rattle.std.proofs.lemmas.List.Folds.{list_any-append}
 use Rattle.vx_dtype.specs.declared.Nullability.TheVariants.{NonNullable}
 use Rattle.vx_dtype.specs.Types.{Ty, bool_ty}
 use Rattle.vx_expr.specs.Trees.{Tree, root, literal, get_item, binary, not_of, is_null_of, like, between, cast, list_contains, pack, merge, select, dynamic}
 use Rattle.vx_expr.specs.Trees.{Trees, trees_of, listed, children_of}
-use Rattle.vx_expr.specs.Slots.{slot_held}
 use Rattle.vx_expr.proofs.TreeLemmas.{trees_of_listed}
 use Rattle.vx_semantics.specs.Typing.{Refusal, and_then, typed_of, all_typed, item_type, binary_type, not_type, like_type, between_type, cast_type, contains_type, pack_type, merge_type, select_type, dynamic_type}
-use Rattle.vx_semantics.specs.Slots.{held_fits, slots_fit, all_slots_fit}
-use Rattle.vx_semantics.specs.Meaning.{Slots}
 use Rattle.vx_semantics.specs.Nodes.{nodes_of, nodes_of_all}
-use Rattle.vx_eval.specs.OwnSlots.{own_slot_fits}
+use Rattle.vx_typing.proofs.SlotLemmas.{below}
 use Rattle.vx_eval.proofs.FaultLemmas.{or_left, or_right}
-
--- the children as the tree holds them
-abbrev pub below : Tree → Trees
-below e = trees_of (children_of e)
-
--- ---- slots
-
-pub slots_split : (slots : Slots) (e : Tree) → slots_fit slots e ≡ (own_slot_fits slots e && all_slots_fit slots (below e))
-unfolding slots_fit
-slots_split slots root = refl
-slots_split slots (literal s) = refl
-slots_split slots (get_item f e) = sym (and-true (slots_fit slots e))
-slots_split slots (binary l op r) = ap (λ b. slots_fit slots l && b) (sym (and-true (slots_fit slots r)))
-slots_split slots (not_of e) = sym (and-true (slots_fit slots e))
-slots_split slots (is_null_of e) = sym (and-true (slots_fit slots e))
-slots_split slots (like e p negated fold_case) = ap (λ b. slots_fit slots e && b) (sym (and-true (slots_fit slots p)))
-slots_split slots (between e lower upper options) = ap (λ b. slots_fit slots e && (slots_fit slots lower && b)) (sym (and-true (slots_fit slots upper)))
-slots_split slots (cast e t) = sym (and-true (slots_fit slots e))
-slots_split slots (list_contains l v) = ap (λ b. slots_fit slots l && b) (sym (and-true (slots_fit slots v)))
-slots_split slots (pack names es n) = ap (all_slots_fit slots) (sym (trees_of_listed es))
-slots_split slots (merge es n) = ap (all_slots_fit slots) (sym (trees_of_listed es))
-slots_split slots (select s e) = sym (and-true (slots_fit slots e))
-slots_split slots (dynamic e op k t default) = ap (λ b. held_fits (slot_held slots k) t && b) (sym (and-true (slots_fit slots e)))
-
-slots_at : (slots : Slots) (es : List Tree) (i : ℕ) (d : Tree) → slice_get es i ≡ Some d → all_slots_fit slots (trees_of es) ≡ true → slots_fit slots d ≡ true
-unfolding slots_fit
-slots_at slots [] i d at h = absurd (none-some d at)
-slots_at slots (e ∷ es) zero d at h = ap (slots_fit slots) (sym (same_Some e d at)) ∙ (and_parts (slots_fit slots e) (all_slots_fit slots (trees_of es)) h).0
-slots_at slots (e ∷ es) (suc i) d at h = slots_at slots es i d at (and_parts (slots_fit slots e) (all_slots_fit slots (trees_of es)) h).1
-
--- where the slots of an expression fit, those of a child do
-pub slots_of_child : (slots : Slots) (e d : Tree) (i : ℕ) → slice_get (children_of e) i ≡ Some d → slots_fit slots e ≡ true → slots_fit slots d ≡ true
-slots_of_child slots e d i at h =
-    slots_at slots (children_of e) i d at (and_parts (own_slot_fits slots e) (all_slots_fit slots (below e)) (sym (slots_split slots e) ∙ h)).1
 
 -- ---- types
 

@@ -1,22 +1,17 @@
 -- Values of slots at the slots' types, and comparisons with them.
-use Rattle.std.proofs.Common.{◌≡◌, refl, ap, sym, ◌∙◌, ℕ, ◌+◌, ◌≤◌, Bool, true, ◌&&◌, ◌||◌, not, List, [], ◌∷◌, map, length, drop, Some}
-use Rattle.std.specs.List.{slice_get}
-use Rattle.std.proofs.lemmas.List.{drop_all}
+use Rattle.std.proofs.Common.{◌≡◌, refl, ap, sym, ◌∙◌, Bool, true, ◌&&◌, List, [], ◌∷◌, map, length, Some}
 use Rattle.std.proofs.Math.ListN.{replicate}
 use Rattle.std.proofs.lemmas.Bool.{and_parts}
 use Rattle.vx_dtype.specs.declared.PType.{PType}
 use Rattle.vx_dtype.specs.declared.PType.TheVariants.{U8, U16, U32, U64, I8, I16, I32, I64}
 use Rattle.vx_dtype.specs.Types.{Ty, bool_ty, int_ty, text_ty, list_ty, struct_ty}
-use Rattle.vx_dtype.specs.TypeRules.{is_nullable, nullability_of, same_ptype, alike, is_plain, no_name_twice}
+use Rattle.vx_dtype.specs.TypeRules.{same_ptype, alike, is_plain, no_name_twice}
 use Rattle.vx_dtype.specs.Values.{Raw, raw_null, raw_bool, raw_int, raw_text, raw_list, raw_struct, Val, null_val, bool_val, int_val, text_val, list_val, struct_val, fault, Typed, valued, value_of}
 use Rattle.vx_dtype.specs.Fits.{fits, val_fits}
-use Rattle.vx_dtype.specs.ScalarAnswers.{is_raw_null}
 use Rattle.vx_column.specs.Columns.{rows_fit, zip_rows}
 use Rattle.vx_semantics.specs.Typing.{equal_plain}
-use Rattle.vx_expr.specs.Trees.{Tree, trees_of}
-use Rattle.vx_semantics.specs.Slots.{null_allowed, held_fits, slots_fit, all_slots_fit}
-use Rattle.vx_semantics.specs.Meaning.{Slots, default_answer}
-use Rattle.vx_eval.proofs.TypeLists.{left_step}
+use Rattle.vx_semantics.specs.Slots.{null_allowed, held_fits}
+use Rattle.vx_semantics.specs.Meaning.{default_answer}
 
 -- equal integer types are one
 same_ptype_equal : (p q : PType) → same_ptype p q ≡ true → p ≡ q
@@ -148,25 +143,3 @@ pub held_value_same : (s : Typed) (t : Ty) → is_plain t ≡ true → held_fits
 held_value_same s t p h =
     let parts = and_parts (alike s.ty t) (fits s.value s.ty && null_allowed s.value t) h in
     valued_alike s.value s.ty t p parts.0
-
--- ---- slots that fit
-
--- null is allowed where the value isn't null or the type is nullable
-pub null_so : (x : Raw) (t : Ty) → (not (is_raw_null x) || is_nullable (nullability_of t)) ≡ null_allowed x t
-null_so raw_null t = refl
-null_so (raw_bool b) t = refl
-null_so (raw_int i) t = refl
-null_so (raw_text s) t = refl
-null_so (raw_list xs) t = refl
-null_so (raw_struct xs) t = refl
-
-module _ (slots : Slots) (cs : List Tree) (i : ℕ) where
-  -- of the children from a place on, the one there and those behind it fit
-  pub slots_step : (c : Tree) → slice_get cs i ≡ Some c → all_slots_fit slots (trees_of (drop i cs)) ≡ slots_fit slots c && all_slots_fit slots (trees_of (drop (i + 1) cs))
-  unfolding slots_fit
-  slots_step c at = ap (λ ds. all_slots_fit slots (trees_of ds)) (left_step cs i c at)
-
-  -- and past the last there are none
-  pub slots_end : length cs ≤ i → all_slots_fit slots (trees_of (drop i cs)) ≡ true
-  unfolding slots_fit
-  slots_end past = ap (λ ds. all_slots_fit slots (trees_of ds)) (drop_all i cs past)

@@ -5,7 +5,7 @@ use Rattle.std.proofs.lemmas.Grind.{flat_map-append}
 use Rattle.vx_expr.specs.Trees.{Tree, root, literal, get_item, binary, not_of, is_null_of, like, between, cast, list_contains, pack, merge, select, dynamic, Trees, no_trees, tree, listed, children_of}
 use Rattle.vx_semantics.specs.Nodes.{nodes_of, nodes_of_all}
 use Rattle.vx_eval.specs.Versions.{own_slots, compared_slots}
-use Rattle.vx_eval.proofs.TypeLists.{left_step}
+use Rattle.vx_typing.proofs.TypeLists.{left_step}
 
 slots_of_all : (es : Trees) → flat_map own_slots (nodes_of_all es) ≡ flat_map compared_slots (listed es)
 unfolding nodes_of

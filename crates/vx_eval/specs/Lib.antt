@@ -1,15 +1,14 @@
 pub mod Scopes
 pub mod Versions
-pub mod TypingAnswers
 pub mod Evaluating
 pub mod Meant
 pub mod Steps
 pub mod Failures
 pub mod WholeStructs
 pub mod MergedColumns
-pub mod OwnSlots
 pub mod VersionSteps
 pub use Rattle.vx_dtype.specs.TypeViews
+pub use Rattle.vx_typing.specs.TypingAnswers
 pub use Rattle.vx_semantics.specs.Typing
 pub use Rattle.vx_semantics.specs.LooseTyping
 pub use Rattle.vx_semantics.specs.Slots

@@ -15,7 +15,7 @@ use Rattle.vx_column.specs.Columns.{Column}
 use Rattle.vx_column.specs.Answers.{no_faults}
 use Rattle.vx_column.specs.declared.columns.ColumnRef.{ColumnRef}
 use Rattle.vx_eval.specs.Meant.{IsMeant}
-use Rattle.vx_eval.specs.OwnSlots.{own_slot_fits}
+use Rattle.vx_typing.specs.OwnSlots.{own_slot_fits}
 use Rattle.vx_eval.specs.declared.errors.Failure.{Failure}
 use Rattle.vx_eval.specs.declared.errors.Failure.TheVariants.{NoMemory, Mistyped, Overflow, BadCast}
 

@@ -11,10 +11,10 @@ ghost use Rattle.vx_semantics.specs.Breaks.{by_sum, by_cast};
 ghost use Rattle.vx_eval.specs.Steps.{MakesUnlessBroken};
 
 use crate::errors::Failure;
-use crate::kinds::takes_cast;
 use std::alloc::Global;
 use vx_column::{ColumnError, ColumnRef, cast, checked_add, checked_sub};
 use vx_dtype::DType;
+use vx_typing::takes_cast;
 
 /// Whether two types are the same integer type but for nullability.
 fn equal_integers(left: &DType, right: &DType) -> bool

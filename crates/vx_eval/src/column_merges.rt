@@ -17,10 +17,10 @@ ghost use Rattle.vx_eval.specs.Steps.{Makes};
 
 use crate::column_packs::whole_structs;
 use crate::errors::Failure;
-use crate::merges::{all_structs, gives, merged_names};
 use std::alloc::Global;
 use vx_column::{ColumnError, ColumnRef};
 use vx_dtype::{DType, FieldName, FieldNames, Mem, Nullability};
+use vx_typing::{all_structs, gives, merged_names};
 
 /// The types of columns, in order.
 fn types_of(alloc: Global, columns: &[ColumnRef]) -> Mem<Vec<DType>>

@@ -14,13 +14,13 @@ ghost use Rattle.vx_semantics.specs.Typing.{distinct_type, literal_type, item_ty
 ghost use Rattle.vx_eval.specs.Steps.{Makes};
 
 use crate::errors::Failure;
-use crate::kinds::{equal_plain, is_bool, is_text};
 use std::alloc::Global;
 use vx_column::{
     ColumnError, ColumnRef, and_kleene, between, compare, invert, is_null, like, list_contains,
     or_kleene,
 };
 use vx_dtype::{BetweenOptions, CompareOperator, DType, FieldName, Scalar};
+use vx_typing::{equal_plain, is_bool, is_text};
 
 /// The rows themselves. No column's type has a struct with a name twice.
 pub(crate) fn root_column(root: &ColumnRef) -> Result<ColumnRef, Failure>

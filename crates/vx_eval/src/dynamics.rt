@@ -12,16 +12,15 @@ ghost use Rattle.vx_column.specs.Columns.{column};
 ghost use Rattle.vx_semantics.specs.Typing.{equal_plain, union_of};
 ghost use Rattle.vx_semantics.specs.Meaning.{default_answer, dynamic3, slot_value};
 ghost use Rattle.vx_semantics.specs.Slots.{held_fits};
-ghost use Rattle.vx_eval.specs.OwnSlots.{dynamic_told};
+ghost use Rattle.vx_typing.specs.OwnSlots.{dynamic_told};
 ghost use Rattle.vx_eval.specs.Steps.{Makes};
 
 use crate::errors::Failure;
-use crate::kinds::{equal_plain, union_of};
-use crate::slots::held_fits;
 use std::alloc::Global;
 use vx_column::{ColumnError, ColumnRef, compare};
 use vx_dtype::{CompareOperator, DType, Mem, NoMemory, Scalar};
 use vx_expr::DynamicComparisonExpr;
+use vx_typing::{equal_plain, held_fits, union_of};
 
 /// The column of this many rows of a value whose type has no name twice.
 fn repeated(alloc: Global, value: &Scalar, len: usize) -> Mem<ColumnRef>

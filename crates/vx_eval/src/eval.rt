@@ -4,20 +4,18 @@ ghost use Rattle.vx_dtype.specs.TypeViews.{type_view};
 ghost use Rattle.vx_expr.specs.Trees.{Tree};
 ghost use Rattle.vx_semantics.specs.Typing.{typed_of};
 ghost use Rattle.vx_semantics.specs.LooseTyping.{loosely_typed};
-ghost use Rattle.vx_eval.specs.TypingAnswers.{AnswersType};
+ghost use Rattle.vx_typing.specs.TypingAnswers.{AnswersType};
 ghost use Rattle.vx_eval.specs.Scopes.{scope_rows, scope_slots};
 ghost use Rattle.vx_eval.specs.Evaluating.{Evaluates};
 
 use crate::columns::column_of;
-use crate::errors::{EvalError, Failure, TypeError};
-use crate::loose_typing::loose;
+use crate::errors::{EvalError, Failure};
 use crate::scopes::Scope;
-use crate::slots::slots_fit;
-use crate::strict_typing::strict;
 use std::alloc::Global;
 use vx_column::ColumnRef;
 use vx_dtype::DType;
 use vx_expr::ExprRef;
+use vx_typing::{TypeError, return_dtype, slots_fit, typed};
 
 /// Expressions that have a type over a scope, and a column over its rows.
 pub trait ExprEval {
@@ -49,15 +47,15 @@ impl ExprEval for ExprRef {
     ghost tree = { λ e. e };
 
     fn return_dtype(&self, alloc: Global, scope: &DType) -> Result<DType, TypeError> {
-        loose(alloc, self, scope)
+        return_dtype(alloc, self, scope)
     }
 
     fn typed(&self, alloc: Global, scope: &DType) -> Result<DType, TypeError> {
-        strict(alloc, self, scope)
+        typed(alloc, self, scope)
     }
 
     fn evaluate(&self, alloc: Global, scope: &Scope) -> Result<ColumnRef, EvalError> {
-        match strict(alloc, self, scope.root().dtype()) {
+        match typed(alloc, self, scope.root().dtype()) {
             Ok(_) => {}
             Err(TypeError::NoMemory) => return Err(EvalError::NoMemory),
             Err(refusal) => return Err(EvalError::Typing(refusal)),

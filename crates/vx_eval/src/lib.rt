@@ -1,4 +1,4 @@
-//! The types of expressions over a scope, and their columns over its rows.
+//! The columns of expressions over the rows of a scope, beside their types.
 #![tactic(auto)]
 
 mod breaking_rules;
@@ -10,19 +10,11 @@ mod columns;
 mod dynamics;
 mod errors;
 mod eval;
-mod kinds;
-mod loose_rules;
-mod loose_typing;
-mod merges;
-mod rules;
 mod scopes;
-mod selections;
-mod slots;
-mod strict_typing;
 mod versions;
 
-pub use errors::{EvalError, TypeError};
+pub use errors::EvalError;
 pub use eval::ExprEval;
 pub use scopes::Scope;
-pub use slots::slots_fit;
 pub use versions::{DynamicExprUpdates, VersionError};
+pub use vx_typing::{TypeError, slots_fit};

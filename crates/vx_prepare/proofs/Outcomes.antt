@@ -15,7 +15,7 @@ use Rattle.vx_semantics.specs.Nodes.{nodes_of, some_node_breaks}
 use Rattle.vx_eval.specs.Evaluating.{checked_type}
 use Rattle.vx_eval.specs.declared.errors.EvalError.{EvalError}
 use Rattle.vx_eval.specs.declared.errors.EvalError.TheVariants.{NoMemory, Typing, Overflow, BadCast}
-use Rattle.vx_eval.specs.declared.errors.TypeError.TheVariants as refusals
+use Rattle.vx_typing.specs.declared.errors.TypeError.TheVariants as refusals
 use Rattle.vx_laws_columns.specs.Evaluable.{node_breaks_at}
 use Rattle.vx_prepare.specs.Parts.{GivenBy}
 use Rattle.vx_prepare.proofs.ListLemmas.{any_swap, any_mapped, map_mapped}

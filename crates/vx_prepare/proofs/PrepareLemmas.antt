@@ -10,9 +10,9 @@ use Rattle.vx_semantics.specs.Slots.{slots_fit}
 use Rattle.vx_semantics.specs.Meaning.{Slots}
 use Rattle.vx_semantics.specs.Nodes.{nodes_of}
 use Rattle.vx_eval.specs.Evaluating.{checked_type}
-use Rattle.vx_eval.specs.TypingAnswers.{Refuses}
-use Rattle.vx_eval.specs.declared.errors.TypeError.{TypeError}
-use Rattle.vx_eval.specs.declared.errors.TypeError.TheVariants as refusals
+use Rattle.vx_typing.specs.TypingAnswers.{Refuses}
+use Rattle.vx_typing.specs.declared.errors.TypeError.{TypeError}
+use Rattle.vx_typing.specs.declared.errors.TypeError.TheVariants as refusals
 use Rattle.vx_passes.specs.Replacing.{root_replaced}
 use Rattle.vx_passes.specs.TypedSimplifying.{simplified_typed}
 use Rattle.vx_partition.specs.Splits.{split_view}

@@ -11,7 +11,7 @@ pub use Rattle.vx_semantics.specs.Tables
 pub use Rattle.vx_semantics.specs.Meaning
 pub use Rattle.vx_semantics.specs.Breaks
 pub use Rattle.vx_semantics.specs.Asked
-pub use Rattle.vx_eval.specs.TypingAnswers
+pub use Rattle.vx_typing.specs.TypingAnswers
 pub use Rattle.vx_eval.specs.Evaluating
 pub use Rattle.vx_laws_simplifying.specs.Narrowing
 pub use Rattle.vx_laws_columns.specs.Columns as SplitLaws

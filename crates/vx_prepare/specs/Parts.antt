@@ -13,8 +13,7 @@ use Rattle.vx_semantics.specs.Typing.{Refusal}
 use Rattle.vx_semantics.specs.Meaning.{Slots}
 use Rattle.vx_eval.specs.Evaluating.{Evaluates}
 use Rattle.vx_eval.specs.declared.errors.EvalError.{EvalError}
-use Rattle.vx_eval.specs.declared.errors.EvalError.TheVariants.{NoMemory, Typing}
-use Rattle.vx_eval.specs.declared.errors.TypeError.TheVariants.{NoMemory as NoMemoryForType}
+use Rattle.vx_eval.specs.declared.errors.EvalError.TheVariants.{NoMemory}
 use Rattle.vx_passes.specs.Splitting.{Split}
 use Rattle.vx_partition.specs.Splits.{SplitColumns, first_of, in_columns}
 
@@ -26,9 +25,8 @@ IsSplitAs split s = (made : Split Bytes) × (split ≡ Ok made) × (s ≡ in_col
 abbrev pub columns_fit : List Column → Bool
 columns_fit cs = list_all (λ c. rows_fit c.ty c.rows) cs
 
--- an expression gives this over the rows of a column; want of memory is no refusal of its typing
+-- an expression gives this over the rows of a column
 abbrev pub GivenBy : Slots → Column → Tree → Result ColumnRef EvalError → Type 0
-GivenBy slots c e (Err (Typing NoMemoryForType)) = ⊥
 GivenBy slots c e result = Evaluates c.ty slots c.rows e result
 
 -- a column of so many rows stands under a name

@@ -14,9 +14,9 @@ use Rattle.vx_semantics.specs.Tables.{row_type}
 use Rattle.vx_semantics.specs.Meaning.{Slots, mean}
 use Rattle.vx_semantics.specs.Breaks.{Cause, by_sum, by_cast, breaks_by}
 use Rattle.vx_semantics.specs.Asked.{asked_nodes, asked_columns, some_asked_breaks}
-use Rattle.vx_eval.specs.TypingAnswers.{Refuses}
+use Rattle.vx_typing.specs.TypingAnswers.{Refuses}
 use Rattle.vx_eval.specs.Evaluating.{checked_type}
-use Rattle.vx_eval.specs.declared.errors.TypeError.{TypeError}
+use Rattle.vx_typing.specs.declared.errors.TypeError.{TypeError}
 use Rattle.vx_eval.specs.declared.errors.EvalError.{EvalError}
 use Rattle.vx_eval.specs.declared.errors.EvalError.TheVariants.{NoMemory, Typing, Overflow, BadCast}
 use Rattle.vx_passes.specs.Splitting.{Split}

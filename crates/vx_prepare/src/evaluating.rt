@@ -10,7 +10,7 @@ ghost use Rattle.vx_prepare.specs.Parts.{columns_fit, GivenBy, IsHeld, PartsGive
 use std::alloc::Global;
 use vx_column::{ColumnError, ColumnRef};
 use vx_dtype::{FieldName, FieldNames, Mem, NoMemory, Scalar};
-use vx_eval::{EvalError, ExprEval, Scope, TypeError};
+use vx_eval::{EvalError, ExprEval, Scope};
 use vx_expr::ExprRef;
 use vx_partition::PartitionedExpr;
 
@@ -140,8 +140,5 @@ fn evaluate_over(
         held.push(slot.clone()?)?;
     }
     let scope = Scope::new(rows).with_slots(held);
-    match expr.evaluate(alloc, &scope) {
-        Err(EvalError::Typing(TypeError::NoMemory)) => Err(EvalError::NoMemory),
-        answer => answer,
-    }
+    expr.evaluate(alloc, &scope)
 }

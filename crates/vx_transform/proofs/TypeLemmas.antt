@@ -13,8 +13,8 @@ use Rattle.vx_expr.specs.declared.FieldSelection.{FieldSelection}
 use Rattle.vx_expr.specs.Trees.{Tree, root, literal, get_item, binary, not_of, is_null_of, like, between, cast, list_contains, pack, merge, select, dynamic, Trees, no_trees, tree}
 use Rattle.vx_semantics.specs.Typing.{Refusal, not_struct, unknown_field, duplicate_field, type_mismatch, and_then, unless, item_type, type_in, merge_type, sum_type, not_type, selected_fields, names_in, merged_fields_at, union_of}
 use Rattle.vx_semantics.specs.LooseTyping.{loosely_typed, all_loosely_typed, included_known, loose_select_type, loose_pack_type, loose_binary_type, loose_between_type, loose_dynamic_type}
-use Rattle.vx_eval.specs.declared.errors.TypeError.{TypeError}
-use Rattle.vx_eval.specs.TypingAnswers.{Refuses}
+use Rattle.vx_typing.specs.declared.errors.TypeError.{TypeError}
+use Rattle.vx_typing.specs.TypingAnswers.{Refuses}
 
 -- whether a refusal is of a name that stands twice
 abbrev is_duplicate : Refusal → Bool

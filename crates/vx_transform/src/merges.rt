@@ -1,7 +1,6 @@
 // A merge as a pack of the fields that its children give.
-ghost use Rattle.std.specs.Prelude.{◌≡◌, ◌++◌, map, option_map, IfOk, OnOk};
+ghost use Rattle.std.specs.Prelude.{◌≡◌, map, option_map, IfOk};
 ghost use Rattle.std.specs.List.{flat_map};
-ghost use Rattle.vx_dtype.specs.Structs.{first_names};
 ghost use Rattle.vx_dtype.specs.TypeRules.{has_name};
 ghost use Rattle.vx_dtype.specs.TypeViews.{type_view};
 ghost use Rattle.vx_semantics.specs.Merging.{last_giver};
@@ -13,10 +12,10 @@ use crate::givings::{Giving, givings};
 use crate::packs::pack_of;
 use crate::rebuilding::Step;
 use std::alloc::Global;
-use std::collections::BTreeSet;
 use vx_build::{col, get_item};
 use vx_dtype::{DType, FieldName, FieldNames, Mem, Nullability};
 use vx_expr::{Expr, ExprRef};
+use vx_typing::{first_names, push_names};
 
 /// The pack of the given fields in the place of a merge.
 #[derive(Drop)]
@@ -88,16 +87,6 @@ fn last_giver<'a>(name: &FieldName, given: &'a [Giving]) -> Option<&'a Giving>
     None
 }
 
-/// Puts names at the end, as far as there is memory.
-fn push_names(names: &mut Vec<FieldName>, more: &[FieldName]) -> Mem<()>
-    ensures { OnOk result (names.new.items ≡ names.old.items ++ more.now) }
-{
-    for name in more {
-        names.push(name.clone()?)?;
-    }
-    Ok(())
-}
-
 /// The names of the structs' fields, in order.
 fn all_names(alloc: Global, given: &[Giving]) -> Mem<Vec<FieldName>>
     ensures { IfOk result (λ names. names.items ≡ flat_map giving_names (map giving_view given.now)) }
@@ -107,19 +96,4 @@ fn all_names(alloc: Global, given: &[Giving]) -> Mem<Vec<FieldName>>
         push_names(&mut names, giving.fields.names().as_slice())?;
     }
     Ok(names)
-}
-
-/// The names in order of first appearance.
-fn first_names(alloc: Global, names: &[FieldName]) -> Mem<Vec<FieldName>>
-    ensures { IfOk result (λ first. first.items ≡ first_names names.now) }
-{
-    let mut first = Vec::new(alloc);
-    let mut seen = BTreeSet::new(alloc);
-    for name in names {
-        if !seen.insert(name.clone()?)? {
-            continue;
-        }
-        first.push(name.clone()?)?;
-    }
-    Ok(first)
 }

@@ -4,7 +4,7 @@ use Rattle.std.proofs.lemmas.Slice.Zip.{AllZip-long}
 use Rattle.vx_expr.specs.Trees.{Tree, children_of}
 use Rattle.vx_eval.specs.Scopes.{scope_rows, scope_slots}
 use Rattle.vx_eval.specs.Steps.{IsComputed, NodeGives}
-use Rattle.vx_eval.proofs.TypeLists.{child_lower}
+use Rattle.vx_typing.proofs.TypeLists.{child_lower}
 use Rattle.vx_eval.proofs.Computed.{meant_of, computed, fails_by, one_more}
 use Rattle.vx_eval.proofs.columns.+columns.Goals as goal
 

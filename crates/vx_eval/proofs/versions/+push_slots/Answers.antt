@@ -2,7 +2,7 @@ use Rattle.std.proofs.Common.{ℕ, List, ◌++◌, sym, ap, ◌∙◌, append_as
 use Rattle.std.specs.List.{flat_map}
 use Rattle.vx_expr.specs.Trees.{children_of}
 use Rattle.vx_eval.specs.Versions.{own_slots, compared_slots}
-use Rattle.vx_eval.proofs.TypeLists.{child_lower}
+use Rattle.vx_typing.proofs.TypeLists.{child_lower}
 use Rattle.vx_eval.proofs.VersionLemmas.{slots_by_children, slots_go_on}
 use Rattle.vx_eval.proofs.versions.+push_slots.Goals as goal
 

@@ -1,7 +1,7 @@
 use Rattle.std.proofs.Common.{ap, length, arith}
 use Rattle.vx_expr.specs.Trees.{children_of}
 use Rattle.vx_eval.proofs.NodeSplits.{nodes_split}
-use Rattle.vx_eval.proofs.TypeLists.{child_lower}
+use Rattle.vx_typing.proofs.TypeLists.{child_lower}
 use Rattle.vx_prepare.proofs.CountLemmas.{count_step, count_end}
 use Rattle.vx_prepare.proofs.counting.+count_nodes.Goals as goal
 

@@ -1,0 +1,4 @@
+pub mod JoinedFields
+pub mod MergeLemmas
+pub mod TypeLists
+pub mod SlotLemmas

@@ -1,0 +1,11 @@
+pub mod TypingAnswers
+pub mod OwnSlots
+pub use Rattle.vx_dtype.specs.TypeViews
+pub use Rattle.vx_dtype.specs.TypeRules
+pub use Rattle.vx_dtype.specs.StructTypes
+pub use Rattle.vx_dtype.specs.Structs
+pub use Rattle.vx_dtype.specs.Casts
+pub use Rattle.vx_semantics.specs.Typing
+pub use Rattle.vx_semantics.specs.LooseTyping
+pub use Rattle.vx_semantics.specs.Merging
+pub use Rattle.vx_semantics.specs.Slots

@@ -1,0 +1,19 @@
+//! The types of expressions over a scope, by the strict and by the looser rules, and whether what the slots of their comparisons hold fits.
+#![tactic(auto)]
+
+mod errors;
+mod kinds;
+mod loose_rules;
+mod loose_typing;
+mod merges;
+mod rules;
+mod selections;
+mod slots;
+mod strict_typing;
+
+pub use errors::TypeError;
+pub use kinds::{equal_plain, is_bool, is_text, takes_cast, union_of};
+pub use loose_typing::return_dtype;
+pub use merges::{all_structs, first_names, gives, merged_names, push_names};
+pub use slots::{held_fits, slots_fit};
+pub use strict_typing::typed;
