@@ -15,7 +15,8 @@ import sys
 import tempfile
 import time
 
-from rows import ROOT, X, binary, item, lit, merge, node, request, select, struct
+from rows import X
+from wire import ROOT, binary, item, lit, merge, node, request, select, struct
 
 HERE = os.path.dirname(os.path.dirname(os.path.abspath(__file__)))
 PROGRAM = os.path.join(HERE, "crates", "vx", "out", "vx")
