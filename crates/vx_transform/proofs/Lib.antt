@@ -3,3 +3,4 @@ mod TypeLemmas
 mod PairLemmas
 mod MergeLemmas
 mod ChangeLemmas
+mod WalkLemmas

@@ -116,7 +116,7 @@ module _ {A B : Type 0} (rule : A → Result B Refusal) (xs : List A) (i : ℕ) 
 pub with_own : (e : Tree) → with_these e (children_of e) ≡ e
 with_own e = ap (λ o. unwrap_or o e) (with_own_children e)
 
-with_as_many : (m n : ℕ) (made other : Tree) → m ≡ n → unwrap_or (where_so (m == n) made) other ≡ made
+pub with_as_many : (m n : ℕ) (made other : Tree) → m ≡ n → unwrap_or (where_so (m == n) made) other ≡ made
 with_as_many m n made other e = ap (λ b. unwrap_or (where_so b made) other) ((unsigned_Decides m n).1 e)
 
 -- ---- the recursion by the children

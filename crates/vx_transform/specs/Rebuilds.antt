@@ -6,6 +6,7 @@ use Rattle.vx_semantics.specs.Typing.{Refusal, and_then}
 use Rattle.vx_transform.specs.declared.errors.TransformError.{TransformError}
 use Rattle.vx_transform.specs.declared.errors.TransformError.TheVariants.{NoMemory}
 use Rattle.vx_passes.specs.Rebuilding.{rebuilt}
+use Rattle.vx_passes.specs.Simplifying.{field_of_pack}
 
 -- what a rule gives each of a list, or its first refusal
 abbrev pub each : {A B : Type 0} → (A → Result B Refusal) → List A → Result (List B) Refusal
@@ -23,6 +24,10 @@ with_these e cs = unwrap_or (with_children_of e cs) e
 -- the node with its children rebuilt
 abbrev pub children_rebuilt : (Tree → Result Tree Refusal) → Tree → Result Tree Refusal
 children_rebuilt step e = and_then (each (rebuilt step) (children_of e)) (λ cs. Ok (with_these e cs))
+
+-- the node with each child that is a field straight on a pack as that pack's value
+abbrev pub children_taken : Tree → Result Tree Refusal
+children_taken e = and_then (each field_of_pack (children_of e)) (λ cs. Ok (with_these e cs))
 
 -- the answer is no refusal but of memory
 abbrev pub OkOrNoMemory : {A : Type 0} → Result A TransformError → Type 0

@@ -11,13 +11,13 @@ ghost use Rattle.vx_transform.specs.TransformAnswers.{AnswersBy};
 use crate::errors::TransformError;
 use crate::types::type_of;
 use std::alloc::Global;
-use vx_dtype::{DType, StructFields};
+use vx_dtype::{DType, FieldNames};
 use vx_expr::{ExprRef, VortexExpr};
 
-/// A struct that goes into a merge: the fields of its type, and its expression.
+/// A struct that goes into a merge: the names of its type's fields, and its expression.
 #[derive(Drop)]
 pub(crate) struct Giving {
-    pub(crate) fields: StructFields,
+    pub(crate) names: FieldNames,
     pub(crate) expr: ExprRef,
 }
 
@@ -27,7 +27,7 @@ fn giving_of(expr: &ExprRef, dtype: DType) -> Result<Giving, TransformError>
 {
     match dtype {
         DType::Struct(fields, _) => Ok(Giving {
-            fields,
+            names: fields.names().clone()?,
             expr: expr.clone()?,
         }),
         _ => Err(TransformError::NotStruct),

@@ -4,8 +4,10 @@
 pub mod children;
 mod errors;
 mod givings;
+mod heads;
 pub mod laws;
 mod merges;
+mod pack_fields;
 pub mod packs;
 mod pairing;
 mod readings;
@@ -14,6 +16,7 @@ mod replacing;
 mod selects;
 mod simplifying;
 pub mod types;
+mod walking;
 
 pub use errors::TransformError;
 pub use replacing::{replace, replace_root_fields};

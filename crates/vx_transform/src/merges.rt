@@ -36,7 +36,11 @@ impl Step for MergeAsPack<'_> {
 }
 
 /// The fields that structs give together, in order of first appearance, as a pack.
-fn givings_pack(alloc: Global, given: &[Giving], nullability: Nullability) -> Mem<ExprRef>
+pub(crate) fn givings_pack(
+    alloc: Global,
+    given: &[Giving],
+    nullability: Nullability,
+) -> Mem<ExprRef>
     ensures { IfOk result (λ made. made ≡ givings_pack nullability (map giving_view given.now)) }
 {
     let names = first_names(alloc, all_names(alloc, given)?.as_slice())?;
@@ -69,7 +73,7 @@ fn given_field(alloc: Global, name: &FieldName, given: &[Giving]) -> Mem<ExprRef
 fn gives(giving: &Giving, name: &FieldName) -> bool
     ensures { result ≡ has_name name.now (giving_names (giving_view giving.now)) }
 {
-    name.is_among(giving.fields.names().as_slice())
+    name.is_among(giving.names.as_slice())
 }
 
 /// The last struct that has a field of this name.
@@ -93,7 +97,7 @@ fn all_names(alloc: Global, given: &[Giving]) -> Mem<Vec<FieldName>>
 {
     let mut names = Vec::new(alloc);
     for giving in given {
-        push_names(&mut names, giving.fields.names().as_slice())?;
+        push_names(&mut names, giving.names.as_slice())?;
     }
     Ok(names)
 }

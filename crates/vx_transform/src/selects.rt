@@ -5,6 +5,7 @@ ghost use Rattle.vx_expr.specs.Nodes.{select_fields, select_child};
 ghost use Rattle.vx_expr.specs.Selections.{names_where_known};
 ghost use Rattle.vx_semantics.specs.Typing.{unknown_field};
 ghost use Rattle.vx_passes.specs.Selecting.{select_as_pack, select_removed};
+ghost use Rattle.vx_laws_walking.specs.Walking.{select_by_head};
 ghost use Rattle.vx_transform.specs.TransformAnswers.{AnswersBy, AnswersTree};
 
 use crate::errors::TransformError;
@@ -44,10 +45,22 @@ fn select_as_pack(
     let DType::Struct(fields, nullability) = dtype else {
         return Err(TransformError::NotStruct);
     };
-    if *nullability == Nullability::Nullable {
+    selected_pack(alloc, node, fields.names(), *nullability)
+}
+
+/// The pack of the fields that a select takes of a struct with these names, where the struct can't be null.
+pub(crate) fn selected_pack(
+    alloc: Global,
+    node: &SelectExpr,
+    names: &FieldNames,
+    nullability: Nullability,
+) -> Result<ExprRef, TransformError>
+    ensures { AnswersTree (select_by_head (select_fields node.now) (select_child node.now) (record { names = names.now; nullability = nullability })) result }
+{
+    if nullability == Nullability::Nullable {
         return Err(TransformError::NullableSelect);
     }
-    let taken = taken_names(alloc, node.selection(), fields.names())?;
+    let taken = taken_names(alloc, node.selection(), names)?;
     Ok(fields_pack(alloc, taken, node.child())?)
 }
 

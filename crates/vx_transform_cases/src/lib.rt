@@ -7,3 +7,5 @@ mod removing;
 mod samples;
 #[cfg(test)]
 mod simplifying;
+#[cfg(test)]
+mod walking;

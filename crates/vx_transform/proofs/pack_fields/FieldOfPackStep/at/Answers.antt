@@ -4,7 +4,7 @@ use Rattle.vx_expr.specs.Nodes.{node_tree}
 use Rattle.vx_expr.specs.Packed.{pack_tree}
 use Rattle.vx_expr.specs.Trees.{get_item}
 use Rattle.vx_transform.proofs.ChangeLemmas.{field_taken, no_field}
-use Rattle.vx_transform.proofs.simplifying.FieldOfPackStep.at.Goals as goal
+use Rattle.vx_transform.proofs.pack_fields.FieldOfPackStep.at.Goals as goal
 
 pub returns-in-Ok : goal.returns-in-Ok
 returns-in-Ok c =
