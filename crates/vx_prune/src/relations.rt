@@ -40,6 +40,16 @@ impl<K: Eq + Hash, V: Eq + Hash> Relation<K, V> {
         Ok(())
     }
 
+    /// Whether the value stands beside the key.
+    pub fn contains(&self, k: &K, v: &V) -> bool
+        ensures { result ≡ has_pair K.eq V.eq (relation_map self.now) k.now v.now }
+    {
+        match self.map.get(k) {
+            Some(values) => values.contains(v),
+            None => false,
+        }
+    }
+
     /// The map from keys to the sets of values beside them.
     pub fn map(&self) -> &HashMap<K, HashSet<V>>
         ensures { result.now ≡ relation_map self.now }
