@@ -1,6 +1,7 @@
 // Relations between keys and values: which values stand beside a key.
 ghost use Rattle.std.specs.Prelude.{◌≡◌, ◌&&◌, ◌||◌, false, OnOk, OnErr};
 ghost use Rattle.vx_prune.specs.Relations.{has_pair, relation_map};
+ghost use Rattle.vx_prune.specs.Required.{is_required};
 
 use std::alloc::Global;
 use std::collections::{HashMap, HashSet};
@@ -63,4 +64,11 @@ impl<K: Eq + Hash, V: Eq + Hash> Relation<K, V> {
     {
         Relation { map }
     }
+}
+
+/// Whether a statistic of a path is among those that are required.
+pub fn is_required(required: &RequiredStats, path: &FieldPath, stat: Stat) -> bool
+    ensures { result ≡ is_required required.now (path.now, stat) }
+{
+    required.contains(path, &stat)
 }
