@@ -87,22 +87,8 @@ fn parts(alloc: Global, expr: &ExprRef, scope: &DType) -> Mem<String> {
     };
     let access = annotate_scope_access(fields);
     match partition(alloc, expr.clone()?, scope, &access) {
-        Ok(split) => {
-            let mut text = format!(in alloc; "root: {} {{", split.root)?;
-            for (i, part) in split.partitions.iter().enumerate() {
-                if i > 0 {
-                    text.push_str(", ")?;
-                }
-                match split.partition_names.as_slice().get(i) {
-                    Some(name) => text.push_str(name.as_str())?,
-                    None => text.push_str("?")?,
-                }
-                text.push_str(": ")?;
-                text.push_str(part.compact(alloc)?.as_str())?;
-            }
-            text.push_str("}")?;
-            Ok(text)
-        }
+        Ok(split) => Ok(format!(in alloc; "{split}")?),
+        Err(TransformError::NoMemory) => Err(NoMemory),
         Err(error) => Ok(format!(in alloc; "{error}")?),
     }
 }

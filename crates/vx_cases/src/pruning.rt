@@ -5,7 +5,7 @@ use vx_block_pruning::ruled_out;
 use vx_dtype::Mem;
 use vx_eval::{ExprEval, slots_fit};
 use vx_expr::DisplayAs;
-use vx_prune::{checked_pruning_expr, field_path_stat_field_name};
+use vx_prune::{checked_pruning_expr, field_path_stat_field_name, is_required};
 
 /// The pruning expression of the filter over the available statistics, or `-`.
 pub(crate) fn pruning(alloc: Global, case: &Opened) -> Mem<String> {
@@ -24,11 +24,7 @@ pub(crate) fn required(alloc: Global, case: &Opened) -> Mem<String> {
         return Ok(text);
     };
     for stat in case.zones.stats() {
-        let needed = match required.map().get(&stat.path) {
-            Some(stats) => stats.contains(&stat.stat),
-            None => false,
-        };
-        if needed {
+        if is_required(&required, &stat.path, stat.stat) {
             let name = field_path_stat_field_name(alloc, &stat.path, stat.stat)?;
             text.push_str(name.as_str())?;
             text.push_str(";")?;

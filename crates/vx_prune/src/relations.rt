@@ -1,9 +1,11 @@
 // Relations between keys and values: which values stand beside a key.
 ghost use Rattle.std.specs.Prelude.{◌≡◌, ◌&&◌, ◌||◌, false, OnOk, OnErr};
+ghost use Rattle.std.specs.HashMap.{IsUnique};
 ghost use Rattle.vx_prune.specs.Relations.{has_pair, relation_map};
 ghost use Rattle.vx_prune.specs.Required.{is_required};
 
 use std::alloc::Global;
+use std::collections::hash_map::IntoIter;
 use std::collections::{HashMap, HashSet};
 use std::hash::Hash;
 use vx_dtype::{FieldPath, Mem, Stat};
@@ -63,6 +65,19 @@ impl<K: Eq + Hash, V: Eq + Hash> Relation<K, V> {
         ensures { relation_map result ≡ map }
     {
         Relation { map }
+    }
+}
+
+/// The keys, each beside the set of its values, in no given order: every entry of the map once.
+impl<K: Eq + Hash + Drop, V: Eq + Hash + Drop> IntoIterator for Relation<K, V> {
+    type Item = (K, HashSet<V>);
+
+    type IntoIter = IntoIter<K, HashSet<V>>;
+
+    ghost into_iter_gives = { λ relation entries. (entries ≡ (relation_map relation).entries) × IsUnique K.eq (relation_map relation) };
+
+    fn into_iter(self) -> IntoIter<K, HashSet<V>> {
+        self.map.into_iter()
     }
 }
 
