@@ -41,30 +41,30 @@ use Rattle.vx_laws_walking.specs.Walking.{WalkMakesThePasses, StructHead, head_i
 -- ---- types after each pass
 
 -- an expression that a pass made, with its type, in the place of one of a type
-record Narrowed (t : Ty) (r : Result Tree Refusal) (u : Ty) : Type 0 where
+pub record Narrowed (t : Ty) (r : Result Tree Refusal) (u : Ty) : Type 0 where
   pub made : Tree
   pub is : r ≡ Ok made
   pub ty : Ty
   pub typed : typed_of t made ≡ Ok ty
   pub narrow : Narrow ty u
 
-narrowed : (pass : Pass) → MakesKept pass → (t : Ty) (e : Tree) (u : Ty) → typed_of t e ≡ Ok u → Narrowed t (pass t e) u
+pub narrowed : (pass : Pass) → MakesKept pass → (t : Ty) (e : Tree) (u : Ty) → typed_of t e ≡ Ok u → Narrowed t (pass t e) u
 narrowed pass p t e u h =
     let row = some_row t in
     let m = p t [] row (breaking by_sum t [] row) (breaking-observes by_sum t [] row) e u (some_row-fits t) (no_slots-fit e) h in
     record { made = m.made; is = m.is; ty = m.kept.ty; typed = m.kept.typed; narrow = m.kept.narrow }
 
 -- what is known of an expression of a type that narrows another
-record Typed (t : Ty) (d : Tree) (u : Ty) : Type 0 where
+pub record Typed (t : Ty) (d : Tree) (u : Ty) : Type 0 where
   pub ty : Ty
   pub is : typed_of t d ≡ Ok ty
   pub narrow : Narrow ty u
 
-typed-made : (t : Ty) (r : Result Tree Refusal) (u : Ty) (d : Tree) → Narrowed t r u → r ≡ Ok d → Typed t d u
+pub typed-made : (t : Ty) (r : Result Tree Refusal) (u : Ty) (d : Tree) → Narrowed t r u → r ≡ Ok d → Typed t d u
 typed-made t r u d k h = record { ty = k.ty; is = subst (λ (z : Tree). typed_of t z ≡ Ok k.ty) (Ok-same r k.made d k.is h) k.typed; narrow = k.narrow }
 
 -- one pass after what another made
-typed-after : (pass : Pass) → MakesKept pass → (t : Ty) (e d : Tree) (u : Ty) → Typed t e u → pass t e ≡ Ok d → Typed t d u
+pub typed-after : (pass : Pass) → MakesKept pass → (t : Ty) (e d : Tree) (u : Ty) → Typed t e u → pass t e ≡ Ok d → Typed t d u
 typed-after pass p t e d u k h =
     let m = typed-made t (pass t e) k.ty d (narrowed pass p t e k.ty k.is) h in
     record { ty = m.ty; is = m.is; narrow = narrow-then m.ty k.ty u m.narrow k.narrow }

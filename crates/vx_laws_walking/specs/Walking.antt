@@ -51,12 +51,19 @@ abbrev pub givings_by_head : Ty → Trees → Result (List Giving) Refusal
 givings_by_head t no_trees = Ok []
 givings_by_head t (tree e es) = and_then (giving_by_head t e) (λ g. and_then (givings_by_head t es) (λ gs. Ok (g ∷ gs)))
 
--- the step of the walk at a node whose children are walked: a select or a merge becomes a pack, of whose fields those straight on packs
--- are at once the packs' values; a field straight on a pack becomes the pack's value
+-- a select as such a pack, its fields straight on a pack at once that pack's values
+abbrev pub walked_select : Ty → FieldSelection → Tree → Result Tree Refusal
+walked_select t s e = and_then (and_then (head_of t e) (select_by_head s e)) pack_taken
+
+-- a merge as a pack of what its structs give, its fields straight on packs at once those packs' values
+abbrev pub walked_merge : Ty → Trees → Nullability → Result Tree Refusal
+walked_merge t es n = and_then (givings_by_head t es) (λ gs. pack_taken (givings_pack n gs))
+
+-- the step of the walk: what becomes of a node whose children are walked
 abbrev pub walked_node : Ty → Tree → Result Tree Refusal
 walked_node t (get_item f e) = field_of_pack (get_item f e)
-walked_node t (select s e) = and_then (and_then (head_of t e) (select_by_head s e)) pack_taken
-walked_node t (merge es n) = and_then (givings_by_head t es) (λ gs. pack_taken (givings_pack n gs))
+walked_node t (select s e) = walked_select t s e
+walked_node t (merge es n) = walked_merge t es n
 walked_node t e = Ok e
 
 -- the expression over the scope's type, walked
