@@ -16,7 +16,7 @@ use Rattle.vx_laws_simplifying.proofs.Passes.{MakesKept, passes-then}
 use Rattle.vx_laws_removing.proofs.Removed.{without_select-kept, without_merge-kept}
 use Rattle.vx_laws_walking.specs.Walking.{walked_node, passed}
 use Rattle.vx_laws_walking.proofs.Walked.{Typed, narrowed, typed-made, walk_makes_the_passes}
-use Rattle.vx_laws_sizes.specs.Sizes.{width_of, struct_depth, greatest, most_fields, greatest_depth, SimplifiedStaysSmall}
+use Rattle.vx_laws_sizes.specs.Sizes.{width_of, struct_depth, greatest_of, most_fields, greatest_depth, SimplifiedStaysSmall}
 use Rattle.vx_laws_sizes.proofs.Counted.{weight, size, Each, weight-count, size-count}
 use Rattle.vx_laws_sizes.proofs.Slim.{Slim, Within}
 use Rattle.vx_laws_sizes.proofs.Leaning.{sized}
@@ -33,7 +33,7 @@ slim-below w d (int_ty p n) h k = tt
 slim-below w d (text_ty n) h k = tt
 slim-below w d (list_ty e n) h k = tt
 
-met : (w d : ℕ) (t : Ty) (ns : List Tree) → greatest width_of (map (λ n. type_or_empty (typed_of t n)) ns) ≤ w → greatest struct_depth (map (λ n. type_or_empty (typed_of t n)) ns) ≤ d
+met : (w d : ℕ) (t : Ty) (ns : List Tree) → greatest_of width_of (map (λ n. type_or_empty (typed_of t n)) ns) ≤ w → greatest_of struct_depth (map (λ n. type_or_empty (typed_of t n)) ns) ≤ d
     → Each (Within w d t) ns
 met w d t [] h k = tt
 met w d t (n ∷ ns) h k =

@@ -22,16 +22,16 @@ abbrev pub types_met : Ty → Tree → List Ty
 types_met t e = t ∷ map (λ n. type_or_empty (typed_of t n)) (nodes_of e)
 
 -- the greatest of a list's measures, 0 where it is empty
-abbrev pub greatest : (Ty → ℕ) → List Ty → ℕ
-greatest measure [] = 0
-greatest measure (t ∷ ts) = max (measure t) (greatest measure ts)
+abbrev pub greatest_of : (Ty → ℕ) → List Ty → ℕ
+greatest_of measure [] = 0
+greatest_of measure (t ∷ ts) = max (measure t) (greatest_of measure ts)
 
 -- the most fields of a struct type that typing the expression meets, and the greatest depth of one
 abbrev pub most_fields : Ty → Tree → ℕ
-most_fields t e = greatest width_of (types_met t e)
+most_fields t e = greatest_of width_of (types_met t e)
 
 abbrev pub greatest_depth : Ty → Tree → ℕ
-greatest_depth t e = greatest struct_depth (types_met t e)
+greatest_depth t e = greatest_of struct_depth (types_met t e)
 
 -- how many nodes an expression has
 abbrev pub node_count : Tree → ℕ

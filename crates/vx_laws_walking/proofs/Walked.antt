@@ -36,7 +36,7 @@ use Rattle.vx_laws_simplifying.proofs.Passes.{MakesKept, some_row, some_row-fits
 use Rattle.vx_laws_simplifying.proofs.PackedFields.{without_packed_fields-kept}
 use Rattle.vx_laws_removing.proofs.Loosened.{loosened}
 use Rattle.vx_laws_removing.proofs.Removed.{without_select-kept, without_merge-kept}
-use Rattle.vx_laws_walking.specs.Walking.{WalkMakesThePasses, StructHead, head_in, head_of, fields_taken, pack_taken, select_by_head, givings_by_head, walked_node}
+use Rattle.vx_laws_walking.specs.Walking.{WalkMakesThePasses, WalkedStructsKeepNames, StructHead, head_in, head_of, fields_taken, pack_taken, select_by_head, givings_by_head, walked_node, walked}
 
 -- ---- types after each pass
 
@@ -552,3 +552,17 @@ walk_makes_the_passes t e u h =
     let w = walks-typed t e u h in
     w.walks ∙ sym (ap (λ (r : Result Tree Refusal). and_then r (λ d. and_then (without_merge t d) without_packed_fields)) w.selects
     ∙ (ap (λ (r : Result Tree Refusal). and_then r without_packed_fields) w.merges ∙ w.packs))
+
+pub walked_structs_keep_names : WalkedStructsKeepNames
+walked_structs_keep_names t e d fs n h r =
+    let w = walks-typed t e (struct_ty fs n) h in
+    let same : w.n ≡ d = Ok-same (walked t e) w.n d w.walks r in
+    let k = (types-of t e (struct_ty fs n) h w).packed in
+    let b = struct-like k.ty fs n k.narrow in
+    let head : head_of t w.n ≡ Ok (record { names = field_names b.fields; nullability = b.nullability })
+    = head-typed t w.n b.fields b.nullability (k.is ∙ ap (λ (z : Ty). Ok z) b.is) in (
+      loosened t e (struct_ty fs n) h,
+      record { names = field_names b.fields; nullability = b.nullability },
+      subst (λ (z : Tree). head_of t z ≡ Ok (record { names = field_names b.fields; nullability = b.nullability })) same head,
+      b.names_same,
+    )

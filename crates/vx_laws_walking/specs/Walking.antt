@@ -1,7 +1,7 @@
 -- One walk from the leaves up that does the work of three passes: selects and merges become packs, and fields straight on packs their values.
 use Rattle.std.specs.Prelude.{◌≡◌, List, [], ◌∷◌, not, Result, Ok, Err}
 use Rattle.vx_dtype.specs.declared.Nullability.{Nullability}
-use Rattle.vx_dtype.specs.Types.{Bytes, Ty, struct_ty}
+use Rattle.vx_dtype.specs.Types.{Bytes, Ty, struct_ty, Fields}
 use Rattle.vx_dtype.specs.TypeRules.{is_nullable, field_names}
 use Rattle.vx_expr.specs.declared.FieldSelection.{FieldSelection}
 use Rattle.vx_expr.specs.Selections.{names_where_known}
@@ -77,3 +77,9 @@ passed t e = and_then (without_select t e) (λ d. and_then (without_merge t d) w
 -- of a strictly typed expression the walk makes what the passes make
 abbrev pub WalkMakesThePasses : Type 0
 WalkMakesThePasses = (t : Ty) (e : Tree) (u : Ty) → typed_of t e ≡ Ok u → walked t e ≡ passed t e
+
+-- a walked struct has the names that its type had as it stood, by either typing: they are what the walk asks at a select or a merge above
+abbrev pub WalkedStructsKeepNames : Type 0
+WalkedStructsKeepNames =
+    (t : Ty) (e d : Tree) (fs : Fields) (n : Nullability) → typed_of t e ≡ Ok (struct_ty fs n) → walked t e ≡ Ok d
+    → (loosely_typed t e ≡ Ok (struct_ty fs n)) × (head : StructHead) × (head_of t d ≡ Ok head) × (head.names ≡ field_names fs)

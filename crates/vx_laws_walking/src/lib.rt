@@ -3,4 +3,4 @@
 
 mod walking;
 
-pub use walking::walk_makes_the_passes;
+pub use walking::{walk_makes_the_passes, walked_structs_keep_names};

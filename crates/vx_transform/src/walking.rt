@@ -3,10 +3,8 @@ ghost use Rattle.std.specs.Prelude.{◌≡◌, map, IfOk, IfSome, Ok};
 ghost use Rattle.vx_dtype.specs.TypeViews.{type_view};
 ghost use Rattle.vx_expr.specs.Nodes.{select_fields, select_child};
 ghost use Rattle.vx_expr.specs.Trees.{trees_of, children_of};
-ghost use Rattle.vx_semantics.specs.Typing.{and_then};
 ghost use Rattle.vx_passes.specs.Simplifying.{field_of_pack};
-ghost use Rattle.vx_passes.specs.Merging.{givings_pack};
-ghost use Rattle.vx_laws_walking.specs.Walking.{pack_taken, head_of, select_by_head, giving_by_head, givings_by_head, walked_node, walked, passed};
+ghost use Rattle.vx_laws_walking.specs.Walking.{giving_by_head, givings_by_head, walked_select, walked_merge, walked_node, walked, passed};
 ghost use Rattle.vx_transform.specs.CodeViews.{giving_view};
 ghost use Rattle.vx_transform.specs.Rebuilds.{children_taken};
 ghost use Rattle.vx_transform.specs.TransformAnswers.{AnswersBy, AnswersTree};
@@ -73,7 +71,7 @@ impl Step for WalkedNode<'_> {
 
 /// A select as a pack, its fields straight on a pack at once that pack's values.
 fn walked_select(alloc: Global, node: &SelectExpr, scope: &DType) -> Result<ExprRef, TransformError>
-    ensures { AnswersTree (and_then (and_then (head_of (type_view scope.now) (select_child node.now)) (select_by_head (select_fields node.now) (select_child node.now))) pack_taken) result }
+    ensures { AnswersTree (walked_select (type_view scope.now) (select_fields node.now) (select_child node.now)) result }
 {
     let head = head_of(alloc, node.child(), scope)?;
     let pack = selected_pack(alloc, node, &head.names, head.nullability)?;
@@ -87,7 +85,7 @@ fn walked_merge(
     nullability: Nullability,
     scope: &DType,
 ) -> Result<ExprRef, TransformError>
-    ensures { AnswersTree (and_then (givings_by_head (type_view scope.now) (trees_of (children_of node.now))) (λ gs. pack_taken (givings_pack nullability gs))) result }
+    ensures { AnswersTree (walked_merge (type_view scope.now) (trees_of (children_of node.now)) nullability) result }
 {
     let given = givings_by_head(alloc, node, scope)?;
     let pack = givings_pack(alloc, given.as_slice(), nullability)?;

@@ -43,14 +43,23 @@ fn six_columns(alloc: Global) -> Mem<ExprRef> {
     vx_build::pack(alloc, elements, Nullability::NonNullable)
 }
 
+/// Selects of all columns of the row, this many in one another.
+fn selects(alloc: Global, levels: usize) -> Mem<ExprRef> {
+    let mut selected = vx_build::root(alloc)?;
+    for _ in 0..levels {
+        selected = vx_build::select(alloc, names(alloc, COLUMNS.as_slice())?, selected)?;
+    }
+    Ok(selected)
+}
+
 #[test]
 fn nested_selects(rt: HostRuntime) -> Result<(), Fail> {
     let alloc = rt.alloc();
-    let mut selected = vx_build::root(alloc)?;
-    for _ in 0..12 {
-        selected = vx_build::select(alloc, names(alloc, COLUMNS.as_slice())?, selected)?;
+    let scope = columns(alloc)?;
+    for levels in [12, 254] {
+        let made = simplify_typed(alloc, selects(alloc, levels)?, &scope)?;
+        assert!(rt; made == six_columns(alloc)?);
     }
-    assert!(rt; simplify_typed(alloc, selected, &columns(alloc)?)? == six_columns(alloc)?);
     Ok(())
 }
 
