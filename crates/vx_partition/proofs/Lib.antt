@@ -4,3 +4,4 @@ mod ScopeLemmas
 mod ShareLemmas
 mod TakeLemmas
 mod SplitLemmas
+mod NamedLemmas

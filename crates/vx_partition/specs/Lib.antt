@@ -3,8 +3,10 @@ pub mod Visits
 pub mod Scopes
 pub mod Takings
 pub mod Splits
+pub mod SplitTexts
 pub use Rattle.vx_dtype.specs.TypeViews
 pub use Rattle.vx_semantics.specs.Typing
 pub use Rattle.vx_passes.specs.Annotating
 pub use Rattle.vx_passes.specs.Splitting
+pub use Rattle.vx_expr.specs.CompactTexts
 pub use Rattle.vx_transform.specs.TransformAnswers

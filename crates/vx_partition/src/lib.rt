@@ -7,6 +7,7 @@ mod annotations;
 mod partitions;
 mod scope_access;
 mod shares;
+mod split_texts;
 mod splitting;
 mod taking;
 
