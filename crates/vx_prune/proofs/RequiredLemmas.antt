@@ -145,7 +145,7 @@ behind false true = refl
 behind false false = refl
 
 -- both equalities of statistics tell the same
-same_kinds : stat_eq.ghosts.eq ≡ same_stat
+pub same_kinds : stat_eq.ghosts.eq ≡ same_stat
 same_kinds = λ i a b. kinds a b i
 
 module _ {S T : Type 0} where

@@ -18,4 +18,4 @@ pub use analysis::AnalysisExpr;
 pub use catalogs::{ScopeStatsCatalog, StatsCatalog, TrackingStatsCatalog};
 pub use joined_names::field_path_stat_field_name;
 pub use pruning::checked_pruning_expr;
-pub use relations::{Relation, RequiredStats};
+pub use relations::{Relation, RequiredStats, is_required};

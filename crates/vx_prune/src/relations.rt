@@ -1,6 +1,7 @@
 // Relations between keys and values: which values stand beside a key.
 ghost use Rattle.std.specs.Prelude.{◌≡◌, ◌&&◌, ◌||◌, false, OnOk, OnErr};
 ghost use Rattle.vx_prune.specs.Relations.{has_pair, relation_map};
+ghost use Rattle.vx_prune.specs.Required.{is_required};
 
 use std::alloc::Global;
 use std::collections::{HashMap, HashSet};
@@ -40,6 +41,16 @@ impl<K: Eq + Hash, V: Eq + Hash> Relation<K, V> {
         Ok(())
     }
 
+    /// Whether the value stands beside the key.
+    pub fn contains(&self, k: &K, v: &V) -> bool
+        ensures { result ≡ has_pair K.eq V.eq (relation_map self.now) k.now v.now }
+    {
+        match self.map.get(k) {
+            Some(values) => values.contains(v),
+            None => false,
+        }
+    }
+
     /// The map from keys to the sets of values beside them.
     pub fn map(&self) -> &HashMap<K, HashSet<V>>
         ensures { result.now ≡ relation_map self.now }
@@ -53,4 +64,11 @@ impl<K: Eq + Hash, V: Eq + Hash> Relation<K, V> {
     {
         Relation { map }
     }
+}
+
+/// Whether a statistic of a path is among those that are required.
+pub fn is_required(required: &RequiredStats, path: &FieldPath, stat: Stat) -> bool
+    ensures { result ≡ is_required required.now (path.now, stat) }
+{
+    required.contains(path, &stat)
 }
