@@ -95,6 +95,13 @@ impl PreparedExpr {
         &self.columns
     }
 
+    /// The simplified expression in parts, one for each of these columns, and the root that puts together what they give.
+    pub fn split(&self) -> &PartitionedExpr<FieldName>
+        ensures { result.now ≡ self.now.split }
+    {
+        &self.split
+    }
+
     /// The column of the expression over so many rows of a table of which these are the columns named by [`PreparedExpr::columns`], in
     /// their order: the expression's meaning at each row. Its type is the strict one, or one that is less nullable.
     ///
