@@ -2,7 +2,7 @@
 use Rattle.std.proofs.Common.{◌≡◌, refl, ap, ◌∙◌, Bool, true, false, cond, not, Option, Some, None, Result, Ok, Err, subst}
 use Rattle.vx_dtype.specs.TypeRules.{fields_of, is_bool_ty, no_name_twice}
 use Rattle.vx_dtype.specs.TypeViews.{type_view}
-use Rattle.vx_dtype.specs.Types.{Ty}
+use Rattle.vx_dtype.specs.Types.{Ty, Fields}
 use Rattle.vx_expr.specs.Trees.{Tree}
 use Rattle.vx_semantics.specs.Meaning.{Slots}
 use Rattle.vx_semantics.specs.Slots.{slots_fit}
@@ -14,7 +14,8 @@ use Rattle.vx_zones.specs.declared.errors.ZoneError.{ZoneError}
 use Rattle.vx_zones.specs.declared.errors.ZoneError.TheVariants as zone_errors
 use Rattle.vx_prepare.specs.declared.prepared.PreparedExpr.{PreparedExpr}
 use Rattle.vx_scan.specs.Scanning.{on_side, after_filter, scan_type}
-use Rattle.vx_scan.specs.Steps.{PreparesSide, PreparesScan, IsPreparedScan}
+use Rattle.vx_scan.specs.Opening.{ArePrepared, PreparesBoth}
+use Rattle.vx_scan.specs.Steps.{PreparesSide, IsPreparedScan}
 use Rattle.vx_scan.specs.declared.errors.Side.{Side}
 use Rattle.vx_scan.specs.declared.errors.Side.TheVariants.{Filter, Projection}
 use Rattle.vx_scan.specs.declared.errors.ScanError.{ScanError}
@@ -66,26 +67,32 @@ scan_typed zones slots f p scan h =
     filter_bool t slots f p (type_view scan.filter.dtype) h.filter.typed h.boolean
     ∙ ap (on_side Projection) h.projection.typed
 
--- a side that is refused refuses the scan
-pub side_refuses : (zones : Zones) (slots : Slots) (f p g : Tree) (side : Side) (e : ScanError)
-    → (on_side side (checked_type (row_type zones.columns) slots g) ≡ Err e → scan_type (row_type zones.columns) slots f p ≡ Err e)
-    → PreparesSide zones.columns slots side g (Err e) → PreparesScan zones slots f p (Err e)
-side_refuses zones slots f p g side errors.NoMemory k h = tt
-side_refuses zones slots f p g side errors.Overflow k h = h
-side_refuses zones slots f p g side errors.BadCast k h = h
-side_refuses zones slots f p g side errors.StoreFault k h = h
-side_refuses zones slots f p g side (errors.BadWire s) k h = k h
-side_refuses zones slots f p g side (errors.TooDeep s) k h = k h
-side_refuses zones slots f p g side (errors.TooManyNodes s) k h = k h
-side_refuses zones slots f p g side (errors.UnknownExpr s) k h = k h
-side_refuses zones slots f p g side (errors.BadMetadata s) k h = k h
-side_refuses zones slots f p g side (errors.WrongChildren s) k h = k h
-side_refuses zones slots f p g side (errors.NotStruct s) k h = k h
-side_refuses zones slots f p g side (errors.NullableSelect s) k h = k h
-side_refuses zones slots f p g side (errors.UnknownField s) k h = k h
-side_refuses zones slots f p g side (errors.DuplicateField s) k h = k h
-side_refuses zones slots f p g side (errors.TypeMismatch s) k h = k h
-side_refuses zones slots f p g side errors.FilterNotBool k h = k h
+-- and of both expressions that are prepared
+pub both_typed : (fs : Fields) (slots : Slots) (f p : Tree) (both : PreparedExpr × PreparedExpr) → ArePrepared fs slots f p both
+    → scan_type (row_type fs) slots f p ≡ Ok (type_view both.1.dtype)
+both_typed fs slots f p both h =
+    filter_bool (row_type fs) slots f p (type_view both.0.dtype) h.filter.typed h.boolean ∙ ap (on_side Projection) h.projection.typed
+
+-- a side that is refused refuses both
+pub side_refuses : (fs : Fields) (slots : Slots) (f p g : Tree) (side : Side) (e : ScanError)
+    → (on_side side (checked_type (row_type fs) slots g) ≡ Err e → scan_type (row_type fs) slots f p ≡ Err e)
+    → PreparesSide fs slots side g (Err e) → PreparesBoth fs slots f p (Err e)
+side_refuses fs slots f p g side errors.NoMemory k h = tt
+side_refuses fs slots f p g side errors.Overflow k h = h
+side_refuses fs slots f p g side errors.BadCast k h = h
+side_refuses fs slots f p g side errors.StoreFault k h = h
+side_refuses fs slots f p g side (errors.BadWire s) k h = k h
+side_refuses fs slots f p g side (errors.TooDeep s) k h = k h
+side_refuses fs slots f p g side (errors.TooManyNodes s) k h = k h
+side_refuses fs slots f p g side (errors.UnknownExpr s) k h = k h
+side_refuses fs slots f p g side (errors.BadMetadata s) k h = k h
+side_refuses fs slots f p g side (errors.WrongChildren s) k h = k h
+side_refuses fs slots f p g side (errors.NotStruct s) k h = k h
+side_refuses fs slots f p g side (errors.NullableSelect s) k h = k h
+side_refuses fs slots f p g side (errors.UnknownField s) k h = k h
+side_refuses fs slots f p g side (errors.DuplicateField s) k h = k h
+side_refuses fs slots f p g side (errors.TypeMismatch s) k h = k h
+side_refuses fs slots f p g side errors.FilterNotBool k h = k h
 
 -- what is prepared over the rows of zones
 pub side_of : (zones : Zones) (t : Ty) (slots : Slots) (side : Side) (g : Tree) (result : Result PreparedExpr ScanError) → t ≡ row_type zones.columns → PreparesSide (fields_of t) slots side g result → PreparesSide zones.columns slots side g result

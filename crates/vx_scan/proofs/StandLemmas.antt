@@ -13,7 +13,8 @@ use Rattle.vx_scan.specs.Texts.{SpellsTree}
 use Rattle.vx_scan.specs.Scanning.{scan_type, IsScanOf, IsUnspelled, IsReport}
 use Rattle.vx_scan.specs.Reports.{Report}
 use Rattle.vx_scan.specs.Runs.{IsScannedTo, RunsBlock}
-use Rattle.vx_scan.specs.Steps.{Decodes, IsPreparedScan, PreparesScan, StandsAt}
+use Rattle.vx_scan.specs.Opening.{Decodes}
+use Rattle.vx_scan.specs.Steps.{IsPreparedScan, PreparesScan, StandsAt}
 use Rattle.vx_scan.specs.declared.errors.Side.TheVariants.{Filter, Projection}
 use Rattle.vx_scan.specs.declared.errors.ScanError.{ScanError}
 use Rattle.vx_scan.specs.declared.errors.ScanError.TheVariants as errors

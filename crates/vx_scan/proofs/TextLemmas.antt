@@ -27,7 +27,7 @@ one_read : (bytes : Bytes) (a b : Wire) → IsRead bytes a → IsRead bytes b �
 one_read bytes a b p q =
     (one_node a b [] [] p.spelled.spellable q.spelled.spellable (ap (λ (x : Bytes). x ++ []) (sym p.spelled.spelled ∙ q.spelled.spelled))).0
 
-one_spelled : (holds : ExprEncoding → Bool) (bytes : Bytes) (a b : Tree) → SpellsTree holds bytes a → SpellsTree holds bytes b → a ≡ b
+pub one_spelled : (holds : ExprEncoding → Bool) (bytes : Bytes) (a b : Tree) → SpellsTree holds bytes a → SpellsTree holds bytes b → a ≡ b
 one_spelled holds bytes a b p q =
     let same : p.0 ≡ q.0 = one_read bytes p.0 q.0 p.1 q.1 in
     one_built holds q.0 a b (subst (λ (w : Wire). IsBuilt holds w a) same p.2) q.2
@@ -38,7 +38,7 @@ spelled_is_built holds bytes e why n s u =
     let same : s.0 ≡ u.0 = one_read bytes s.0 u.0 s.1 u.1 in
     never_both holds u.0 e why (subst (λ (w : Wire). IsBuilt holds w e) same s.2) n u.2
 
-spelled_is_taken : (holds : ExprEncoding → Bool) (side : Side) (bytes : Bytes) (e : Tree) (why : ScanError) → SpellsTree holds bytes e → ¬ (IsTextRefused holds side bytes why)
+pub spelled_is_taken : (holds : ExprEncoding → Bool) (side : Side) (bytes : Bytes) (e : Tree) (why : ScanError) → SpellsTree holds bytes e → ¬ (IsTextRefused holds side bytes why)
 spelled_is_taken holds side bytes e (errors.BadWire z) s h = h.1.no_tree s.0 s.1.spelled
 spelled_is_taken holds side bytes e (errors.TooDeep z) s h = s.1.not_deep h.1
 spelled_is_taken holds side bytes e (errors.TooManyNodes z) s h = s.1.not_many h.1
@@ -200,7 +200,7 @@ why_of holds side bytes errors.Overflow h = absurd h
 why_of holds side bytes errors.BadCast h = absurd h
 why_of holds side bytes errors.StoreFault h = absurd h
 
-one_refusal_of : (holds : ExprEncoding → Bool) (side : Side) (bytes : Bytes) (d e : ScanError) → IsTextRefused holds side bytes d → IsTextRefused holds side bytes e → d ≡ e
+pub one_refusal_of : (holds : ExprEncoding → Bool) (side : Side) (bytes : Bytes) (d e : ScanError) → IsTextRefused holds side bytes d → IsTextRefused holds side bytes e → d ≡ e
 one_refusal_of holds side bytes d e h k =
     let a = why_of holds side bytes d h in
     let b = why_of holds side bytes e k in

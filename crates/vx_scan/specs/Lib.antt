@@ -5,9 +5,11 @@ pub mod StoreCodes
 pub mod StoreAnswers
 pub mod Texts
 pub mod Scanning
+pub mod Opening
 pub mod Runs
 pub mod Steps
 pub mod Reports
 pub mod ScanLaws
 pub mod Cutting
 pub mod RowCodes
+pub use Rattle.vx_prepare.specs.Preparing

@@ -1,6 +1,6 @@
 -- For the checker: no public clause cites this.
--- What the steps of a scan answer: texts that are decoded, expressions that are prepared, and of a block its reads, its truths and its rows.
-use Rattle.std.specs.Prelude.{◌≡◌, ℕ, ◌≤◌, Bool, true, false, not, List, [], ◌∷◌, ◌++◌, map, length, Some, Result, Ok, Err}
+-- What the steps of a scan answer: expressions that are prepared, and of a block its reads, its truths and its rows.
+use Rattle.std.specs.Prelude.{◌≡◌, ℕ, ◌≤◌, true, false, not, List, [], ◌∷◌, ◌++◌, map, length, Some, Result, Ok, Err}
 use Rattle.std.specs.List.{AllZip, filter, list_any, slice_get}
 use Rattle.vx_dtype.specs.Types.{Bytes, Ty, Fields}
 use Rattle.vx_dtype.specs.TypeRules.{has_name, is_bool_ty, no_name_twice}
@@ -15,12 +15,10 @@ use Rattle.vx_semantics.specs.Asked.{some_asked_breaks}
 use Rattle.vx_semantics.specs.Tables.{Table, Zones, row_type}
 use Rattle.vx_eval.specs.Evaluating.{checked_type}
 use Rattle.vx_io.specs.Counts.{one_more}
-use Rattle.vx_wire.specs.declared.encodings.ExprEncoding.{ExprEncoding}
 use Rattle.vx_prepare.specs.Preparing.{IsPrepared, asked_breaks_by}
 use Rattle.vx_prepare.specs.declared.prepared.PreparedExpr.{PreparedExpr}
 use Rattle.vx_block_pruning.specs.BlocksRuledOut.{blocks_ruled_out}
 use Rattle.vx_scan.specs.Stores.{Read, Seen, WhereTold, IsColumnOf}
-use Rattle.vx_scan.specs.Texts.{SpellsTree, IsTextRefused}
 use Rattle.vx_scan.specs.Scanning.{on_side, scan_type, asks_breaking, IsScanOf}
 use Rattle.vx_scan.specs.Runs.{Runs, IsScannedTo}
 use Rattle.vx_scan.specs.declared.errors.Side.{Side}
@@ -29,12 +27,6 @@ use Rattle.vx_scan.specs.declared.errors.ScanError.TheVariants as errors
 use Rattle.vx_scan.specs.declared.preparing.PreparedScan.{PreparedScan}
 use Rattle.vx_scan.specs.declared.filtering.FilteredBlock.{FilteredBlock}
 use Rattle.vx_scan.specs.declared.scans.Found.{Found}
-
--- a text spells the expression, or is refused; want of memory may come at any time
-abbrev pub Decodes : (ExprEncoding → Bool) → Side → Bytes → Result Tree ScanError → Type 0
-Decodes holds side bytes (Ok e) = SpellsTree holds bytes e
-Decodes holds side bytes (Err errors.NoMemory) = Unit {0}
-Decodes holds side bytes (Err why) = IsTextRefused holds side bytes why
 
 -- the expression of a side is prepared, or the refusal is that of its typing
 abbrev pub PreparesSide : Fields → Slots → Side → Tree → Result PreparedExpr ScanError → Type 0

@@ -1,18 +1,20 @@
 // The expressions that the two byte texts of a scan spell.
-ghost use Rattle.std.specs.Prelude.{◌≡◌};
 ghost use Rattle.vx_dtype.specs.Types.{Bytes};
 ghost use Rattle.vx_wire_text.specs.ReadAnswers.{IsRead};
 ghost use Rattle.vx_wire_text.specs.WireViews.{tree_view};
 ghost use Rattle.vx_wire.specs.Registries.{registered};
-ghost use Rattle.vx_scan.specs.Steps.{Decodes};
+ghost use Rattle.vx_scan.specs.Opening.{Decodes};
 
 use crate::errors::{ScanError, Side};
 use std::alloc::Global;
 use vx_expr::ExprRef;
 use vx_wire::{BuildError, ExprRegistry, WireError, WireTree, deserialize_expr_proto, read_tree};
 
-/// The expression that a byte text of this side spells. The text's refusal comes before that of the tree that it spells.
-pub(crate) fn decode(
+/// The expression that a byte text of this side spells, of kinds that the registry holds.
+///
+/// Refuses first for the text, with BadWire, TooDeep or TooManyNodes, and then for the tree that it spells, with UnknownExpr,
+/// BadMetadata or WrongChildren, each with the side; else only with NoMemory.
+pub fn decode_expr(
     alloc: Global,
     registry: &ExprRegistry,
     bytes: &[u8],

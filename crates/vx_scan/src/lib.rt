@@ -14,6 +14,7 @@ mod scans;
 mod stores;
 mod tables;
 
+pub use decoding::decode_expr;
 pub use errors::{ScanError, Side, StoreError, TableError};
 pub use laws::{
     faultless_stores_count_no_fault, honest_scans_are_whole, reads_are_asked, refused_scans_refuse,
@@ -21,6 +22,7 @@ pub use laws::{
     unbroken_scans_report,
 };
 pub use memory_store::MemoryStore;
+pub use preparing::prepare_both;
 pub use reports::{BlockNumbers, RowValues, ScanReport};
 pub use scans::{scan, scan_exprs};
 pub use stores::{ColumnStore, ReadEntry};

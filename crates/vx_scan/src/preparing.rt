@@ -3,6 +3,7 @@ ghost use Rattle.std.specs.Prelude.{◌≡◌};
 ghost use Rattle.vx_dtype.specs.TypeRules.{fields_of, is_bool_ty};
 ghost use Rattle.vx_dtype.specs.TypeViews.{type_view};
 ghost use Rattle.vx_semantics.specs.Tables.{row_type};
+ghost use Rattle.vx_scan.specs.Opening.{PreparesBoth};
 ghost use Rattle.vx_scan.specs.Steps.{PreparesSide, PreparesScan};
 
 use crate::errors::{ScanError, Side};
@@ -22,9 +23,8 @@ pub(crate) struct PreparedScan {
     pub(crate) ruled_out: Vec<bool>,
 }
 
-/// The scan of two expressions over a table with these statistics, ready for its first block. The refusal is the first of: that of the
-/// filter's typing and of its slots, that the filter is no boolean, that of the projection's typing and of its slots. The blocks are ruled
-/// out by the filter as it was given: what simplifying makes of it may rule out others.
+/// The scan of two expressions over a table with these statistics, ready for its first block, or the refusal of [`prepare_both`]. The blocks
+/// are ruled out by the filter as it was given: what simplifying makes of it may rule out others.
 pub(crate) fn prepare_scan(
     alloc: Global,
     filter: &ExprRef,
@@ -34,18 +34,35 @@ pub(crate) fn prepare_scan(
 ) -> Result<PreparedScan, ScanError>
     ensures { PreparesScan zones.now slots.now filter.now projection.now result }
 {
-    let scope = zones.dtype();
+    let both = prepare_both(alloc, filter, projection, slots, zones.dtype())?;
+    let flags = ruled_out(alloc, zones, filter, slots)?;
+    Ok(PreparedScan {
+        filter: both.0,
+        projection: both.1,
+        ruled_out: flags,
+    })
+}
+
+/// A filter and a projection over rows of this type, ready to be evaluated. The type is a struct that isn't nullable.
+///
+/// The refusal is the first of: that of the filter's typing and of its slots, FilterNotBool where its type is no boolean, that of the
+/// projection's typing and of its slots. NoMemory comes also where a simplified expression has 2 ^ 64 nodes or more.
+pub fn prepare_both(
+    alloc: Global,
+    filter: &ExprRef,
+    projection: &ExprRef,
+    slots: &[Option<Scalar>],
+    scope: &DType,
+) -> Result<(PreparedExpr, PreparedExpr), ScanError>
+    requires rows { type_view scope.now ≡ row_type (fields_of (type_view scope.now)) }
+    ensures { PreparesBoth (fields_of (type_view scope.now)) slots.now filter.now projection.now result }
+{
     let prepared_filter = prepare_side(alloc, filter, scope, slots, Side::Filter)?;
     if !is_boolean(prepared_filter.dtype()) {
         return Err(ScanError::FilterNotBool);
     }
     let prepared_projection = prepare_side(alloc, projection, scope, slots, Side::Projection)?;
-    let flags = ruled_out(alloc, zones, filter, slots)?;
-    Ok(PreparedScan {
-        filter: prepared_filter,
-        projection: prepared_projection,
-        ruled_out: flags,
-    })
+    Ok((prepared_filter, prepared_projection))
 }
 
 /// The expression of a side, ready to be evaluated. Its refusal of typing tells the side.

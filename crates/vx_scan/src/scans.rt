@@ -11,7 +11,7 @@ ghost use Rattle.vx_scan.specs.Runs.{IsScannedTo};
 ghost use Rattle.vx_scan.specs.Steps.{IsPreparedScan, StandsAt, EndsBlocks};
 
 use crate::block_scans::scan_block;
-use crate::decoding::decode;
+use crate::decoding::decode_expr;
 use crate::errors::{ScanError, Side};
 use crate::preparing::{PreparedScan, prepare_scan};
 use crate::reports::{BlockNumbers, RowValues, ScanReport};
@@ -45,8 +45,8 @@ pub fn scan<S: ColumnStore>(
     ensures ends { IsScan (registered registry.now) filter.now projection.now (S.seen store.old) (S.seen store.new) result }
     ensures fit { IfOk result (λ report. raws_fit (type_view report.dtype) report.rows ≡ true) }
 {
-    let filter_expr = decode(alloc, registry, filter, Side::Filter)?;
-    let projection_expr = decode(alloc, registry, projection, Side::Projection)?;
+    let filter_expr = decode_expr(alloc, registry, filter, Side::Filter)?;
+    let projection_expr = decode_expr(alloc, registry, projection, Side::Projection)?;
     let slots: Vec<Option<Scalar>> = Vec::new(alloc);
     scan_exprs(
         alloc,
