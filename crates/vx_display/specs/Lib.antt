@@ -2,3 +2,4 @@ pub mod RowTexts
 pub mod ValueTexts
 pub mod TreeTexts
 pub mod TreeLines
+pub mod Spaced

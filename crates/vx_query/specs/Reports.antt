@@ -1,17 +1,13 @@
 -- The text of a report.
-use Rattle.std.specs.Prelude.{ℕ, List, [], ◌∷◌, ◌++◌, length, map, codes, decimal}
-use Rattle.std.specs.List.{flat_map, join_by}
+use Rattle.std.specs.Prelude.{ℕ, List, ◌++◌, length, map, codes, decimal}
+use Rattle.std.specs.List.{flat_map}
 use Rattle.vx_dtype.specs.Texts.{quoted_text}
 use Rattle.vx_dtype.specs.Types.{Bytes}
+use Rattle.vx_display.specs.Spaced.{spaced}
 
 -- a text as a line
 abbrev pub line : Bytes → Bytes
 line text = text ++ codes "\n"
-
--- texts with a space between, or `-` where there are none
-abbrev pub spaced : List Bytes → Bytes
-spaced [] = codes "-"
-spaced (t ∷ ts) = join_by (λ u. u) (codes " ") (t ∷ ts)
 
 -- the report of the texts of rows, the numbers of the blocks that were skipped, the names of the columns that were read, and the number of reads
 abbrev pub report_text : List Bytes → List ℕ → List Bytes → ℕ → Bytes

@@ -1,11 +1,12 @@
 // The text of a report.
-ghost use Rattle.std.specs.Prelude.{◌≡◌, ◌++◌, codes, decimal, map, IfOk};
+ghost use Rattle.std.specs.Prelude.{◌≡◌, decimal, map, IfOk};
 ghost use Rattle.std.specs.List.{flat_map};
 ghost use Rattle.std.specs.String.{string_bytes};
 ghost use Rattle.vx_dtype.specs.Texts.{quoted_text};
-ghost use Rattle.vx_query.specs.Reports.{line, spaced, report_text};
+ghost use Rattle.vx_query.specs.Reports.{line, report_text};
 
 use std::alloc::Global;
+use vx_display::spaced;
 use vx_dtype::{FieldName, Mem, Quoted};
 
 /// The text of texts, each as a line.
@@ -18,28 +19,6 @@ fn lines_text(alloc: Global, texts: &[String]) -> Mem<String>
         lines.push_str("\n")?;
     }
     Ok(lines)
-}
-
-/// A text with others behind it, each behind a space.
-fn with_others(alloc: Global, first: &str, others: &[String]) -> Mem<String>
-    ensures { IfOk result (λ text. string_bytes text ≡ first.now ++ flat_map (λ t. codes " " ++ t) (map string_bytes others.now)) }
-{
-    let mut line = String::from_str(alloc, first)?;
-    for text in others {
-        line.push_str(" ")?;
-        line.push_str(text.as_str())?;
-    }
-    Ok(line)
-}
-
-/// Texts with a space between, or `-` where there are none.
-fn spaced(alloc: Global, texts: &[String]) -> Mem<String>
-    ensures { IfOk result (λ text. string_bytes text ≡ spaced (map string_bytes texts.now)) }
-{
-    match texts {
-        [] => Ok(String::from_str(alloc, "-")?),
-        [first, others @ ..] => with_others(alloc, first.as_str(), others),
-    }
 }
 
 /// The text of a number.

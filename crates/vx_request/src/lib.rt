@@ -11,4 +11,4 @@ mod stats;
 mod types;
 
 pub use errors::{Place, RequestError, Side, TableRefusal};
-pub use requests::{MOST_BYTES, ScanRequest, decode_request};
+pub use requests::{MOST_BYTES, ScanRequest, decode_request, hex_bytes};

@@ -77,8 +77,8 @@ fn request_members(value: &Value) -> Option<RequestMembers<'_>>
     })
 }
 
-/// The bytes that hexadecimal digits stand for.
-fn hex_bytes(alloc: Global, text: &str) -> Mem<Option<Vec<u8>>>
+/// The bytes that hexadecimal digits stand for, two digits a byte; none where there are other characters or an odd number.
+pub fn hex_bytes(alloc: Global, text: &str) -> Mem<Option<Vec<u8>>>
     ensures { IfOk result (λ bytes. option_map (λ v. v.items) bytes ≡ hex_bytes text.now) }
 {
     match hex::decode(alloc, text.as_bytes()) {
