@@ -20,20 +20,43 @@ use Rattle.vx_request.specs.declared.errors.RequestError.{RequestError}
 use Rattle.vx_request.specs.declared.errors.RequestError.TheVariants.{InputTooLong}
 use Rattle.vx_query.specs.Reports.{report_text}
 use Rattle.vx_query.specs.Refusals.{request_refusal_name, scan_refusal_name, break_name, refusal_line}
-use Rattle.vx_query.specs.Running.{End, Form, HoldsScan, HoldsRefused, scan_table, scan_reads, scan_phases, scan_breaks, scan_breaks_by, scan_report, scanned_store, broken_store, scan_form, help_form, version_form, Outcome, misused, helped, versioned, out_of_memory, unread, refused, unscanned, broken, answered, Writing, whole, cut, IsOutcome, IsWriting, IsRun, status_of, text_of, used_by}
+use Rattle.vx_query.specs.Running.{End, Form, HoldsScan, HoldsRefused, scan_table, scan_reads, scan_phases, scan_breaks, scan_breaks_by, scan_report, scanned_store, broken_store, scan_form, explain_form, show_form, show_tree_form, help_form, version_form, reads_request, shown_word, Outcome, misused, helped, versioned, out_of_memory, unread, refused, unscanned, broken, answered, explained, undecoded, unshown, shown, tree_shown, Writing, whole, cut, IsOutcome, IsWriting, IsRun, status_of, text_of, used_by}
 use Rattle.vx_query.specs.WireLaws.{WireLaws}
 use Rattle.vx_query.specs.Causes.{HasRisen, IsReported, IsRefused, IsUnscanned, IsBroken, TellsScan, TellsRefused, TellsUnscanned, told_breaks, told_breaks_by, whole_report}
 use Rattle.vx_query.proofs.RefusalLemmas.{IsSameScan, one_err, not_err, one_scan, one_held_refusal, held_unrefused}
 
-not_none : {X : Type 0} {x : X} → Some x ≡ None → ⊥
+pub not_none : {X : Type 0} {x : X} → Some x ≡ None → ⊥
 not_none e = true≢false (ap is_some e)
 
--- whether a form is that of scans, where there is one
+-- whether a form is that of scans, of explanations, of what is shown in a line and as a tree, where there is one
 abbrev is_scan : Option Form → Bool
-is_scan None = false
 is_scan (Some scan_form) = true
-is_scan (Some help_form) = false
-is_scan (Some version_form) = false
+is_scan _ = false
+
+abbrev pub is_explain : Option Form → Bool
+is_explain (Some explain_form) = true
+is_explain _ = false
+
+abbrev pub is_show : Option Form → Bool
+is_show (Some (show_form word)) = true
+is_show _ = false
+
+abbrev pub is_show_tree : Option Form → Bool
+is_show_tree (Some (show_tree_form word)) = true
+is_show_tree _ = false
+
+-- arguments that read a request are of another form than these, and show no word
+reads_other : (form other : Option Form) → reads_request form ≡ true → reads_request other ≡ false → ¬ (form ≡ other)
+reads_other form other reads none same = true≢false (sym reads ∙ ap reads_request same ∙ none)
+
+pub shows_none : (form : Option Form) (word : Bytes) → reads_request form ≡ true → ¬ (shown_word form ≡ Some word)
+shows_none None word reads h = true≢false (sym reads)
+shows_none (Some scan_form) word reads h = not_none (sym h)
+shows_none (Some explain_form) word reads h = not_none (sym h)
+shows_none (Some (show_form other)) word reads h = true≢false (sym reads)
+shows_none (Some (show_tree_form other)) word reads h = true≢false (sym reads)
+shows_none (Some help_form) word reads h = true≢false (sym reads)
+shows_none (Some version_form) word reads h = true≢false (sym reads)
 
 -- ---- what each status means
 
@@ -63,6 +86,11 @@ reported i i' o o' used run = by run.outcome run.writing run.comes run.written r
       written = written.1.0;
       held = held;
     }
+    by (explained input a f p) whole comes written held = absurd (true≢false (ap is_scan comes.0))
+    by undecoded whole comes written held = absurd (not_none (sym comes.0.1))
+    by (unshown e) whole comes written held = absurd (not_none (sym comes.0.1))
+    by (shown e) whole comes written held = absurd (true≢false (ap is_scan comes.0.1))
+    by (tree_shown e) whole comes written held = absurd (true≢false (ap is_scan comes.0.1))
 
 -- arguments of no form
 pub unformed : (form : Option Form) (i i' o o' : End) (used : Option Seen) → IsRun form i i' o o' used 2 → form ≡ None
@@ -80,10 +108,16 @@ unformed form i i' o o' used run = by run.outcome run.writing run.comes run.writ
     by (unscanned input e) whole comes written held = absurd (omega (arith, written.0))
     by (broken cause input a f p) whole comes written held = absurd (omega (arith, written.0))
     by (answered input a f p) whole comes written held = absurd (omega (arith, written.0))
+    by (explained input a f p) whole comes written held = absurd (omega (arith, written.0))
+    by undecoded whole comes written held = absurd (omega (arith, written.0))
+    by (unshown e) whole comes written held = absurd (omega (arith, written.0))
+    by (shown e) whole comes written held = absurd (omega (arith, written.0))
+    by (tree_shown e) whole comes written held = absurd (omega (arith, written.0))
 
 -- an input that is no request
-pub unasked : (form : Option Form) (i i' o o' : End) (used : Option Seen) → IsRun form i i' o o' used 3 → IsRefused i i' o o' used
-unasked form i i' o o' used run = by run.outcome run.writing run.comes run.written run.held
+pub unasked : (form : Option Form) (i i' o o' : End) (used : Option Seen) → reads_request form ≡ true → IsRun form i i' o o' used 3
+    → IsRefused i i' o o' used
+unasked form i i' o o' used reads run = by run.outcome run.writing run.comes run.written run.held
   where
     by : (outcome : Outcome) (writing : Writing) → IsOutcome form i i' outcome → IsWriting o o' (text_of outcome) (status_of outcome) 3 writing
         → used ≡ used_by outcome → IsRefused i i' o o' used
@@ -98,10 +132,16 @@ unasked form i i' o o' used run = by run.outcome run.writing run.comes run.writt
     by (unscanned input e) whole comes written held = absurd (omega (arith, written.0))
     by (broken cause input a f p) whole comes written held = absurd (omega (arith, written.0))
     by (answered input a f p) whole comes written held = absurd (omega (arith, written.0))
+    by (explained input a f p) whole comes written held = absurd (omega (arith, written.0))
+    by undecoded whole comes written held = absurd (shows_none form comes.0.0 reads comes.0.1)
+    by (unshown e) whole comes written held = absurd (omega (arith, written.0))
+    by (shown e) whole comes written held = absurd (omega (arith, written.0))
+    by (tree_shown e) whole comes written held = absurd (omega (arith, written.0))
 
 -- a scan whose expressions are refused
-pub unspelled : (form : Option Form) (i i' o o' : End) (used : Option Seen) → IsRun form i i' o o' used 4 → IsUnscanned i i' o o' used
-unspelled form i i' o o' used run = by run.outcome run.writing run.comes run.written run.held
+pub unspelled : (form : Option Form) (i i' o o' : End) (used : Option Seen) → reads_request form ≡ true → IsRun form i i' o o' used 4
+    → IsUnscanned i i' o o' used
+unspelled form i i' o o' used reads run = by run.outcome run.writing run.comes run.written run.held
   where
     by : (outcome : Outcome) (writing : Writing) → IsOutcome form i i' outcome → IsWriting o o' (text_of outcome) (status_of outcome) 4 writing
         → used ≡ used_by outcome → IsUnscanned i i' o o' used
@@ -116,6 +156,11 @@ unspelled form i i' o o' used run = by run.outcome run.writing run.comes run.wri
         record { input = input; refusal = e; taken = comes.1.0; cause = comes.1.1; written = written.1.0; unheld = held }
     by (broken cause input a f p) whole comes written held = absurd (omega (arith, written.0))
     by (answered input a f p) whole comes written held = absurd (omega (arith, written.0))
+    by (explained input a f p) whole comes written held = absurd (omega (arith, written.0))
+    by undecoded whole comes written held = absurd (omega (arith, written.0))
+    by (unshown e) whole comes written held = absurd (shows_none form comes.0.0 reads comes.0.1)
+    by (shown e) whole comes written held = absurd (omega (arith, written.0))
+    by (tree_shown e) whole comes written held = absurd (omega (arith, written.0))
 
 -- a scan that broke
 pub stopped : (form : Option Form) (i i' o o' : End) (used : Option Seen) → IsRun form i i' o o' used 5 → IsBroken i i' o o' used
@@ -144,6 +189,11 @@ stopped form i i' o o' used run = by run.outcome run.writing run.comes run.writt
       held = held;
     }
     by (answered input a f p) whole comes written held = absurd (omega (arith, written.0))
+    by (explained input a f p) whole comes written held = absurd (omega (arith, written.0))
+    by undecoded whole comes written held = absurd (omega (arith, written.0))
+    by (unshown e) whole comes written held = absurd (omega (arith, written.0))
+    by (shown e) whole comes written held = absurd (omega (arith, written.0))
+    by (tree_shown e) whole comes written held = absurd (omega (arith, written.0))
 
 -- a source that failed
 pub source_risen : (form : Option Form) (i i' o o' : End) (used : Option Seen) → IsRun form i i' o o' used 6 → HasRisen i i'
@@ -161,6 +211,11 @@ source_risen form i i' o o' used run = by run.outcome run.writing run.comes run.
     by (unscanned input e) whole comes written held = absurd (omega (arith, written.0))
     by (broken cause input a f p) whole comes written held = absurd (omega (arith, written.0))
     by (answered input a f p) whole comes written held = absurd (omega (arith, written.0))
+    by (explained input a f p) whole comes written held = absurd (omega (arith, written.0))
+    by undecoded whole comes written held = absurd (omega (arith, written.0))
+    by (unshown e) whole comes written held = absurd (omega (arith, written.0))
+    by (shown e) whole comes written held = absurd (omega (arith, written.0))
+    by (tree_shown e) whole comes written held = absurd (omega (arith, written.0))
 
 -- a sink that failed
 pub sink_risen : (form : Option Form) (i i' o o' : End) (used : Option Seen) → IsRun form i i' o o' used 7 → HasRisen o o'
@@ -178,6 +233,11 @@ sink_risen form i i' o o' used run = by run.outcome run.writing run.comes run.wr
     by (unscanned input e) whole comes written held = absurd (omega (arith, written.0))
     by (broken cause input a f p) whole comes written held = absurd (omega (arith, written.0))
     by (answered input a f p) whole comes written held = absurd (omega (arith, written.0))
+    by (explained input a f p) whole comes written held = absurd (omega (arith, written.0))
+    by undecoded whole comes written held = absurd (omega (arith, written.0))
+    by (unshown e) whole comes written held = absurd (omega (arith, written.0))
+    by (shown e) whole comes written held = absurd (omega (arith, written.0))
+    by (tree_shown e) whole comes written held = absurd (omega (arith, written.0))
 
 -- ---- what is taken of an input
 
@@ -208,7 +268,7 @@ told_input : (i i' : End) (input : Bytes) (told : TellsScan i) → TookUpTo (mos
 told_input i i' input told took = taken_whole i i' told.input input told.told (asks_within told.input told.asked told.asks.asked) took
 
 -- a scan that is held is the one that the end tells
-told_scan : WireLaws → (i i' : End) (input : Bytes) (a : RequestedScan) (f p : Tree) (told : TellsScan i) → TookUpTo (most_bytes + 1) i.bytes i'.bytes input
+pub told_scan : WireLaws → (i i' : End) (input : Bytes) (a : RequestedScan) (f p : Tree) (told : TellsScan i) → TookUpTo (most_bytes + 1) i.bytes i'.bytes input
     → HoldsScan input a f p
     → IsSameScan a f p told.asked told.filter told.projection
 told_scan laws i i' input a f p told took held =
@@ -216,14 +276,14 @@ told_scan laws i i' input a f p told took held =
     one_scan laws told.input a f p told.asked told.filter told.projection (subst (λ bytes. HoldsScan bytes a f p) same held) told.asks
 
 -- such an input is a request
-told_unrefused : (i i' : End) (input : Bytes) (e : RequestError) (told : TellsScan i) → TookUpTo (most_bytes + 1) i.bytes i'.bytes input
+pub told_unrefused : (i i' : End) (input : Bytes) (e : RequestError) (told : TellsScan i) → TookUpTo (most_bytes + 1) i.bytes i'.bytes input
     → ¬ (request_of input ≡ Err e)
 told_unrefused i i' input e told took h =
     let same = told_input i i' input told took in
     not_err (request_of told.input) told.asked e told.asks.asked (sym (ap request_of same) ∙ h)
 
 -- and its expressions are not refused
-told_spelled : WireLaws → (i i' : End) (input : Bytes) (e : ScanError) (told : TellsScan i) → TookUpTo (most_bytes + 1) i.bytes i'.bytes input
+pub told_spelled : WireLaws → (i i' : End) (input : Bytes) (e : ScanError) (told : TellsScan i) → TookUpTo (most_bytes + 1) i.bytes i'.bytes input
     → ¬ (HoldsRefused input e)
 told_spelled laws i i' input e told took h =
     let same = told_input i i' input told took in
@@ -275,24 +335,29 @@ completed laws i i' o o' used status told breaks run still quiet memory = by run
         let breaking = told_breaking told a f p true same (breaks_by_one cause a f p comes.1.1.1) in
         absurd (true≢false (sym breaking ∙ breaks))
     by (answered input a f p) whole comes written = written.0
+    by (explained input a f p) whole comes written = absurd (true≢false (ap is_scan comes.0))
+    by undecoded whole comes written = absurd (not_none (sym comes.0.1))
+    by (unshown e) whole comes written = absurd (not_none (sym comes.0.1))
+    by (shown e) whole comes written = absurd (true≢false (ap is_scan comes.0.1))
+    by (tree_shown e) whole comes written = absurd (true≢false (ap is_scan comes.0.1))
 
 -- the run of a request that is refused says why
 abbrev pub SaysWhy : End → End → ℕ → ℕ → Bytes → Type 0
 SaysWhy o o' status told name = (status ≡ told) × Added o.bytes o'.bytes (refusal_line name)
 
 -- where the bytes that are told are no request
-pub says_why : (e : RequestError) (i i' o o' : End) (used : Option Seen) (status : ℕ) → TellsRefused i e
-    → IsRun (Some scan_form) i i' o o' used status → ¬ (HasRisen i i') → ¬ (HasRisen o o') → ¬ (status ≡ 8)
+pub says_why : (form : Option Form) → reads_request form ≡ true → (e : RequestError) (i i' o o' : End) (used : Option Seen) (status : ℕ) → TellsRefused i e
+    → IsRun form i i' o o' used status → ¬ (HasRisen i i') → ¬ (HasRisen o o') → ¬ (status ≡ 8)
     → SaysWhy o o' status 3 (request_refusal_name e)
-says_why e i i' o o' used status tells run still quiet memory = by run.outcome run.writing run.comes run.written
+says_why form reads e i i' o o' used status tells run still quiet memory = by run.outcome run.writing run.comes run.written
   where
-    by : (outcome : Outcome) (writing : Writing) → IsOutcome (Some scan_form) i i' outcome
+    by : (outcome : Outcome) (writing : Writing) → IsOutcome form i i' outcome
         → IsWriting o o' (text_of outcome) (status_of outcome) status writing
         → SaysWhy o o' status 3 (request_refusal_name e)
     by outcome cut comes written = absurd (quiet written.1.1)
-    by misused whole comes written = absurd (not_none comes.0)
-    by helped whole comes written = absurd (true≢false (ap is_scan comes.0))
-    by versioned whole comes written = absurd (true≢false (ap is_scan comes.0))
+    by misused whole comes written = absurd (reads_other form None reads refl comes.0)
+    by helped whole comes written = absurd (reads_other form (Some help_form) reads refl comes.0)
+    by versioned whole comes written = absurd (reads_other form (Some version_form) reads refl comes.0)
     by out_of_memory whole comes written = absurd (memory written.0)
     by unread whole comes written = absurd (still comes.1.1)
     by (refused input g) whole comes written =
@@ -308,6 +373,13 @@ says_why e i i' o o' used status tells run still quiet memory = by run.outcome r
     by (answered input a f p) whole comes written =
         let part = taken_part i i' tells.input input tells.told comes.1.0.bytes in
         absurd (not_err (request_of input) a e comes.1.1.0.asked (ap request_of part ∙ tells.refused))
+    by (explained input a f p) whole comes written =
+        let part = taken_part i i' tells.input input tells.told comes.1.0.bytes in
+        absurd (not_err (request_of input) a e comes.1.1.asked (ap request_of part ∙ tells.refused))
+    by undecoded whole comes written = absurd (shows_none form comes.0.0 reads comes.0.1)
+    by (unshown g) whole comes written = absurd (shows_none form comes.0.0 reads comes.0.1)
+    by (shown g) whole comes written = absurd (reads_other form (Some (show_form comes.0.0)) reads refl comes.0.1)
+    by (tree_shown g) whole comes written = absurd (reads_other form (Some (show_tree_form comes.0.0)) reads refl comes.0.1)
 
 -- the input of a scan whose expressions are refused is taken whole
 unscanned_input : (i i' : End) (input : Bytes) (e : ScanError) (tells : TellsUnscanned i e)
@@ -316,18 +388,18 @@ unscanned_input i i' input e tells took =
     taken_whole i i' tells.input input tells.told (asks_within tells.input tells.refused.asked tells.refused.held) took
 
 -- where the expressions of the scan that is told are refused
-pub says_refusal : WireLaws → (e : ScanError) (i i' o o' : End) (used : Option Seen) (status : ℕ) → TellsUnscanned i e
-    → IsRun (Some scan_form) i i' o o' used status → ¬ (HasRisen i i') → ¬ (HasRisen o o') → ¬ (status ≡ 8)
+pub says_refusal : WireLaws → (form : Option Form) → reads_request form ≡ true → (e : ScanError) (i i' o o' : End) (used : Option Seen) (status : ℕ) → TellsUnscanned i e
+    → IsRun form i i' o o' used status → ¬ (HasRisen i i') → ¬ (HasRisen o o') → ¬ (status ≡ 8)
     → SaysWhy o o' status 4 (scan_refusal_name e)
-says_refusal laws e i i' o o' used status tells run still quiet memory = by run.outcome run.writing run.comes run.written
+says_refusal laws form reads e i i' o o' used status tells run still quiet memory = by run.outcome run.writing run.comes run.written
   where
-    by : (outcome : Outcome) (writing : Writing) → IsOutcome (Some scan_form) i i' outcome
+    by : (outcome : Outcome) (writing : Writing) → IsOutcome form i i' outcome
         → IsWriting o o' (text_of outcome) (status_of outcome) status writing
         → SaysWhy o o' status 4 (scan_refusal_name e)
     by outcome cut comes written = absurd (quiet written.1.1)
-    by misused whole comes written = absurd (not_none comes.0)
-    by helped whole comes written = absurd (true≢false (ap is_scan comes.0))
-    by versioned whole comes written = absurd (true≢false (ap is_scan comes.0))
+    by misused whole comes written = absurd (reads_other form None reads refl comes.0)
+    by helped whole comes written = absurd (reads_other form (Some help_form) reads refl comes.0)
+    by versioned whole comes written = absurd (reads_other form (Some version_form) reads refl comes.0)
     by out_of_memory whole comes written = absurd (memory written.0)
     by unread whole comes written = absurd (still comes.1.1)
     by (refused input g) whole comes written =
@@ -343,6 +415,13 @@ says_refusal laws e i i' o o' used status tells run still quiet memory = by run.
     by (answered input a f p) whole comes written =
         let same = unscanned_input i i' input e tells comes.1.0.bytes in
         absurd (held_unrefused laws tells.input a f p e (subst (λ bytes. HoldsScan bytes a f p) same comes.1.1.0) tells.refused)
+    by (explained input a f p) whole comes written =
+        let same = unscanned_input i i' input e tells comes.1.0.bytes in
+        absurd (held_unrefused laws tells.input a f p e (subst (λ bytes. HoldsScan bytes a f p) same comes.1.1) tells.refused)
+    by undecoded whole comes written = absurd (shows_none form comes.0.0 reads comes.0.1)
+    by (unshown g) whole comes written = absurd (shows_none form comes.0.0 reads comes.0.1)
+    by (shown g) whole comes written = absurd (reads_other form (Some (show_form comes.0.0)) reads refl comes.0.1)
+    by (tree_shown g) whole comes written = absurd (reads_other form (Some (show_tree_form comes.0.0)) reads refl comes.0.1)
 
 -- the run of a scan that breaks says why, and holds its store
 abbrev pub SaysBreak : {i : End} → TellsScan i → End → End → Option Seen → ℕ → Type 0
@@ -375,6 +454,11 @@ says_break laws i i' o o' used status told breaks run still quiet memory = by ru
     by (answered input a f p) whole comes written held =
         let unbroken = told_breaking told a f p false (told_scan laws i i' input a f p told comes.1.0.bytes comes.1.1.0) comes.1.1.1 in
         absurd (true≢false (sym breaks ∙ unbroken))
+    by (explained input a f p) whole comes written held = absurd (true≢false (ap is_scan comes.0))
+    by undecoded whole comes written held = absurd (not_none (sym comes.0.1))
+    by (unshown e) whole comes written held = absurd (not_none (sym comes.0.1))
+    by (shown e) whole comes written held = absurd (true≢false (ap is_scan comes.0.1))
+    by (tree_shown e) whole comes written held = absurd (true≢false (ap is_scan comes.0.1))
 
 -- the scan that a run reports is the one that the source's bytes ask
 pub reported_as_told : WireLaws → (i i' o o' : End) (used : Option Seen) (told : TellsScan i) → IsRun (Some scan_form) i i' o o' used 0

@@ -4,3 +4,6 @@ mod AnswerLemmas
 mod OutcomeLemmas
 mod RefusalLemmas
 mod CauseLemmas
+mod FormLemmas
+mod WordLemmas
+mod TextLemmas

@@ -1,52 +1,109 @@
 -- How the program comes to an end.
-use Rattle.std.proofs.Common.{◌≡◌, sym, ap, refl, ℕ, ◌+◌, ◌≤◌, length, Option, Some, None, Result, Ok, Err, subst}
+use Rattle.std.proofs.Common.{◌≡◌, ◌∙◌, sym, ap, refl, ℕ, ◌+◌, ◌≤◌, length, Option, Some, None, Result, Ok, Err, subst, true, inl, inr}
 use Rattle.std.specs.Prelude.{IfErr}
 use Rattle.std.specs.Result.{IsErrAnd}
+use Rattle.std.specs.declared.string.String.{String}
+use Rattle.std.specs.declared.alloc.Global.{Global}
 use Rattle.vx_dtype.specs.Types.{Bytes}
 use Rattle.vx_semantics.specs.Breaks.{by_sum, by_cast}
 use Rattle.vx_io.specs.Counts.{one_more}
 use Rattle.vx_io.specs.Ends.{TookUpTo}
+use Rattle.vx_display.specs.TreeTexts.{tree_text_of}
+use Rattle.vx_explain.specs.Explaining.{shown_line}
 use Rattle.vx_scan.specs.Stores.{Seen}
 use Rattle.vx_request.specs.Requests.{most_bytes}
 use Rattle.vx_request.specs.declared.errors.RequestError.TheVariants as requests
 use Rattle.vx_query.specs.EndingViews.{ending_status, ending_text, EndsBy, IsAnswered}
-use Rattle.vx_query.specs.Running.{End, Form, scan_form, Outcome, out_of_memory, unread, refused, unscanned, broken, answered, Writing, IsOutcome, IsTaken, IsPartTaken, IsWriting, IsRun, status_of, text_of, used_by}
-use Rattle.vx_query.specs.RefusalViews.{refusal_status, refusal_text, input_refusal, IsUnanswered}
+use Rattle.vx_query.specs.Running.{End, Form, scan_form, explain_form, show_form, show_tree_form, reads_request, shown_word, Outcome, out_of_memory, unread, refused, unscanned, broken, answered, explained, undecoded, unshown, shown, tree_shown, Writing, IsOutcome, IsTaken, IsPartTaken, IsWriting, IsRun, status_of, text_of, used_by}
+use Rattle.vx_query.specs.RefusalViews.{refusal_status, refusal_text, input_refusal, IsUnanswered, IsWordUnshown}
+use Rattle.vx_query.specs.TextViews.{answer_status, answer_text, ExplainsInput, ShowsWord, IsAnsweredBy}
 use Rattle.vx_io.specs.declared.reading.InputError.{InputError}
 use Rattle.vx_io.specs.declared.reading.InputError.TheVariants as inputs
 use Rattle.vx_query.specs.declared.endings.Ending.{Ending}
 use Rattle.vx_query.specs.declared.endings.Ending.TheVariants.{Report, Overflow, BadCast}
 use Rattle.vx_query.specs.declared.refusals.Refusal.{Refusal}
-use Rattle.vx_query.specs.declared.refusals.Refusal.TheVariants.{NoMemory, ReadFault, InputTooLong, BadJson, BadRequest, BadHex, BadTable, Scan}
+use Rattle.vx_query.specs.declared.refusals.Refusal.TheVariants.{NoMemory, ReadFault, InputTooLong, BadJson, BadRequest, BadHex, BadTable, BadHexText, Scan}
 
 -- an outcome that a refusal stands for
-abbrev pub IsRefused : End → End → Refusal → Type 0
-IsRefused before after r =
-    (o : Outcome) × IsOutcome (Some scan_form) before after o × (status_of o ≡ refusal_status r) × (text_of o ≡ refusal_text r) × (used_by o ≡ None)
+abbrev pub IsRefused : Option Form → End → End → Refusal → Type 0
+IsRefused form before after r =
+    (o : Outcome) × IsOutcome form before after o × (status_of o ≡ refusal_status r) × (text_of o ≡ refusal_text r) × (used_by o ≡ None)
 
 -- an input that isn't read
-pub refused_unread : (before after : End) (e : InputError) → IsPartTaken before after → before.faults ≤ after.faults
-    → (e ≡ inputs.ReadFault → one_more before.faults ≤ after.faults) → IsRefused before after (input_refusal e)
-refused_unread before after inputs.NoMemory part later cause = (out_of_memory, (refl, (part, later)), refl, refl, refl)
-refused_unread before after inputs.ReadFault part later cause = (unread, (refl, (part, cause refl)), refl, refl, refl)
+pub refused_unread : (form : Option Form) → reads_request form ≡ true → (before after : End) (e : InputError) → IsPartTaken before after
+    → before.faults ≤ after.faults → (e ≡ inputs.ReadFault → one_more before.faults ≤ after.faults) → IsRefused form before after (input_refusal e)
+refused_unread form reads before after inputs.NoMemory part later cause = (out_of_memory, inl (reads, (part, later)), refl, refl, refl)
+refused_unread form reads before after inputs.ReadFault part later cause = (unread, (reads, (part, cause refl)), refl, refl, refl)
 
 -- an input that is taken and has no report
-pub refused_taken : (before after : End) (input : Bytes) (r : Refusal) → IsPartTaken before after → IsTaken before after input → IsUnanswered input r
-    → IsRefused before after r
-refused_taken before after input NoMemory part taken told = (out_of_memory, (refl, (part, taken.later)), refl, refl, refl)
-refused_taken before after input ReadFault part taken told = absurd told
-refused_taken before after input InputTooLong part taken told = (refused input requests.InputTooLong, (refl, (taken, told)), refl, refl, refl)
-refused_taken before after input BadJson part taken told = (refused input requests.BadJson, (refl, (taken, told)), refl, refl, refl)
-refused_taken before after input (BadRequest place) part taken told = (refused input (requests.BadRequest place), (refl, (taken, told)), refl, refl, refl)
-refused_taken before after input (BadHex side) part taken told = (refused input (requests.BadHex side), (refl, (taken, told)), refl, refl, refl)
-refused_taken before after input (BadTable refusal) part taken told = (refused input (requests.BadTable refusal), (refl, (taken, told)), refl, refl, refl)
-refused_taken before after input (Scan e) part taken told = (unscanned input e, (refl, (taken, told)), refl, refl, refl)
+pub refused_taken : (form : Option Form) → reads_request form ≡ true → (before after : End) (input : Bytes) (r : Refusal) → IsPartTaken before after
+    → IsTaken before after input → IsUnanswered input r → IsRefused form before after r
+refused_taken form reads before after input NoMemory part taken told = (out_of_memory, inl (reads, (part, taken.later)), refl, refl, refl)
+refused_taken form reads before after input ReadFault part taken told = absurd told
+refused_taken form reads before after input InputTooLong part taken told = (refused input requests.InputTooLong, (reads, (taken, told)), refl, refl, refl)
+refused_taken form reads before after input BadJson part taken told = (refused input requests.BadJson, (reads, (taken, told)), refl, refl, refl)
+refused_taken form reads before after input (BadRequest place) part taken told =
+    (refused input (requests.BadRequest place), (reads, (taken, told)), refl, refl, refl)
+refused_taken form reads before after input (BadHex side) part taken told = (refused input (requests.BadHex side), (reads, (taken, told)), refl, refl, refl)
+refused_taken form reads before after input (BadTable refusal) part taken told =
+    (refused input (requests.BadTable refusal), (reads, (taken, told)), refl, refl, refl)
+refused_taken form reads before after input BadHexText part taken told = absurd told
+refused_taken form reads before after input (Scan e) part taken told = (unscanned input e, (reads, (taken, told)), refl, refl, refl)
+
+-- a word that is not shown
+word_refused : (form : Option Form) (word : Bytes) → shown_word form ≡ Some word → (source : End) (r : Refusal) → IsWordUnshown word r
+    → IsRefused form source source r
+word_refused form word is source NoMemory told = (out_of_memory, inr ((word, is), refl), refl, refl, refl)
+word_refused form word is source ReadFault told = absurd told
+word_refused form word is source InputTooLong told = absurd told
+word_refused form word is source BadJson told = absurd told
+word_refused form word is source (BadRequest place) told = absurd told
+word_refused form word is source (BadHex side) told = absurd told
+word_refused form word is source (BadTable refusal) told = absurd told
+word_refused form word is source BadHexText told = (undecoded, ((word, is, told), refl), refl, refl, refl)
+word_refused form word is source (Scan e) told = (unshown e, ((word, is, told), refl), refl, refl, refl)
+
+-- an answer that is a refusal
+answered_refusal : (form : Option Form) (before after : End) (r : Refusal) → IsRefused form before after r → IsAnsweredBy form before after (Err r)
+answered_refusal form before after r h = record { outcome = h.0; comes = h.1; status = h.2; text = h.3; unheld = h.4 }
+
+pub answered_err : (form : Option Form) (before after : End) (r : Refusal) (result : Result (String Global) Refusal) → IsErrAnd result (λ x. x ≡ r)
+    → IsRefused form before after r → IsAnsweredBy form before after result
+answered_err form before after r (Ok x) h k = absurd h
+answered_err form before after r (Err x) h k = answered_refusal form before after x (subst (IsRefused form before after) (sym h) k)
+
+-- an input that is explained, and a word that is shown
+pub explained_taken : (before after : End) (input : Bytes) (answer : Result (String Global) Refusal) → IsPartTaken before after → IsTaken before after input
+    → ExplainsInput input answer → IsAnsweredBy (Some explain_form) before after answer
+explained_taken before after input (Ok text) part taken h = record {
+  outcome = explained input h.asked h.filter h.projection;
+  comes = (refl, (taken, h.holds));
+  status = refl;
+  text = sym h.told;
+  unheld = refl;
+}
+explained_taken before after input (Err r) part taken h =
+    answered_refusal (Some explain_form) before after r (refused_taken (Some explain_form) refl before after input r part taken h)
+
+pub word_shown : (word : Bytes) (source : End) (answer : Result (String Global) Refusal) → ShowsWord shown_line word answer
+    → IsAnsweredBy (Some (show_form word)) source source answer
+word_shown word source (Ok text) h =
+    record { outcome = shown h.0; comes = ((word, refl, h.1), refl); status = refl; text = sym h.2; unheld = refl }
+word_shown word source (Err r) h =
+    answered_refusal (Some (show_form word)) source source r (word_refused (Some (show_form word)) word refl source r h)
+
+pub word_shown_as_tree : (word : Bytes) (source : End) (answer : Result (String Global) Refusal) → ShowsWord tree_text_of word answer
+    → IsAnsweredBy (Some (show_tree_form word)) source source answer
+word_shown_as_tree word source (Ok text) h =
+    record { outcome = tree_shown h.0; comes = ((word, refl, h.1), refl); status = refl; text = sym h.2; unheld = refl }
+word_shown_as_tree word source (Err r) h =
+    answered_refusal (Some (show_tree_form word)) source source r (word_refused (Some (show_tree_form word)) word refl source r h)
 
 -- what is answered where an input is refused
-pub refused_by : {T : Type 0} (before after : End) (r : Refusal) (result : Result T Refusal) → IsErrAnd result (λ x. x ≡ r) → IsRefused before after r
-    → IfErr result (IsRefused before after)
-refused_by before after r (Ok x) h k = absurd h
-refused_by before after r (Err x) h k = subst (IsRefused before after) (sym h) k
+pub refused_by : {T : Type 0} (form : Option Form) (before after : End) (r : Refusal) (result : Result T Refusal) → IsErrAnd result (λ x. x ≡ r)
+    → IsRefused form before after r → IfErr result (IsRefused form before after)
+refused_by form before after r (Ok x) h k = absurd h
+refused_by form before after r (Err x) h k = subst (IsRefused form before after) (sym h) k
 
 -- what is taken is the input
 pub taken_as : (before after : End) (bytes input : Bytes) → input ≡ bytes → TookUpTo (most_bytes + 1) before.bytes after.bytes bytes
@@ -80,3 +137,27 @@ pub run_of : (form : Option Form) (i i' o o' : End) (used : Option Seen) (status
     → (writing : Writing) × IsWriting o o' (text_of outcome) (status_of outcome) status writing → IsRun form i i' o o' used status
 run_of form i i' o o' used status outcome comes held (writing, written) =
     record { outcome = outcome; comes = comes; writing = writing; written = written; held = held }
+
+-- a run whose answer is a text or a line, and holds no store
+pub run_answered : (form other : Option Form) (i i' o o' : End) (status : ℕ) (answer : Result (String Global) Refusal) → form ≡ other
+    → IsAnsweredBy other i i' answer
+    → (writing : Writing) × IsWriting o o' (answer_text answer) (answer_status answer) status writing → IsRun form i i' o o' None status
+run_answered form other i i' o o' status answer is by (writing, written) = record {
+  outcome = by.outcome;
+  comes = subst (λ f. IsOutcome f i i' by.outcome) (sym is) by.comes;
+  writing = writing;
+  written = subst (λ k. k) (λ j. IsWriting o o' (sym by.text j) (sym by.status j) status writing) written;
+  held = sym by.unheld;
+}
+
+-- a run whose scan ended
+pub run_ended : (form : Option Form) (i i' o o' : End) (used : Option Seen) (status told : ℕ) (text : Bytes) (ending : Ending) → form ≡ Some scan_form
+    → IsEnded i i' ending used → told ≡ ending_status ending → text ≡ ending_text ending
+    → (writing : Writing) × IsWriting o o' text told status writing → IsRun form i i' o o' used status
+run_ended form i i' o o' used status told text ending is by tells texts (writing, written) = record {
+  outcome = by.0;
+  comes = subst (λ f. IsOutcome f i i' by.0) (sym is) by.1;
+  writing = writing;
+  written = subst (λ k. k) (λ j. IsWriting o o' ((texts ∙ sym by.3) j) ((tells ∙ sym by.2) j) status writing) written;
+  held = by.4;
+}

@@ -1,5 +1,5 @@
--- What the exit status of a run tells: the report that 0 of a scan means, and the cause of each other one.
-use Rattle.std.specs.Prelude.{◌≡◌, ◌+◌, ◌≤◌, [], map, length, take, Bool, true, false, Option, Some, None, Err}
+-- What the exit status of a run tells: the report, the explanation or the shown text that 0 means, and the cause of each other one.
+use Rattle.std.specs.Prelude.{◌≡◌, ℕ, ◌+◌, ◌≤◌, [], map, length, take, codes, Bool, true, false, Option, Some, None, Err}
 use Rattle.vx_dtype.specs.Types.{Bytes}
 use Rattle.vx_expr.specs.Trees.{Tree}
 use Rattle.vx_semantics.specs.Breaks.{Cause}
@@ -13,7 +13,8 @@ use Rattle.vx_request.specs.Requests.{RequestedScan, request_of, most_bytes}
 use Rattle.vx_request.specs.declared.errors.RequestError.{RequestError}
 use Rattle.vx_query.specs.Reports.{report_text}
 use Rattle.vx_query.specs.Refusals.{request_refusal_name, scan_refusal_name, break_name, refusal_line}
-use Rattle.vx_query.specs.Running.{End, IsTaken, HoldsScan, HoldsRefused, scan_table, scan_reads, scan_report, scan_breaks, scan_breaks_by, scanned_store, broken_store}
+use Rattle.vx_explain.specs.Explanations.{explain_text}
+use Rattle.vx_query.specs.Running.{End, IsTaken, HoldsScan, HoldsRefused, WordSpells, scan_table, scan_reads, scan_report, scan_breaks, scan_breaks_by, scanned_store, broken_store}
 
 -- a report was written whole: of the scan that the input holds, no phase of which breaks, and whose store is held
 pub record IsReported (in_before in_after out_before out_after : End) (used : Option Seen) : Type 0 where
@@ -58,6 +59,32 @@ pub record IsBroken (in_before in_after out_before out_after : End) (used : Opti
   pub breaks : scan_breaks_by cause asked filter projection ≡ true
   pub written : Added out_before.bytes out_after.bytes (refusal_line (break_name cause))
   pub held : used ≡ Some (broken_store asked filter projection)
+
+-- an explanation was written whole: of the scan that the input holds; no store is held
+pub record IsExplained (in_before in_after out_before out_after : End) (used : Option Seen) : Type 0 where
+  pub input : Bytes
+  pub asked : RequestedScan
+  pub filter : Tree
+  pub projection : Tree
+  pub taken : IsTaken in_before in_after input
+  pub asks : HoldsScan input asked filter projection
+  pub written : Added out_before.bytes out_after.bytes (explain_text asked.zones filter projection)
+  pub unheld : used ≡ None
+
+-- the text of the expression that the bytes of a word of hexadecimal digits spell was written whole; nothing was taken, and no store is held
+pub record IsShown (told : Tree → Bytes) (word : Bytes) (in_before in_after out_before out_after : End) (used : Option Seen) : Type 0 where
+  pub expression : Tree
+  pub spelled : WordSpells word expression
+  pub untaken : in_after ≡ in_before
+  pub written : Added out_before.bytes out_after.bytes (told expression)
+  pub unheld : used ≡ None
+
+-- the line of arguments of no form was written whole; nothing was taken, and no store is held
+pub record IsMisuse (in_before in_after out_before out_after : End) (used : Option Seen) (status : ℕ) : Type 0 where
+  pub ends : status ≡ 2
+  pub written : Added out_before.bytes out_after.bytes (refusal_line (codes "Usage"))
+  pub untaken : in_after ≡ in_before
+  pub unheld : used ≡ None
 
 -- an end counted a fault
 abbrev pub HasRisen : End → End → Type 0

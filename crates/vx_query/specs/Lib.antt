@@ -5,5 +5,6 @@ pub mod Running
 pub mod RunViews
 pub mod RefusalViews
 pub mod EndingViews
+pub mod TextViews
 pub mod Causes
 pub mod WireLaws

@@ -1,15 +1,17 @@
 -- For the checker: no public clause cites this. The exit statuses and lines of refusals.
-use Rattle.std.specs.Prelude.{◌≡◌, ℕ, codes, Err}
+use Rattle.std.specs.Prelude.{◌≡◌, ℕ, codes, None, Err}
 use Rattle.vx_dtype.specs.Types.{Bytes}
-use Rattle.vx_request.specs.Requests.{RequestedScan, request_of}
+use Rattle.vx_scan.specs.declared.errors.ScanError.{ScanError}
+use Rattle.vx_scan.specs.declared.errors.ScanError.TheVariants as scans
+use Rattle.vx_request.specs.Requests.{RequestedScan, request_of, hex_bytes}
 use Rattle.vx_request.specs.declared.errors.RequestError.{RequestError}
 use Rattle.vx_request.specs.declared.errors.RequestError.TheVariants as requests
 use Rattle.vx_io.specs.declared.reading.InputError.{InputError}
 use Rattle.vx_io.specs.declared.reading.InputError.TheVariants as inputs
 use Rattle.vx_query.specs.Refusals.{request_refusal_name, scan_refusal_name, refusal_line}
-use Rattle.vx_query.specs.Running.{HoldsRefused, IsScanRefused}
+use Rattle.vx_query.specs.Running.{HoldsRefused, IsScanRefused, WordIsRefused}
 use Rattle.vx_query.specs.declared.refusals.Refusal.{Refusal}
-use Rattle.vx_query.specs.declared.refusals.Refusal.TheVariants.{NoMemory, ReadFault, InputTooLong, BadJson, BadRequest, BadHex, BadTable, Scan}
+use Rattle.vx_query.specs.declared.refusals.Refusal.TheVariants.{NoMemory, ReadFault, InputTooLong, BadJson, BadRequest, BadHex, BadTable, BadHexText, Scan}
 
 -- the exit status of a refusal
 abbrev pub refusal_status : Refusal → ℕ
@@ -27,6 +29,7 @@ refusal_name BadJson = codes "BadJson"
 refusal_name (BadRequest place) = request_refusal_name (requests.BadRequest place)
 refusal_name (BadHex side) = request_refusal_name (requests.BadHex side)
 refusal_name (BadTable refusal) = request_refusal_name (requests.BadTable refusal)
+refusal_name BadHexText = codes "BadHex text"
 refusal_name (Scan e) = scan_refusal_name e
 
 -- the line of a refusal
@@ -56,6 +59,7 @@ IsUnanswered input BadJson = request_of input ≡ Err requests.BadJson
 IsUnanswered input (BadRequest place) = request_of input ≡ Err (requests.BadRequest place)
 IsUnanswered input (BadHex side) = request_of input ≡ Err (requests.BadHex side)
 IsUnanswered input (BadTable refusal) = request_of input ≡ Err (requests.BadTable refusal)
+IsUnanswered input BadHexText = ⊥
 IsUnanswered input (Scan e) = HoldsRefused input e
 
 -- a scan is answered by this refusal: want of memory at any time, else why its expressions are refused
@@ -63,3 +67,15 @@ abbrev pub IsUnscanned : RequestedScan → Refusal → Type 0
 IsUnscanned a NoMemory = Unit {0}
 IsUnscanned a (Scan e) = IsScanRefused a e
 IsUnscanned a _ = ⊥
+
+-- the refusal of expressions
+abbrev pub scan_refusal : ScanError → Refusal
+scan_refusal scans.NoMemory = NoMemory
+scan_refusal e = Scan e
+
+-- a word is not shown, for this reason: want of memory at any time, else it is no hexadecimal text, or its bytes spell no expression
+abbrev pub IsWordUnshown : Bytes → Refusal → Type 0
+IsWordUnshown word NoMemory = Unit {0}
+IsWordUnshown word BadHexText = hex_bytes word ≡ None
+IsWordUnshown word (Scan e) = WordIsRefused word e
+IsWordUnshown word _ = ⊥

@@ -1,5 +1,5 @@
 -- What the program does: the forms of its arguments, how it comes to an end, and what it writes then.
-use Rattle.std.specs.Prelude.{◌≡◌, ◌⊎◌, ℕ, ◌+◌, ◌≤◌, Bool, true, false, cond, List, [], ◌∷◌, ◌++◌, length, map, codes, Option, Some, None, Result, Ok, Err}
+use Rattle.std.specs.Prelude.{◌≡◌, ◌⊎◌, ℕ, ◌+◌, ◌≤◌, Bool, true, false, ◌&&◌, cond, List, [], ◌∷◌, ◌++◌, length, map, codes, Option, Some, None, Result, Ok, Err}
 use Rattle.std.specs.Str.{bytes_eq}
 use Rattle.vx_dtype.specs.Types.{Bytes, Ty}
 use Rattle.vx_expr.specs.Trees.{Tree}
@@ -8,21 +8,28 @@ use Rattle.vx_semantics.specs.Tables.{Table, row_type}
 use Rattle.vx_semantics.specs.Scans.{kept_rows_of, skipped_blocks, reads_of, reads_to_break, read_columns, Phase, phases_of, some_phase_breaks, first_breaks_by}
 use Rattle.vx_wire.specs.Encodings.{is_default_kind}
 use Rattle.vx_display.specs.ValueTexts.{value_text}
+use Rattle.vx_display.specs.TreeTexts.{tree_text_of}
+use Rattle.vx_explain.specs.Explanations.{explain_text}
+use Rattle.vx_explain.specs.Explaining.{shown_line}
 use Rattle.vx_scan.specs.Blocks.{table_of}
 use Rattle.vx_io.specs.Counts.{one_more}
 use Rattle.vx_scan.specs.Scanning.{scan_type}
 use Rattle.vx_scan.specs.Stores.{Read, Seen}
-use Rattle.vx_scan.specs.Texts.{SpellBoth, AreRefused}
+use Rattle.vx_scan.specs.Texts.{SpellBoth, AreRefused, SpellsTree, IsTextRefused}
+use Rattle.vx_scan.specs.declared.errors.Side.TheVariants.{Text}
 use Rattle.vx_scan.specs.declared.errors.ScanError.{ScanError}
 use Rattle.vx_io.specs.Ends.{TookPart, TookUpTo, Added, AddedPrefix}
 use Rattle.vx_query.specs.Reports.{report_text}
-use Rattle.vx_request.specs.Requests.{RequestedScan, request_of, most_bytes}
+use Rattle.vx_request.specs.Requests.{RequestedScan, request_of, most_bytes, hex_bytes}
 use Rattle.vx_request.specs.declared.errors.RequestError.{RequestError}
 use Rattle.vx_query.specs.Refusals.{request_refusal_name, scan_refusal_name, break_name, refusal_line}
 
 -- the forms of arguments
 pub data Form : Type 0 where
   scan_form : Form
+  explain_form : Form
+  show_form : Bytes → Form
+  show_tree_form : Bytes → Form
   help_form : Form
   version_form : Form
 
@@ -30,13 +37,29 @@ pub data Form : Type 0 where
 abbrev pub form_named : Bytes → Option Form
 form_named argument =
     cond (bytes_eq argument (codes "scan")) (Some scan_form)
+    (cond (bytes_eq argument (codes "explain")) (Some explain_form)
     (cond (bytes_eq argument (codes "--help")) (Some help_form)
-    (cond (bytes_eq argument (codes "--version")) (Some version_form) None))
+    (cond (bytes_eq argument (codes "--version")) (Some version_form) None)))
 
--- the form that arguments have
+-- the form that arguments have; any one word may stand behind `show` and behind `show tree`, of which `show` comes first
 abbrev pub form_of : List Bytes → Option Form
 form_of (argument ∷ []) = form_named argument
+form_of (first ∷ hex ∷ []) = cond (bytes_eq first (codes "show")) (Some (show_form hex)) None
+form_of (first ∷ second ∷ hex ∷ []) =
+    cond (bytes_eq first (codes "show") && bytes_eq second (codes "tree")) (Some (show_tree_form hex)) None
 form_of _ = None
+
+-- whether arguments of this form read a request
+abbrev pub reads_request : Option Form → Bool
+reads_request (Some scan_form) = true
+reads_request (Some explain_form) = true
+reads_request _ = false
+
+-- the word of an expression that is to be shown, where the arguments have such a form
+abbrev pub shown_word : Option Form → Option Bytes
+shown_word (Some (show_form word)) = Some word
+shown_word (Some (show_tree_form word)) = Some word
+shown_word _ = None
 
 -- an end of the program: its bytes, to come or written, where they are told, and how many of its faults were counted
 pub record End : Type 0 where
@@ -99,6 +122,18 @@ pub record HoldsRefused (input : Bytes) (e : ScanError) : Type 0 where
   pub held : request_of input ≡ Ok asked
   pub refused : IsScanRefused asked e
 
+-- a word of hexadecimal digits, two for each byte, whose bytes spell this expression
+pub record WordSpells (word : Bytes) (e : Tree) : Type 0 where
+  pub bytes : Bytes
+  pub digits : hex_bytes word ≡ Some bytes
+  pub spelled : SpellsTree is_default_kind bytes e
+
+-- a word of hexadecimal digits whose bytes spell no expression, for this reason
+pub record WordIsRefused (word : Bytes) (e : ScanError) : Type 0 where
+  pub bytes : Bytes
+  pub digits : hex_bytes word ≡ Some bytes
+  pub refused : IsTextRefused is_default_kind Text bytes e
+
 -- the phases of the scan of a filter and a projection
 abbrev pub scan_phases : RequestedScan → Tree → Tree → List Phase
 scan_phases a f p = phases_of (scan_table a) a.zones [] f p
@@ -111,7 +146,8 @@ abbrev pub scan_breaks_by : Cause → RequestedScan → Tree → Tree → Bool
 scan_breaks_by cause a f p = first_breaks_by cause (row_type a.zones.columns) [] (scan_phases a f p)
 
 -- how the program comes to an end: arguments of no form, help, the version, no memory, an input that can't be read, one that is no request, one whose
--- expressions are refused, one whose scan breaks by a sum or a cast, and one that is answered by a report
+-- expressions are refused, one whose scan breaks by a sum or a cast, one that is answered by a report and one by an explanation; a word to be shown that
+-- is no hexadecimal text, one whose bytes spell no expression, and one that is shown, in a line or as a tree
 pub data Outcome : Type 0 where
   misused : Outcome
   helped : Outcome
@@ -122,6 +158,11 @@ pub data Outcome : Type 0 where
   unscanned : Bytes → ScanError → Outcome
   broken : Cause → Bytes → RequestedScan → Tree → Tree → Outcome
   answered : Bytes → RequestedScan → Tree → Tree → Outcome
+  explained : Bytes → RequestedScan → Tree → Tree → Outcome
+  undecoded : Outcome
+  unshown : ScanError → Outcome
+  shown : Tree → Outcome
+  tree_shown : Tree → Outcome
 
 -- the input was taken to its end, or to one byte more than the most; that many bytes are no request
 pub record IsTaken (before after : End) (input : Bytes) : Type 0 where
@@ -133,19 +174,30 @@ pub record IsTaken (before after : End) (input : Bytes) : Type 0 where
 abbrev pub IsPartTaken : End → End → Type 0
 IsPartTaken before after = TookPart (most_bytes + 1) before.bytes after.bytes
 
--- what an outcome says of arguments and of the source: arguments of another form than `scan` take nothing
+-- what was taken where there was no memory: a first part of the input by arguments that read a request, and nothing by those that show an expression
+abbrev pub IsCutShort : Option Form → End → End → Type 0
+IsCutShort form before after =
+    ((reads_request form ≡ true) × (IsPartTaken before after × (before.faults ≤ after.faults)))
+    ⊎ (((word : Bytes) × (shown_word form ≡ Some word)) × (after ≡ before))
+
+-- what an outcome says of arguments and of the source: arguments that read no request take nothing
 abbrev pub IsOutcome : Option Form → End → End → Outcome → Type 0
 IsOutcome form before after misused = (form ≡ None) × (after ≡ before)
 IsOutcome form before after helped = (form ≡ Some help_form) × (after ≡ before)
 IsOutcome form before after versioned = (form ≡ Some version_form) × (after ≡ before)
-IsOutcome form before after out_of_memory = (form ≡ Some scan_form) × (IsPartTaken before after × (before.faults ≤ after.faults))
-IsOutcome form before after unread = (form ≡ Some scan_form) × (IsPartTaken before after × (one_more before.faults ≤ after.faults))
-IsOutcome form before after (refused input e) = (form ≡ Some scan_form) × (IsTaken before after input × (request_of input ≡ Err e))
-IsOutcome form before after (unscanned input e) = (form ≡ Some scan_form) × (IsTaken before after input × HoldsRefused input e)
+IsOutcome form before after out_of_memory = IsCutShort form before after
+IsOutcome form before after unread = (reads_request form ≡ true) × (IsPartTaken before after × (one_more before.faults ≤ after.faults))
+IsOutcome form before after (refused input e) = (reads_request form ≡ true) × (IsTaken before after input × (request_of input ≡ Err e))
+IsOutcome form before after (unscanned input e) = (reads_request form ≡ true) × (IsTaken before after input × HoldsRefused input e)
 IsOutcome form before after (broken cause input a f p) =
     (form ≡ Some scan_form) × (IsTaken before after input × (HoldsScan input a f p × (scan_breaks_by cause a f p ≡ true)))
 IsOutcome form before after (answered input a f p) =
     (form ≡ Some scan_form) × (IsTaken before after input × (HoldsScan input a f p × (scan_breaks a f p ≡ false)))
+IsOutcome form before after (explained input a f p) = (form ≡ Some explain_form) × (IsTaken before after input × HoldsScan input a f p)
+IsOutcome form before after undecoded = ((word : Bytes) × (shown_word form ≡ Some word) × (hex_bytes word ≡ None)) × (after ≡ before)
+IsOutcome form before after (unshown e) = ((word : Bytes) × (shown_word form ≡ Some word) × WordIsRefused word e) × (after ≡ before)
+IsOutcome form before after (shown e) = ((word : Bytes) × (form ≡ Some (show_form word)) × WordSpells word e) × (after ≡ before)
+IsOutcome form before after (tree_shown e) = ((word : Bytes) × (form ≡ Some (show_tree_form word)) × WordSpells word e) × (after ≡ before)
 
 -- the text of `--version`
 abbrev pub version_text : Bytes
@@ -154,8 +206,14 @@ version_text = codes "vx 0.1.0\n"
 -- the text of `--help`
 abbrev pub help_text : Bytes
 help_text =
-    codes "vx scan < REQUEST   prints the selected rows, the skipped blocks and the columns read, as in: vx scan < examples/first.json\n"
-    ++ (codes "vx --help           prints this text\n" ++ codes "vx --version        prints the version\n")
+    codes "vx scan < REQUEST      prints the selected rows, the skipped blocks and the columns read, as in: vx scan < examples/first.json\n"
+    ++ (codes "vx explain < REQUEST   prints what a scan does with its filter and its projection, as in: vx explain < examples/explain.json\n"
+    ++ (codes "vx show HEX            prints the expression that the bytes spell, as in: vx show 04726f6f740000\n"
+    ++ (codes "vx show tree HEX       prints it as a tree, as in: vx show tree 04726f6f740000\n"
+    ++ (codes "vx --help              prints this text\n"
+    ++ (codes "vx --version           prints the version\n"
+    ++ (codes "exit status: 0 written whole, 2 wrong arguments, 3 no request or no hex, 4 refused expressions, 5 overflow or bad cast,\n"
+    ++ (codes "6 input not read, 7 output not written, 8 no memory\n")))))))
 
 -- the exit status of an outcome
 abbrev pub status_of : Outcome → ℕ
@@ -168,6 +226,11 @@ status_of (refused input e) = 3
 status_of (unscanned input e) = 4
 status_of (broken cause input a f p) = 5
 status_of (answered input a f p) = 0
+status_of (explained input a f p) = 0
+status_of undecoded = 3
+status_of (unshown e) = 4
+status_of (shown e) = 0
+status_of (tree_shown e) = 0
 
 -- the text that an outcome writes
 abbrev pub text_of : Outcome → Bytes
@@ -180,6 +243,11 @@ text_of (refused input e) = refusal_line (request_refusal_name e)
 text_of (unscanned input e) = refusal_line (scan_refusal_name e)
 text_of (broken cause input a f p) = refusal_line (break_name cause)
 text_of (answered input a f p) = scan_report a f p
+text_of (explained input a f p) = explain_text a.zones f p
+text_of undecoded = refusal_line (codes "BadHex text")
+text_of (unshown e) = refusal_line (scan_refusal_name e)
+text_of (shown e) = shown_line e
+text_of (tree_shown e) = tree_text_of e
 
 -- the store that is held after an outcome: the one that was scanned, where a report was made or a phase broke
 abbrev pub used_by : Outcome → Option Seen

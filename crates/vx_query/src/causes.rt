@@ -10,21 +10,24 @@ ghost use Rattle.vx_query.specs.Causes.{HasRisen, IsReported, IsRefused, IsUnsca
 ghost use Rattle.vx_query.specs.Causes.{told_breaks, told_breaks_by, whole_report};
 ghost use Rattle.vx_query.specs.Refusals.{refusal_line, request_refusal_name, scan_refusal_name, break_name};
 ghost use Rattle.vx_query.specs.WireLaws.{WireLaws};
-ghost use Rattle.vx_query.specs.Running.{End, Form, IsRun, scan_table, scan_report, scan_form, scanned_store, broken_store};
+ghost use Rattle.vx_query.specs.Running.{End, Form, IsRun, reads_request, scan_table, scan_report, scan_form, scanned_store, broken_store};
 
 use vx_laws_scan::kept_rows_are_all;
 use vx_wire::{one_expression, one_tree};
 
 /// What the exit status of each run tells. Of the argument `scan` 0 means that the report was written whole, of a scan no
-/// phase of which breaks. 2 comes only where the arguments have no form. 3, 4 and 5 mean that the input was taken and that
-/// the line of its one cause was written: it is no request; the expressions of its scan are refused; the first phase of its
-/// scan that breaks does so by this cause. 6 comes only where the source counted a fault, 7 only where the sink did. And a
-/// run over a source whose bytes hold a scan no phase of which breaks ends with 0 or 8 where no fault is counted.
+/// phase of which breaks. 2 comes only where the arguments have no form. 3 and 4 of `scan` and `explain`, and 5, mean that
+/// the input was taken and that the line of its one cause was written: it is no request; the expressions of its scan are
+/// refused; the first phase of its scan that breaks does so by this cause. 6 comes only where the source counted a fault, 7
+/// only where the sink did. And a run of `scan` over a source whose bytes hold a scan no phase of which breaks ends with 0 or
+/// 8 where no fault is counted.
 pub fn statuses_have_their_causes()
     ensures report { (i i' o o' : End) (used : Option Seen) → IsRun (Some scan_form) i i' o o' used 0 → IsReported i i' o o' used }
     ensures usage { (form : Option Form) (i i' o o' : End) (used : Option Seen) → IsRun form i i' o o' used 2 → form ≡ None }
-    ensures refused { (form : Option Form) (i i' o o' : End) (used : Option Seen) → IsRun form i i' o o' used 3 → IsRefused i i' o o' used }
-    ensures unscanned { (form : Option Form) (i i' o o' : End) (used : Option Seen) → IsRun form i i' o o' used 4 → IsUnscanned i i' o o' used }
+    ensures refused { (form : Option Form) (i i' o o' : End) (used : Option Seen) → reads_request form ≡ true → IsRun form i i' o o' used 3
+        → IsRefused i i' o o' used }
+    ensures unscanned { (form : Option Form) (i i' o o' : End) (used : Option Seen) → reads_request form ≡ true → IsRun form i i' o o' used 4
+        → IsUnscanned i i' o o' used }
     ensures broken { (form : Option Form) (i i' o o' : End) (used : Option Seen) → IsRun form i i' o o' used 5 → IsBroken i i' o o' used }
     ensures read_fault { (form : Option Form) (i i' o o' : End) (used : Option Seen) → IsRun form i i' o o' used 6 → HasRisen i i' }
     ensures write_fault { (form : Option Form) (i i' o o' : End) (used : Option Seen) → IsRun form i i' o o' used 7 → HasRisen o o' }
@@ -34,19 +37,19 @@ pub fn statuses_have_their_causes()
     wire_laws();
 }
 
-/// A run of the argument `scan` over a source that tells its bytes, which are a request that is refused, ends with 3 and
-/// writes the line of this refusal, or with 8, where no fault is counted.
+/// A run of the argument `scan` or `explain` over a source that tells its bytes, which are a request that is refused, ends
+/// with 3 and writes the line of this refusal, or with 8, where no fault is counted.
 pub fn refused_inputs_say_why()
-    ensures { (e : RequestError) (i i' o o' : End) (used : Option Seen) (status : ℕ) → TellsRefused i e → IsRun (Some scan_form) i i' o o' used status
-        → ¬ (HasRisen i i') → ¬ (HasRisen o o') → ¬ (status ≡ 8)
+    ensures { (form : Option Form) → reads_request form ≡ true → (e : RequestError) (i i' o o' : End) (used : Option Seen) (status : ℕ)
+        → TellsRefused i e → IsRun form i i' o o' used status → ¬ (HasRisen i i') → ¬ (HasRisen o o') → ¬ (status ≡ 8)
         → (status ≡ 3) × Added o.bytes o'.bytes (refusal_line (request_refusal_name e)) }
 {}
 
-/// A run of the argument `scan` over a source that tells its bytes, which hold a scan whose expressions are refused, ends
-/// with 4 and writes the line of this refusal, or with 8, where no fault is counted.
+/// A run of the argument `scan` or `explain` over a source that tells its bytes, which hold a scan whose expressions are
+/// refused, ends with 4 and writes the line of this refusal, or with 8, where no fault is counted.
 pub fn refused_scans_say_why()
-    ensures { (e : ScanError) (i i' o o' : End) (used : Option Seen) (status : ℕ) → TellsUnscanned i e → IsRun (Some scan_form) i i' o o' used status
-        → ¬ (HasRisen i i') → ¬ (HasRisen o o') → ¬ (status ≡ 8)
+    ensures { (form : Option Form) → reads_request form ≡ true → (e : ScanError) (i i' o o' : End) (used : Option Seen) (status : ℕ)
+        → TellsUnscanned i e → IsRun form i i' o o' used status → ¬ (HasRisen i i') → ¬ (HasRisen o o') → ¬ (status ≡ 8)
         → (status ≡ 4) × Added o.bytes o'.bytes (refusal_line (scan_refusal_name e)) }
 {
     wire_laws();
@@ -89,7 +92,7 @@ pub fn honest_reports_are_whole()
 }
 
 /// A wire text spells one expression at most.
-fn wire_laws()
+pub(crate) fn wire_laws()
     ensures { WireLaws }
 {
     one_tree();

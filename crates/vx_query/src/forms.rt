@@ -6,9 +6,15 @@ ghost use Rattle.vx_query.specs.RunViews.{form_view};
 
 /// A form of arguments: what the program is to do.
 #[derive(Drop)]
-pub(crate) enum Form {
+pub(crate) enum Form<'a> {
     /// Scans a request.
     Scan,
+    /// Explains the scan of a request.
+    Explain,
+    /// Shows the expression that a word of hexadecimal digits spells.
+    Show(&'a str),
+    /// Shows it as a tree.
+    ShowTree(&'a str),
     /// Tells the forms.
     Help,
     /// Tells the version.
@@ -16,13 +22,18 @@ pub(crate) enum Form {
 }
 
 /// The form that the arguments have, none where they have none.
-pub(crate) fn form_of(arguments: &[String]) -> Option<Form>
+pub(crate) fn form_of(arguments: &[String]) -> Option<Form<'_>>
     ensures { option_map form_view result ≡ form_of (map string_bytes arguments.now) }
 {
     match arguments {
         [argument] if argument.as_str() == "scan" => Some(Form::Scan),
+        [argument] if argument.as_str() == "explain" => Some(Form::Explain),
         [argument] if argument.as_str() == "--help" => Some(Form::Help),
         [argument] if argument.as_str() == "--version" => Some(Form::Version),
+        [first, hex] if first.as_str() == "show" => Some(Form::Show(hex.as_str())),
+        [first, second, hex] if first.as_str() == "show" && second.as_str() == "tree" => {
+            Some(Form::ShowTree(hex.as_str()))
+        }
         _ => None,
     }
 }

@@ -1,4 +1,4 @@
-// Why the program writes no report.
+// Why the program writes only a line.
 ghost use Rattle.std.specs.Prelude.{◌≡◌};
 ghost use Rattle.vx_request.specs.declared.errors.RequestError.TheVariants as requests;
 ghost use Rattle.vx_query.specs.Refusals.{refusal_line, request_refusal_name, scan_refusal_name};
@@ -9,7 +9,7 @@ use vx_io::InputError;
 use vx_request::{Place, RequestError, Side, TableRefusal};
 use vx_scan::{ScanError, Side as ScannedSide};
 
-/// Why an input has no report.
+/// Why an input has no report or explanation, or a word is not shown.
 #[derive(PartialEq, Eq, Debug, Drop)]
 pub(crate) enum Refusal {
     /// There was no memory.
@@ -26,7 +26,9 @@ pub(crate) enum Refusal {
     BadHex(Side),
     /// The request's table is refused.
     BadTable(TableRefusal),
-    /// The request's expressions are refused.
+    /// The word that is to be shown isn't of two hexadecimal digits for each byte.
+    BadHexText,
+    /// The request's expressions are refused, or what is to be shown is no expression.
     Scan(ScanError),
 }
 
@@ -42,7 +44,8 @@ impl Refusal {
             | Refusal::BadJson
             | Refusal::BadRequest(_)
             | Refusal::BadHex(_)
-            | Refusal::BadTable(_) => 3,
+            | Refusal::BadTable(_)
+            | Refusal::BadHexText => 3,
             Refusal::Scan(_) => 4,
         }
     }
@@ -60,6 +63,7 @@ impl Refusal {
             Refusal::BadHex(Side::Filter) => "error: BadHex filter\n",
             Refusal::BadHex(Side::Projection) => "error: BadHex projection\n",
             Refusal::BadTable(refusal) => table_line(*refusal),
+            Refusal::BadHexText => "error: BadHex text\n",
             Refusal::Scan(error) => scan_line(error),
         }
     }
@@ -167,5 +171,18 @@ impl From<NoMemory> for Refusal {
 
     fn from(_error: NoMemory) -> Refusal {
         Refusal::NoMemory
+    }
+}
+
+impl From<ScanError> for Refusal {
+    ghost use Rattle.vx_query.specs.RefusalViews.{scan_refusal};
+
+    ghost from_gives = { λ e r. r ≡ scan_refusal e };
+
+    fn from(error: ScanError) -> Refusal {
+        match error {
+            ScanError::NoMemory => Refusal::NoMemory,
+            error => Refusal::Scan(error),
+        }
     }
 }

@@ -1,15 +1,17 @@
 // The program as a call.
 ghost use Rattle.std.specs.Prelude.{◌≡◌, map, option_map, Some, None, IfOk, IfErr, IsErr};
 ghost use Rattle.std.specs.String.{string_bytes};
-ghost use Rattle.vx_query.specs.Running.{Outcome, Writing, IsOutcome, IsRun, IsWriting, end_by, form_of, scan_form, status_of, text_of, used_by};
+ghost use Rattle.vx_query.specs.Running.{Outcome, Writing, IsOutcome, IsRun, IsWriting, end_by, form_of, explain_form, scan_form, status_of, text_of, used_by};
 ghost use Rattle.vx_scan.specs.StoreViews.{store_seen};
 ghost use Rattle.vx_query.specs.EndingViews.{ending_status, ending_text};
 ghost use Rattle.vx_query.specs.RefusalViews.{refusal_status, refusal_text};
+ghost use Rattle.vx_query.specs.TextViews.{IsAnsweredBy, answer_status, answer_text};
 
 use crate::answers::answer;
 use crate::endings::Ending;
 use crate::forms::{Form, form_of};
 use crate::refusals::Refusal;
+use crate::texts::{explanation, shown, shown_as_tree};
 use std::alloc::Global;
 use vx_io::{Sink, Source, read_up_to, write_whole};
 use vx_request::MOST_BYTES;
@@ -18,21 +20,24 @@ use vx_scan::MemoryStore;
 const USAGE: &str = "error: Usage\n";
 
 const HELP: &str =
-    "vx scan < REQUEST   prints the selected rows, the skipped blocks and the columns read, as in: vx scan < examples/first.json\nvx --help           prints this text\nvx --version        prints the version\n";
+    "vx scan < REQUEST      prints the selected rows, the skipped blocks and the columns read, as in: vx scan < examples/first.json\nvx explain < REQUEST   prints what a scan does with its filter and its projection, as in: vx explain < examples/explain.json\nvx show HEX            prints the expression that the bytes spell, as in: vx show 04726f6f740000\nvx show tree HEX       prints it as a tree, as in: vx show tree 04726f6f740000\nvx --help              prints this text\nvx --version           prints the version\nexit status: 0 written whole, 2 wrong arguments, 3 no request or no hex, 4 refused expressions, 5 overflow or bad cast,\n6 input not read, 7 output not written, 8 no memory\n";
 
 const VERSION: &str = "vx 0.1.0\n";
 
 /// Does all that the program does, and answers its exit status.
 ///
 /// The argument `scan` takes the input, at most 16,777,217 bytes of it, and writes the report of the scan that the
-/// request in it holds; `--help` and `--version` write their texts and take nothing. The exit status is
+/// request in it holds; `explain` takes it likewise and writes what this scan does with its filter and its projection.
+/// `show` with one word of hexadecimal digits behind it writes the expression that these bytes spell, and `show tree` with
+/// one writes it as a tree; `--help` and `--version` write their texts. These take nothing. The exit status is
 ///
 /// - 0 where the text was written whole;
 /// - 2 where the arguments have none of these forms;
-/// - 3 exactly where the input is no request;
+/// - 3 exactly where the input is no request, or the word to be shown is no hexadecimal text;
 /// - 4 exactly where the request's byte texts spell no two expressions, or these are not strictly typed for its table,
-///   the filter a boolean;
-/// - 5 only where a phase of the scan breaks, and by a cause by which the first one that does so breaks;
+///   the filter a boolean; or where the bytes to be shown spell no expression;
+/// - 5 only where a phase of the scan breaks, and by a cause by which the first one that does so breaks, never for another
+///   argument than `scan`;
 /// - 6 only where the source counted a fault;
 /// - 7 only where the sink did, and then the first bytes of the text or line were written;
 /// - 8 where there was no memory.
@@ -41,9 +46,10 @@ const VERSION: &str = "vx 0.1.0\n";
 /// with 7.
 ///
 /// A refusal writes a line, `error: ` and its name: Usage; ReadFault; NoMemory; InputTooLong, BadJson, BadRequest with its
-/// place, BadHex with `filter` or `projection`, and BadTable with the name of the table's refusal; BadWire, TooDeep,
-/// TooManyNodes, UnknownExpr, BadMetadata, WrongChildren, NotStruct, NullableSelect, UnknownField, DuplicateField and
-/// TypeMismatch, each with `filter` or `projection`, and FilterNotBool; Overflow and BadCast. The lines take no memory.
+/// place, BadHex with `filter`, `projection` or `text`, and BadTable with the name of the table's refusal; BadWire, TooDeep,
+/// TooManyNodes, UnknownExpr, BadMetadata and WrongChildren, each with `filter`, `projection` or `text`, NotStruct,
+/// NullableSelect, UnknownField, DuplicateField and TypeMismatch, each with `filter` or `projection`, and FilterNotBool;
+/// Overflow and BadCast. What is shown is refused with `text`. The lines take no memory.
 ///
 /// Afterwards `used` holds the store that was scanned where a report was made or a phase broke, also where the writing
 /// failed; its reads are those of the scan, up to and with those of the phase that broke. Else it is none.
@@ -62,11 +68,22 @@ pub fn run<I: Source, O: Sink>(
         None => write(output, USAGE, 2),
         Some(Form::Help) => write(output, HELP, 0),
         Some(Form::Version) => write(output, VERSION, 0),
+        Some(Form::Explain) => write_answer(output, &explain_input(alloc, input)),
+        Some(Form::Show(hex)) => write_answer(output, &shown(alloc, hex)),
+        Some(Form::ShowTree(hex)) => write_answer(output, &shown_as_tree(alloc, hex)),
         Some(Form::Scan) => match scan_input(alloc, input, used) {
             Ok(ending) => write(output, ending.text(), ending.status()),
             Err(refusal) => write(output, refusal.line(), refusal.status()),
         },
     }
+}
+
+/// Takes the input and explains the scan that it holds.
+fn explain_input<I: Source>(alloc: Global, input: &mut I) -> Result<String, Refusal>
+    ensures { let source = end_by I.left I.faults in IsAnsweredBy (Some explain_form) (source input.old) (source input.new) result }
+{
+    let bytes = read_up_to(alloc, MOST_BYTES + 1, input)?;
+    explanation(alloc, bytes.as_slice())
 }
 
 /// Takes the input and scans what it holds.
@@ -87,6 +104,17 @@ fn scan_input<I: Source>(
     let scanned = answer(alloc, bytes.as_slice())?;
     *used = Some(scanned.store);
     Ok(scanned.ending)
+}
+
+/// Writes the text of an answer, or the line of its refusal, as [`write`] does.
+fn write_answer<O: Sink>(output: &mut O, answer: &Result<String, Refusal>) -> u8
+    ensures { let sink = end_by O.written O.faults in (writing : Writing)
+        × IsWriting (sink output.old) (sink output.new) (answer_text answer.now) (answer_status answer.now) result writing }
+{
+    match answer {
+        Ok(text) => write(output, text.as_str(), 0),
+        Err(refusal) => write(output, refusal.line(), refusal.status()),
+    }
 }
 
 /// Writes a text, and answers the exit status that goes with a whole one, or 7 where it isn't written whole.

@@ -324,15 +324,66 @@ fn reports_tell_rows_blocks_columns_and_reads(rt: HostRuntime) -> Result<(), Fai
     Ok(())
 }
 
+const EXPLANATION: &str =
+    "filter ($.x > 10i32)\npruning ($.x_max <= 10i32)\nrequired \"x_max\"\nparts root: $.x.x_0 {x: pack(x_0: ($.x > 10i32))}\nprojection $.x\nparts root: $.x.x_0 {x: pack(x_0: $.x)}\n";
+
+#[test]
+fn requests_are_explained_or_refused(rt: HostRuntime) -> Result<(), Fail> {
+    let alloc = rt.alloc();
+    let unpruned =
+        "filter ($.x > 10i32)\npruning -\nrequired -\nparts root: $.x.x_0 {x: pack(x_0: ($.x > 10i32))}\nprojection $.x\nparts root: $.x.x_0 {x: pack(x_0: $.x)}\n";
+    for (table, status, text) in [
+        (SKIPPED, 0, EXPLANATION),
+        (FIRST, 0, unpruned),
+        ("{", 3, "error: BadRequest top\n"),
+    ] {
+        let end = run_over(alloc, &["explain"], request(alloc, table)?, &[], 1000, &[])?;
+        assert_eq!(rt; end.status, status);
+        assert_eq!(rt; end.sink.written(), text.as_bytes());
+        assert!(rt; end.used.is_none());
+    }
+    // A sum out of range breaks a scan, and no explanation.
+    let input = request_of(alloc, [I8, MOST, "[]", NEXT_ABOVE, X])?;
+    let end = run_over(alloc, &["explain"], input, &[], 1000, &[])?;
+    assert_eq!(rt; end.status, 0);
+    let input = request_of(alloc, [I8, MOST, "[]", X, X])?;
+    ends(&rt, alloc, &["explain"], input, 4, "error: FilterNotBool\n")
+}
+
+#[test]
+fn words_are_shown_or_refused(rt: HostRuntime) -> Result<(), Fail> {
+    let alloc = rt.alloc();
+    let filter =
+        "0662696e617279010202086765745f6974656d0201780104726f6f740000076c69746572616c08010006010a00000000";
+    let tree =
+        "Binary(>)\n├── lhs: GetItem(x)\n│   └── Root\n└── rhs: Literal(value: 10i32, dtype: i32)\n";
+    let none = "error: BadHex text\n";
+    for (words, status, text) in [
+        (["show", filter], 0, "($.x > 10i32)\n"),
+        (["show", "tree"], 3, none),
+        (["show", "046"], 3, none),
+        (["show", ""], 4, "error: BadWire text\n"),
+        (
+            ["show", "0764796e616d69630000"],
+            4,
+            "error: UnknownExpr text\n",
+        ),
+        (["show", "04726f6f74010000"], 4, "error: BadMetadata text\n"),
+        (["show", "036e6f740000"], 4, "error: WrongChildren text\n"),
+    ] {
+        ends(&rt, alloc, &words, Vec::new(alloc), status, text)?;
+    }
+    let words = ["show", "tree", filter];
+    ends(&rt, alloc, &words, Vec::new(alloc), 0, tree)?;
+    let words = ["show", "trees", filter];
+    ends(&rt, alloc, &words, Vec::new(alloc), 2, "error: Usage\n")
+}
+
 #[test]
 fn ample(rt: HostRuntime) -> Result<(), Fail> {
     let alloc = rt.alloc();
-    ends(
-        &rt,
-        alloc,
-        &["scan"],
-        request(alloc, FIRST)?,
-        0,
-        FIRST_REPORT,
-    )
+    let scan = request(alloc, FIRST)?;
+    ends(&rt, alloc, &["scan"], scan, 0, FIRST_REPORT)?;
+    let explain = request(alloc, SKIPPED)?;
+    ends(&rt, alloc, &["explain"], explain, 0, EXPLANATION)
 }

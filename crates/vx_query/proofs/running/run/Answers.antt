@@ -1,8 +1,9 @@
 use Rattle.std.proofs.Common.{◌∙◌, sym, ap, refl, map, option_map, Some, None}
 use Rattle.std.specs.String.{string_bytes}
-use Rattle.vx_query.specs.Running.{end_by, form_of, misused, helped, versioned}
+use Rattle.vx_query.specs.Running.{end_by, form_of, explain_form, show_form, show_tree_form, misused, helped, versioned}
+use Rattle.vx_scan.specs.StoreViews.{store_seen}
 use Rattle.vx_query.specs.RunViews.{form_view}
-use Rattle.vx_query.proofs.OutcomeLemmas.{run_of}
+use Rattle.vx_query.proofs.OutcomeLemmas.{run_of, run_answered, run_ended, word_shown, word_shown_as_tree}
 use Rattle.vx_query.proofs.running.run.Goals as goal
 
 pub returns-in-None : goal.returns-in-None
@@ -25,3 +26,38 @@ returns-in-Some-Version g c =
     let sink = end_by g.O.Sink.written g.O.Sink.faults in
     run_of (form_of (map string_bytes c.args.arguments.now)) input input (sink c.args.output.now) (sink c.write-in-Some-Version.new.output) None c.write-in-Some-Version.result versioned
     (sym c.form_of.ensures ∙ ap (option_map form_view) (c.in-Some-Version.is ∙ ap Some c.in-Some-Version.field-0-is), refl) refl c.write-in-Some-Version.ensures
+
+pub returns-in-Some-Explain : goal.returns-in-Some-Explain
+returns-in-Some-Explain g c =
+    let source = end_by g.I.Source.left g.I.Source.faults in
+    let sink = end_by g.O.Sink.written g.O.Sink.faults in
+    run_answered (form_of (map string_bytes c.args.arguments.now)) (Some explain_form) (source c.args.input.now) (source c.explain_input.new.input) (sink c.args.output.now)
+    (sink c.write_answer.new.output) c.write_answer.result c.explain_input.result (sym c.form_of.ensures ∙ ap (option_map form_view) (c.in-Some-Explain.is ∙ ap Some c.in-Some-Explain.field-0-is))
+    c.explain_input.ensures c.write_answer.ensures
+
+pub returns-in-Some-Show : goal.returns-in-Some-Show
+returns-in-Some-Show g c =
+    let source = end_by g.I.Source.left g.I.Source.faults in
+    let sink = end_by g.O.Sink.written g.O.Sink.faults in
+    let word = c.in-Some-Show.hex.now in
+    run_answered (form_of (map string_bytes c.args.arguments.now)) (Some (show_form word)) (source c.args.input.now) (source c.args.input.now) (sink c.args.output.now)
+    (sink c.write_answer-in-Some-Show.new.output) c.write_answer-in-Some-Show.result c.shown.result (sym c.form_of.ensures ∙ ap (option_map form_view) (c.in-Some-Show.is ∙ ap Some c.in-Some-Show.field-0-is))
+    (word_shown word (source c.args.input.now) c.shown.result c.shown.ensures) c.write_answer-in-Some-Show.ensures
+
+pub returns-in-Some-ShowTree : goal.returns-in-Some-ShowTree
+returns-in-Some-ShowTree g c =
+    let source = end_by g.I.Source.left g.I.Source.faults in
+    let sink = end_by g.O.Sink.written g.O.Sink.faults in
+    let word = c.in-Some-ShowTree.hex.now in
+    run_answered (form_of (map string_bytes c.args.arguments.now)) (Some (show_tree_form word)) (source c.args.input.now) (source c.args.input.now) (sink c.args.output.now)
+    (sink c.write_answer-in-Some-ShowTree.new.output) c.write_answer-in-Some-ShowTree.result c.shown_as_tree.result (sym c.form_of.ensures ∙ ap (option_map form_view) (c.in-Some-ShowTree.is ∙ ap Some c.in-Some-ShowTree.field-0-is))
+    (word_shown_as_tree word (source c.args.input.now) c.shown_as_tree.result c.shown_as_tree.ensures) c.write_answer-in-Some-ShowTree.ensures
+
+pub returns-in-Ok : goal.returns-in-Ok
+returns-in-Ok g c =
+    let source = end_by g.I.Source.left g.I.Source.faults in
+    let sink = end_by g.O.Sink.written g.O.Sink.faults in
+    run_ended (form_of (map string_bytes c.args.arguments.now)) (source c.args.input.now) (source c.scan_input.new.input) (sink c.args.output.now) (sink c.write-in-Ok.new.output)
+    (option_map store_seen c.scan_input.new.used) c.write-in-Ok.result c.status.result c.text.result.now c.in-Ok.ending
+    (sym c.form_of.ensures ∙ ap (option_map form_view) (c.in-Some-Scan.is ∙ ap Some c.in-Some-Scan.field-0-is)) c.in-Ok.ensures.told c.status.ensures c.text.ensures
+    c.write-in-Ok.ensures

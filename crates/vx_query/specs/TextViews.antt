@@ -1,0 +1,47 @@
+-- For the checker: no public clause cites this. Texts that answer an input or a word, and the lines of refusals in their place.
+use Rattle.std.specs.Prelude.{◌≡◌, ℕ, Option, None, Result, Ok, Err}
+use Rattle.std.specs.String.{string_bytes}
+use Rattle.std.specs.declared.string.String.{String}
+use Rattle.std.specs.declared.alloc.Global.{Global}
+use Rattle.vx_dtype.specs.Types.{Bytes}
+use Rattle.vx_expr.specs.Trees.{Tree}
+use Rattle.vx_explain.specs.Explanations.{explain_text}
+use Rattle.vx_request.specs.Requests.{RequestedScan}
+use Rattle.vx_query.specs.Running.{End, Form, HoldsScan, WordSpells, Outcome, IsOutcome, status_of, text_of, used_by}
+use Rattle.vx_query.specs.RefusalViews.{refusal_status, refusal_text, IsUnanswered, IsWordUnshown}
+use Rattle.vx_query.specs.declared.refusals.Refusal.{Refusal}
+
+-- the exit status of an answer, and the text that is written
+abbrev pub answer_status : Result (String Global) Refusal → ℕ
+answer_status (Ok text) = 0
+answer_status (Err r) = refusal_status r
+
+abbrev pub answer_text : Result (String Global) Refusal → Bytes
+answer_text (Ok text) = string_bytes text
+answer_text (Err r) = refusal_text r
+
+-- the explanation of the scan that an input holds
+pub record IsExplanation (input text : Bytes) : Type 0 where
+  pub asked : RequestedScan
+  pub filter : Tree
+  pub projection : Tree
+  pub holds : HoldsScan input asked filter projection
+  pub told : text ≡ explain_text asked.zones filter projection
+
+-- an input is answered by an explanation, or by a refusal
+abbrev pub ExplainsInput : Bytes → Result (String Global) Refusal → Type 0
+ExplainsInput input (Ok text) = IsExplanation input (string_bytes text)
+ExplainsInput input (Err r) = IsUnanswered input r
+
+-- a word is shown so, or is refused
+abbrev pub ShowsWord : (Tree → Bytes) → Bytes → Result (String Global) Refusal → Type 0
+ShowsWord told word (Ok text) = (e : Tree) × WordSpells word e × (string_bytes text ≡ told e)
+ShowsWord told word (Err r) = IsWordUnshown word r
+
+-- an outcome that an answer stands for; no store is held
+pub record IsAnsweredBy (form : Option Form) (before after : End) (answer : Result (String Global) Refusal) : Type 0 where
+  pub outcome : Outcome
+  pub comes : IsOutcome form before after outcome
+  pub status : status_of outcome ≡ answer_status answer
+  pub text : text_of outcome ≡ answer_text answer
+  pub unheld : used_by outcome ≡ None
