@@ -1,0 +1,5 @@
+pub mod Tokens
+pub mod Readings
+pub mod Grammar
+pub mod Reading
+pub mod TypeParts
