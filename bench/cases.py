@@ -411,6 +411,52 @@ SCANS = [
     group([("x", "i32?")], [[[1, None]], [[2]]], scanned(null_test(X), X, "rows null / skipped 1 / reads 0 x"), stats=[(["x"], "null_count", [1, 0])]),
 ]
 
+# Queries: what each rule and each call names, and what is refused.
+
+READ = [
+    ("x > 10i32", "($.x > 10i32)"),
+    ("a or b or c", "(($.a or $.b) or $.c)"),
+    ("a or b and c", "($.a or ($.b and $.c))"),
+    ("not not a and b", "((!(!$.a)) and $.b)"),
+    ("not a = b", "(!($.a = $.b))"),
+    ("a + b - c <= d", "((($.a + $.b) - $.c) <= $.d)"),
+    ("a!=b", "($.a != $.b)"),
+    ("1 - -2", "(1i64 - -2i64)"),
+    ("(a or b) and c", "(($.a or $.b) and $.c)"),
+    ("$.\"or\".\"a\"\"b\"", "$.or.a\"b"),
+    ("$.b{x, \"y z\"}", "$.b{x, y z}"),
+    ("b~{x}{}", "$.b~{x}{}"),
+    ("'it''s é' = \"é\"", "(\"it's é\" = $.é)"),
+    ("true = false", "(true = false)"),
+    ("lit(i32?, null)", "null"),
+    ("lit(list(u8?), [1, null])", "[1u8, null]"),
+    ("lit({a: i8, b: utf8?}?, {-128, 'x'})", "{a: -128i8, b: \"x\"}"),
+    ("bool = u8", "($.bool = $.u8)"),
+    ("9223372036854775807", "9223372036854775807i64"),
+    ("-9223372036854775808", "-9223372036854775808i64"),
+    ("255u8", "255u8"),
+    ("18446744073709551615u64", "18446744073709551615u64"),
+    ("is_null(a)", "is_null($.a)"),
+    ("cast(a, list({x: u16})?)", "cast($.a, list({x=u16})?)"),
+    ("contains(l, 1u8)", "contains($.l, 1u8)"),
+    ("like(a, 'x%')", "$.a LIKE \"x%\""),
+    ("between_oc(v, 1, 2)", "(1i64 < $.v <= 2i64)"),
+    ("between_co(v, 1, 2)", "(1i64 <= $.v < 2i64)"),
+    ("between_oo(v, 1, 2)", "(1i64 < $.v < 2i64)"),
+    ("between(v, 1, 2)", "(1i64 <= $.v <= 2i64)"),
+    ("pack(x: a, y: 1i8)", "pack(x: $.a, y: 1i8)"),
+    ("pack_null()", "pack()?"),
+    ("merge($, $.b)", "merge($, $.b)"),
+    ("merge_null(a)", "merge($.a)?"),
+    ("(" * 100 + "x" + ")" * 100, "$.x"),
+    *[(text, "BadToken") for text in ["'a", "\"a", "007", "1u9", "12x", "a ! b", "é"]],
+    *[(text, "BadQuery") for text in ["", "1 +", "or", "a = b = c", "a{x,}", "is_null(a, b)", "between(300u8, a)", "lit(u8, 1u8)", "300u8 +"]],
+    *[(text, "BadValue") for text in ["300u8", "256u8", "-1u8", "9223372036854775808", "9" * 41, "lit(u8, null)", "lit({a: u8}, [1])"]],
+    ("x " * 4097, "TooManyTokens"),
+    ("x " * 4096, "BadQuery"),
+]
+QUERIES = [group([], [], *[{"query": text, "read": told} for text, told in READ])]
+
 TABLES = {
     "texts": [TEXTS],
     "typing": [TYPES, *OTHER_TYPES],
@@ -418,6 +464,7 @@ TABLES = {
     "rewriting": REWRITING,
     "pruning": PRUNING,
     "scans": SCANS,
+    "queries": QUERIES,
 }
 
 
@@ -425,7 +472,7 @@ def main():
     os.makedirs(DATA, exist_ok=True)
     for name, groups in TABLES.items():
         cases = [case for table in groups for case in table["cases"]]
-        answers = sum(len(case) - 2 - ("over" in case) for case in cases)
+        answers = sum(len(case) - len({"filter", "projection", "over", "query"} & set(case)) for case in cases)
         with open(os.path.join(DATA, name + ".json"), "w", encoding="utf-8") as out:
             json.dump(groups, out, ensure_ascii=False, separators=(",", ":"))
             out.write("\n")

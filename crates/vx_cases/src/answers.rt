@@ -12,6 +12,7 @@ use vx_dtype::{DType, Mem, NoMemory};
 use vx_eval::{EvalError, ExprEval, Scope, TypeError};
 use vx_expr::{DisplayAs, ExprRef};
 use vx_partition::{annotate_scope_access, partition};
+use vx_text::{TextError, read_query};
 use vx_transform::laws::{find_between, remove_merge, remove_select};
 use vx_transform::{TransformError, replace_root_fields, simplify, simplify_typed};
 use vx_wire::ExprSerializeProtoExt;
@@ -24,6 +25,7 @@ pub(crate) fn answer(
     subject: Subject,
 ) -> Result<String, CaseError> {
     match subject {
+        Subject::Read => Ok(read(alloc, case.query)?),
         Subject::Scan => scan_of(alloc, case),
         Subject::ScanUntold => scan_untold(alloc, case),
         Subject::ScanFailing => scan_failing(alloc, case),
@@ -31,6 +33,15 @@ pub(crate) fn answer(
             let opened = open_case(alloc, case)?;
             answer_opened(alloc, &opened, subject)
         }
+    }
+}
+
+/// The compact text of the expression that a query names, or its refusal.
+fn read(alloc: Global, query: &str) -> Mem<String> {
+    match read_query(alloc, query) {
+        Ok(expr) => expr.compact(alloc),
+        Err(TextError::NoMemory) => Err(NoMemory),
+        Err(error) => Ok(format!(in alloc; "{error}")?),
     }
 }
 

@@ -3,6 +3,8 @@
 /// A question about the expressions of a case.
 #[derive(Clone, Copy)]
 pub(crate) enum Subject {
+    /// The compact text of the expression that the query names, or its refusal.
+    Read,
     /// The compact text of the projection.
     Compact,
     /// The bytes that the projection is written as.
@@ -46,7 +48,8 @@ pub(crate) enum Subject {
 }
 
 /// The members of a case that hold an answer, each with its question.
-pub(crate) const SUBJECTS: [(&str, Subject); 20] = [
+pub(crate) const SUBJECTS: [(&str, Subject); 21] = [
+    ("read", Subject::Read),
     ("compact", Subject::Compact),
     ("bytes", Subject::Bytes),
     ("tree", Subject::Tree),

@@ -13,11 +13,12 @@ pub(crate) struct Tried {
     pub(crate) differences: Vec<String>,
 }
 
-/// A case: the text of its request, and the column over whose values it stands in place of the rows.
+/// A case: the text of its request, the column over whose values it stands in place of the rows, and its query.
 #[derive(Drop)]
 pub(crate) struct Case<'a> {
     pub(crate) request: String,
     pub(crate) over: Option<&'a str>,
+    pub(crate) query: &'a str,
 }
 
 /// Tries each case of a table.
@@ -45,6 +46,7 @@ fn try_case(
     let opened = Case {
         request: request_of(alloc, group, case)?,
         over: case.get("over").and_then(Value::as_str),
+        query: case.get("query").and_then(Value::as_str).unwrap_or(""),
     };
     for (name, subject) in SUBJECTS {
         if let Some(want) = case.get(name).and_then(Value::as_str) {
