@@ -1,11 +1,17 @@
 // What the statistics of a case's table rule out.
+ghost use Rattle.std.specs.Prelude.{◌≡◌, Ok};
+ghost use Rattle.vx_dtype.specs.TypeViews.{type_view};
+ghost use Rattle.vx_semantics.specs.Tables.{row_type};
+ghost use Rattle.vx_semantics.specs.Typing.{typed_of};
+
 use crate::opening::Opened;
 use std::alloc::Global;
 use vx_block_pruning::ruled_out;
-use vx_dtype::Mem;
+use vx_dtype::{DType, Mem};
 use vx_eval::{ExprEval, slots_fit};
-use vx_expr::DisplayAs;
+use vx_expr::{DisplayAs, ExprRef};
 use vx_prune::{checked_pruning_expr, field_path_stat_field_name, is_required};
+use vx_zones::ZoneMap;
 
 /// The pruning expression of the filter over the available statistics, or `-`.
 pub(crate) fn pruning(alloc: Global, case: &Opened) -> Mem<String> {
@@ -33,19 +39,29 @@ pub(crate) fn required(alloc: Global, case: &Opened) -> Mem<String> {
     Ok(text)
 }
 
-/// The numbers of the blocks that the filter rules out, each ended by `;`.
+/// The numbers of the blocks that the filter rules out, each ended by `;`, or the refusal of the filter's typing.
 pub(crate) fn ruled_out_blocks(alloc: Global, case: &Opened) -> Mem<String> {
-    if let Err(error) = case.filter.typed(alloc, case.zones.dtype()) {
-        return Ok(format!(in alloc; "{error}")?);
+    match case.filter.typed(alloc, case.zones.dtype()) {
+        Ok(dtype) => blocks_of(alloc, &case.zones, &case.filter, &dtype),
+        Err(error) => Ok(format!(in alloc; "{error}")?),
     }
-    if !slots_fit(&[], &case.filter) {
+}
+
+/// The same for a filter of this type.
+fn blocks_of(alloc: Global, zones: &ZoneMap, filter: &ExprRef, dtype: &DType) -> Mem<String>
+    requires { typed_of (row_type zones.now.columns) filter.now ≡ Ok (type_view dtype.now) }
+{
+    if !slots_fit(&[], filter) {
         return Ok(String::from_str(alloc, "TypeMismatch")?);
     }
+    let flags = ruled_out(alloc, zones, filter, &[])?;
+    numbers_of(alloc, flags.as_slice())
+}
+
+/// The places of what is true, each ended by `;`.
+fn numbers_of(alloc: Global, flags: &[bool]) -> Mem<String> {
     let mut text = String::new(alloc);
-    for (block, out) in ruled_out(alloc, &case.zones, &case.filter, &[])?
-        .iter()
-        .enumerate()
-    {
+    for (block, out) in flags.iter().enumerate() {
         if *out {
             text.push_str(format!(in alloc; "{block};")?.as_str())?;
         }

@@ -72,7 +72,10 @@ fn fails_at(
     reads: &[ReadEntry],
     place: usize,
 ) -> Result<bool, CaseError> {
-    let mut stored = store_case(alloc, case, Some(place as u32))?;
+    let Ok(behind) = u32::try_from(place) else {
+        return Ok(false);
+    };
+    let mut stored = store_case(alloc, case, Some(behind))?;
     let ended = scanned(
         alloc,
         &mut stored.store,

@@ -3,7 +3,7 @@ ghost use Rattle.std.specs.Prelude.{◌≡◌, map};
 ghost use Rattle.vx_dtype.specs.TypeRules.{has_name, field_names};
 ghost use Rattle.vx_scan.specs.Stores.{IsSameStore, Reads, WhereTold, AgreesWith};
 ghost use Rattle.vx_scan.specs.StoreViews.{entry_view};
-ghost use crate::specs::UntoldStores.{untold_seen};
+ghost use Rattle.vx_cases.specs.UntoldStores.{untold_seen};
 
 use vx_column::ColumnRef;
 use vx_dtype::FieldName;
