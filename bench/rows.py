@@ -79,6 +79,34 @@ def pq(filter_bytes, projection):
     return request(PQ, PQ_ROW, filter_bytes, projection)
 
 
+def nested(n):
+    """Selects of all six columns, so many in one another."""
+    of = ROOT
+    for _ in range(n):
+        of = select(of, "id", "name", "price", "tags", "address", "active")
+    return {**realistic(), "projection": of.hex()}
+
+
+def conjunction(n):
+    return ABOVE_TEN if n == 1 else binary(conjunction(n // 2), "and", conjunction(n - n // 2))
+
+
+def wide(n):
+    """A table of so many columns with a row, all of which the projection asks."""
+    columns = [("c%d" % i, "i64") for i in range(n)]
+    return request(columns, [[[i] for i in range(n)]], TRUE, pack(*((c, item(c)) for c, _ in columns)))
+
+
+WHOLE = """rows 4
+{"id":3,"name":"alex","price":100,"tags":[],"address":{"city":"Oslo","zip":3},"active":true}
+{"id":6,"name":"ann","price":120,"tags":[],"address":{"city":"Oslo","zip":6},"active":true}
+{"id":13,"name":"arne","price":700,"tags":[],"address":{"city":"Oslo","zip":13},"active":true}
+{"id":16,"name":"aki","price":1000,"tags":[],"address":{"city":"Oslo","zip":16},"active":true}
+skipped 0 4
+columns "id" "name" "price" "tags" "address" "active"
+reads 30"""
+WIDE = "rows 1 / {%s} / skipped - / columns %s / reads 1024" % (
+    ",".join('"c%d":%d' % (i, i) for i in range(1024)), " ".join('"c%d"' % i for i in range(1024)))
 NONE = "rows 0 / skipped - / columns - / reads 0"
 READ = "rows 0 / skipped - / columns \"x\" / reads 1"
 ROWS = [
@@ -123,6 +151,9 @@ ROWS = [
     ("lying statistics", request(X32, [[[5]]], binary(X, "=", lit("i32", 5)), X, [(["x"], "min", [9]), (["x"], "max", [1])]),
      "rows 0 / skipped 0 / columns - / reads 0", 0),
     ("a catalog", realistic(), REALISTIC.replace("\n", " / "), 0),
+    ("254 nested selects", nested(254), WHOLE.replace("\n", " / "), 0),
+    ("4,094 nodes", bytes_of(conjunction(819)), 'rows 2 / 12 / 20 / skipped - / columns "x" / reads 2', 0),
+    ("1,024 columns", wide(1024), WIDE, 0),
 ]
 
 
