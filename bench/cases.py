@@ -285,6 +285,24 @@ REWRITING = [
           of(ABOVE_TEN, parts="root: $.x.x_0 {x: pack(x_0: ($.x > 10i32))}"), of(X, parts="root: $.x.x_0 {x: pack(x_0: $.x)}")),
 ]
 
+SIX = ["id", "name", "price", "tags", "address", "active"]
+SIX_FIELDS = "pack(%s)" % ", ".join("%s: $.%s" % (c, c) for c in SIX)
+
+
+def nested(n, around):
+    """The row within so many of these."""
+    return ROOT if n == 0 else around(nested(n - 1, around))
+
+
+REWRITING += [
+    {**{member: realistic()[member] for member in ("columns", "blocks", "stats")},
+     "cases": [of(nested(n, lambda e: select(e, *SIX)), simplified_typed=SIX_FIELDS) for n in (1, 12, 254)]
+     + [of(nested(12, lambda e: merge(ROOT, e)), simplified_typed=SIX_FIELDS)]},
+    # a refusal in a part that the passes drop
+    group([("a", "i32"), ("b", "i32")], [[[0], [0]]],
+          of(merge(pack(("x", cast(item("b", select(ROOT, "a")), "i32"))), pack(("x", i32(1)))), simplified_typed="pack(x: 1i32)")),
+]
+
 # Pruning: the trees, what they need, and the blocks that they rule out.
 
 ONE_MAX = "(((($.a_max < 1i32) or ($.a_min > 1i32)) and (($.a_max < 2i32) or ($.a_min > 2i32))) and (($.a_max < 3i32) or ($.a_min > 3i32)))"

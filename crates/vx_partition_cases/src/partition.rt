@@ -1,5 +1,5 @@
 //! Splits of predicates over two columns.
-ghost use Rattle.std.specs.Prelude.{length, IfOk};
+ghost use Rattle.std.specs.Prelude.{◌≡◌, length, IfOk};
 
 use std::alloc::Global;
 use std::test::Fail;

@@ -7,5 +7,3 @@ mod removing;
 mod samples;
 #[cfg(test)]
 mod simplifying;
-#[cfg(test)]
-mod walking;

@@ -1,5 +1,5 @@
 // Types, names and paths: tables of printed texts, names that stand once, and each call that takes memory with ample memory.
-ghost use Rattle.std.specs.Prelude.{length, IfOk};
+ghost use Rattle.std.specs.Prelude.{◌≡◌, length, IfOk};
 
 use std::alloc::Global;
 use std::rc::Rc;
