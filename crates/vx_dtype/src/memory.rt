@@ -2,20 +2,24 @@
 ghost use Rattle.std.specs.Prelude.{◌≡◌};
 
 use std::alloc::{AllocError, AllocFailed};
+use thiserror::Error;
 
 /// There was no memory for the answer.
-#[derive(PartialEq, Eq, Debug, Drop)]
+#[derive(PartialEq, Eq, Debug, Drop, Error)]
+#[error("NoMemory")]
 pub struct NoMemory;
 
 /// The answer of a call that takes memory and has no other refusal.
 pub type Mem<T> = Result<T, NoMemory>;
 
 /// Why fields aren't taken out of a struct's.
-#[derive(PartialEq, Eq, Debug, Drop)]
+#[derive(PartialEq, Eq, Debug, Drop, Error)]
 pub enum FieldsError {
     /// There was no memory for the answer.
+    #[error("NoMemory")]
     NoMemory,
     /// Exactly where a name isn't among the fields'.
+    #[error("UnknownField")]
     UnknownField,
 }
 

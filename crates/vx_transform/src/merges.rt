@@ -15,7 +15,7 @@ use std::alloc::Global;
 use vx_build::{col, get_item};
 use vx_dtype::{DType, FieldName, FieldNames, Mem, Nullability};
 use vx_expr::{Expr, ExprRef};
-use vx_typing::{first_names, push_names};
+use vx_typing::{first_names, followed_by};
 
 /// The pack of the given fields in the place of a merge.
 #[derive(Drop)]
@@ -97,7 +97,7 @@ fn all_names(alloc: Global, given: &[Giving]) -> Mem<Vec<FieldName>>
 {
     let mut names = Vec::new(alloc);
     for giving in given {
-        push_names(&mut names, giving.names.as_slice())?;
+        names = followed_by(names, giving.names.as_slice())?;
     }
     Ok(names)
 }

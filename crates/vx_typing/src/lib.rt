@@ -14,6 +14,6 @@ mod strict_typing;
 pub use errors::TypeError;
 pub use kinds::{equal_plain, is_bool, is_text, takes_cast, union_of};
 pub use loose_typing::return_dtype;
-pub use merges::{all_structs, first_names, gives, merged_names, push_names};
+pub use merges::{all_structs, first_names, followed_by, gives, merged_names};
 pub use slots::{held_fits, slots_fit};
 pub use strict_typing::typed;

@@ -1,5 +1,5 @@
 // The type of several structs' fields.
-ghost use Rattle.std.specs.Prelude.{◌≡◌, map, length, option_map, IfOk, OnOk, ◌++◌};
+ghost use Rattle.std.specs.Prelude.{◌≡◌, map, length, option_map, IfOk, ◌++◌};
 ghost use Rattle.std.specs.List.{flat_map, list_all};
 ghost use Rattle.vx_dtype.specs.TypeRules.{has_name};
 ghost use Rattle.vx_dtype.specs.StructTypes.{is_struct_ty};
@@ -74,14 +74,14 @@ fn merged_type(name: &FieldName, types: &[DType]) -> Mem<Option<DType>>
     }
 }
 
-/// Puts names at the end. After a refusal some of them may stand there.
-pub fn push_names(names: &mut Vec<FieldName>, more: &[FieldName]) -> Mem<()>
-    ensures { OnOk result (names.new.items ≡ names.old.items ++ more.now) }
+/// Names, and more of them behind.
+pub fn followed_by(mut names: Vec<FieldName>, more: &[FieldName]) -> Mem<Vec<FieldName>>
+    ensures { IfOk result (λ all. all.items ≡ names.items ++ more.now) }
 {
     for name in more {
         names.push(name.clone()?)?;
     }
-    Ok(())
+    Ok(names)
 }
 
 /// The names of the structs' fields, in order.
@@ -91,7 +91,7 @@ fn all_names(alloc: Global, types: &[DType]) -> Mem<Vec<FieldName>>
     let mut names = Vec::new(alloc);
     for dtype in types {
         match dtype {
-            DType::Struct(fields, _) => push_names(&mut names, fields.names().as_slice())?,
+            DType::Struct(fields, _) => names = followed_by(names, fields.names().as_slice())?,
             _ => continue,
         }
     }

@@ -1,5 +1,5 @@
 use Rattle.std.proofs.Common.{◌≡◌, ◌++◌, drop}
-use Rattle.vx_typing.proofs.merges.push_names.Given as goal
+use Rattle.vx_typing.proofs.merges.followed_by.Given as goal
 
 -- what is left to put there
 abbrev pub invariant-loop-name : goal.invariant-loop-name
