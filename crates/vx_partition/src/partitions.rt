@@ -10,9 +10,7 @@ use crate::shares::{Shares, part_name};
 use std::alloc::Global;
 use vx_dtype::{DType, FieldName, FieldNames, Mem, Nullability};
 use vx_expr::ExprRef;
-use vx_transform::packs::pack_of;
-use vx_transform::types::type_of;
-use vx_transform::{TransformError, simplify_typed};
+use vx_transform::{TransformError, pack_of, simplify_typed, type_of};
 
 /// A partition: its annotation, its expression and the expression's type.
 #[derive(Drop)]

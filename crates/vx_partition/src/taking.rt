@@ -13,7 +13,7 @@ use crate::shares::Shares;
 use std::alloc::Global;
 use vx_dtype::Mem;
 use vx_expr::{ExprRef, VortexExpr};
-use vx_transform::children::with_these;
+use vx_transform::with_these;
 
 /// The annotation of the entry of an expression, where the entry has exactly one.
 fn only_annotation<'a, A: Annotation>(found: &'a Annotations<A>, expr: &ExprRef) -> Option<&'a A>

@@ -1,23 +1,26 @@
 //! Rewriting passes over expressions: replacing, simplifying, and the removal of selects and merges.
 #![tactic(auto)]
 
-pub mod children;
+mod children;
 mod errors;
 mod givings;
 mod heads;
 pub mod laws;
 mod merges;
 mod pack_fields;
-pub mod packs;
+mod packs;
 mod pairing;
 mod readings;
 mod rebuilding;
 mod replacing;
 mod selects;
 mod simplifying;
-pub mod types;
+mod types;
 mod walking;
 
+pub use children::with_these;
 pub use errors::TransformError;
+pub use packs::pack_of;
 pub use replacing::{replace, replace_root_fields};
 pub use simplifying::{simplify, simplify_typed};
+pub use types::type_of;
