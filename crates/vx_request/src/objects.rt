@@ -1,9 +1,11 @@
-// JSON values looked into: objects with exactly these members, and whole numbers.
-ghost use Rattle.std.specs.Prelude.{◌≡◌, ◌∷◌, [], option_map};
+// JSON values looked into: objects with exactly these members, lists of such values, whole numbers.
+ghost use Rattle.std.specs.Prelude.{◌≡◌, ◌∷◌, [], map, option_map, IfOk};
 ghost use Rattle.serde_json.specs.View.{view};
-ghost use Rattle.vx_request.specs.Objects.{has_members, object_of, integer_in};
+ghost use Rattle.vx_request.specs.Objects.{has_members, object_of, list_read, integer_in};
 
 use serde_json::Value;
+use std::alloc::Global;
+use vx_dtype::Mem;
 
 /// Whether a value is an object of so many members.
 #[tactic(auto, using(crate::proofs::ObjectLemmas::members_len_view))]
@@ -44,6 +46,45 @@ pub(crate) fn three_members<'v>(
         return None;
     }
     Some((value.get(first)?, value.get(second)?, value.get(third)?))
+}
+
+/// What is read of a JSON value, and may borrow from it.
+pub(crate) trait FromValue<'v>: Sized + Drop {
+    ghost use Rattle.std.specs.Prelude.{Option};
+    ghost use Rattle.serde_json.specs.Data.{Data};
+
+    /// What it stands for.
+    ghost Seen: { Type 0 };
+
+    ghost seen: { Self → Seen };
+
+    /// What a JSON value is read as.
+    ghost found: { Data → Option Seen };
+
+    /// What a value is read as, none where it isn't of the form.
+    fn from_value(alloc: Global, value: &'v Value) -> Mem<Option<Self>>
+        ensures { IfOk result (λ x. option_map seen x ≡ found (view value.now)) };
+}
+
+/// What each value of a list is read as, where all are of the form.
+#[tactic(auto, using(crate::proofs::ItemLemmas::found_one_more, crate::proofs::ItemLemmas::found_at_end))]
+pub(crate) fn list_read<'v, T: FromValue<'v>>(
+    alloc: Global,
+    value: &'v Value,
+) -> Mem<Option<Vec<T>>>
+    ensures { IfOk result (λ list. option_map (λ v. map T.seen v.items) list ≡ list_read T.found (view value.now)) }
+{
+    let Some(items) = value.as_array() else {
+        return Ok(None);
+    };
+    let mut list = Vec::with_capacity(alloc, items.len())?;
+    for item in items {
+        match T::from_value(alloc, item)? {
+            Some(read) => list.push(read)?,
+            None => return Ok(None),
+        }
+    }
+    Ok(Some(list))
 }
 
 /// The whole number that a value is, with or without a sign.

@@ -1,12 +1,13 @@
 // The places of a request, each read of a JSON value.
 ghost use Rattle.std.specs.Prelude.{◌≡◌, ◌^◌, ◌<◌, nat_le, length, map, option_map, IfSome, IfOk};
+ghost use Rattle.serde_json.specs.Data.{Items};
 ghost use Rattle.serde_json.specs.Find.{as_str, as_array};
 ghost use Rattle.serde_json.specs.View.{view};
-ghost use Rattle.vx_request.specs.Objects.{list_read};
-ghost use Rattle.vx_request.specs.Places.{columns_in, rows_in, block_in, rows_number, most_rows, blocks_in, stat_named, stat_in, stats_in};
+ghost use Rattle.vx_dtype.specs.Types.{Bytes};
+ghost use Rattle.vx_request.specs.Places.{BlockText, StatText, columns_in, rows_in, block_in, rows_number, most_rows, blocks_in, stat_named, stat_in, stats_in};
 ghost use Rattle.vx_request.specs.RequestViews.{cells_view, block_view, name_view, stat_view};
 
-use crate::objects::{three_members, two_members};
+use crate::objects::{FromValue, list_read, three_members, two_members};
 use crate::types::{MOST_LEVELS, named_fields, named_types_in};
 use serde_json::Value;
 use std::alloc::Global;
@@ -57,56 +58,39 @@ fn rows_in(value: &Value) -> Option<u32>
     Some(rows as u32)
 }
 
-/// The lists of cells of a list.
-#[tactic(auto, using(crate::proofs::ItemLemmas::found_one_more, crate::proofs::ItemLemmas::found_at_end))]
-fn lists_in(alloc: Global, value: &Value) -> Mem<Option<Vec<&Vec<Value>>>>
-    ensures { IfOk result (λ lists. option_map (λ v. map cells_view v.items) lists ≡ list_read as_array (view value.now)) }
-{
-    let Some(items) = value.as_array() else {
-        return Ok(None);
-    };
-    let mut lists = Vec::with_capacity(alloc, items.len())?;
-    for item in items {
-        match item.as_array() {
-            Some(cells) => lists.push(cells)?,
-            None => return Ok(None),
-        }
+/// A column's cells: a list.
+impl<'v> FromValue<'v> for &'v Vec<Value> {
+    ghost Seen = { Items };
+
+    ghost seen = { cells_view };
+
+    ghost found = { as_array };
+
+    fn from_value(_alloc: Global, value: &'v Value) -> Mem<Option<&'v Vec<Value>>> {
+        Ok(value.as_array())
     }
-    Ok(Some(lists))
 }
 
 /// A block: an object of its number of rows and the lists of its columns' cells.
-fn block_in(alloc: Global, value: &Value) -> Mem<Option<Block<'_>>>
-    ensures { IfOk result (λ block. option_map block_view block ≡ block_in (view value.now)) }
-{
-    let Some((rows, values)) = two_members(value, "rows", "values") else {
-        return Ok(None);
-    };
-    let Some(rows) = rows_in(rows) else {
-        return Ok(None);
-    };
-    match lists_in(alloc, values)? {
-        Some(values) => Ok(Some(Block { rows, values })),
-        None => Ok(None),
-    }
-}
+impl<'v> FromValue<'v> for Block<'v> {
+    ghost Seen = { BlockText };
 
-/// A list of blocks.
-#[tactic(auto, using(crate::proofs::ItemLemmas::found_one_more, crate::proofs::ItemLemmas::found_at_end))]
-fn listed_blocks(alloc: Global, value: &Value) -> Mem<Option<Vec<Block<'_>>>>
-    ensures { IfOk result (λ blocks. option_map (λ v. map block_view v.items) blocks ≡ list_read block_in (view value.now)) }
-{
-    let Some(items) = value.as_array() else {
-        return Ok(None);
-    };
-    let mut blocks = Vec::with_capacity(alloc, items.len())?;
-    for item in items {
-        match block_in(alloc, item)? {
-            Some(block) => blocks.push(block)?,
-            None => return Ok(None),
+    ghost seen = { block_view };
+
+    ghost found = { block_in };
+
+    fn from_value(alloc: Global, value: &'v Value) -> Mem<Option<Block<'v>>> {
+        let Some((rows, values)) = two_members(value, "rows", "values") else {
+            return Ok(None);
+        };
+        let Some(rows) = rows_in(rows) else {
+            return Ok(None);
+        };
+        match list_read(alloc, values)? {
+            Some(values) => Ok(Some(Block { rows, values })),
+            None => Ok(None),
         }
     }
-    Ok(Some(blocks))
 }
 
 /// Whether all blocks together have no more rows than 1,048,576.
@@ -129,7 +113,7 @@ pub(crate) fn blocks_in(alloc: Global, value: &Value) -> Mem<Option<Vec<Block<'_
     ensures blocks { IfOk result (λ blocks. option_map (λ v. map block_view v.items) blocks ≡ blocks_in (view value.now)) }
     ensures few { IfOk result (λ blocks. IfSome blocks (λ v. length v.items < 2 ^ 32)) }
 {
-    let Some(blocks) = listed_blocks(alloc, value)? else {
+    let Some(blocks) = list_read(alloc, value)? else {
         return Ok(None);
     };
     if !rows_within(blocks.as_slice()) {
@@ -157,57 +141,47 @@ fn stat_named(name: &str) -> Option<Stat>
     None
 }
 
-/// The texts of a list.
-#[tactic(auto, using(crate::proofs::ItemLemmas::found_one_more, crate::proofs::ItemLemmas::found_at_end))]
-fn texts_in(alloc: Global, value: &Value) -> Mem<Option<Vec<&str>>>
-    ensures { IfOk result (λ texts. option_map (λ v. map name_view v.items) texts ≡ list_read as_str (view value.now)) }
-{
-    let Some(items) = value.as_array() else {
-        return Ok(None);
-    };
-    let mut texts = Vec::with_capacity(alloc, items.len())?;
-    for item in items {
-        match item.as_str() {
-            Some(text) => texts.push(text)?,
-            None => return Ok(None),
-        }
+/// A name in a path: a text.
+impl<'v> FromValue<'v> for &'v str {
+    ghost Seen = { Bytes };
+
+    ghost seen = { name_view };
+
+    ghost found = { as_str };
+
+    fn from_value(_alloc: Global, value: &'v Value) -> Mem<Option<&'v str>> {
+        Ok(value.as_str())
     }
-    Ok(Some(texts))
 }
 
 /// A statistic: an object of its path's names, its own name and its cells.
-fn stat_in(alloc: Global, value: &Value) -> Mem<Option<Statistic<'_>>>
-    ensures { IfOk result (λ stat. option_map stat_view stat ≡ stat_in (view value.now)) }
-{
-    let Some((path, stat, values)) = three_members(value, "path", "stat", "values") else {
-        return Ok(None);
-    };
-    let Some(path) = texts_in(alloc, path)? else {
-        return Ok(None);
-    };
-    let Some(stat) = stat.as_str().and_then(stat_named) else {
-        return Ok(None);
-    };
-    match values.as_array() {
-        Some(values) => Ok(Some(Statistic { path, stat, values })),
-        None => Ok(None),
+impl<'v> FromValue<'v> for Statistic<'v> {
+    ghost Seen = { StatText };
+
+    ghost seen = { stat_view };
+
+    ghost found = { stat_in };
+
+    fn from_value(alloc: Global, value: &'v Value) -> Mem<Option<Statistic<'v>>> {
+        let Some((path, stat, values)) = three_members(value, "path", "stat", "values") else {
+            return Ok(None);
+        };
+        let Some(path) = list_read(alloc, path)? else {
+            return Ok(None);
+        };
+        let Some(stat) = stat.as_str().and_then(stat_named) else {
+            return Ok(None);
+        };
+        match values.as_array() {
+            Some(values) => Ok(Some(Statistic { path, stat, values })),
+            None => Ok(None),
+        }
     }
 }
 
 /// The statistics: a list of them.
-#[tactic(auto, using(crate::proofs::ItemLemmas::found_one_more, crate::proofs::ItemLemmas::found_at_end))]
 pub(crate) fn stats_in(alloc: Global, value: &Value) -> Mem<Option<Vec<Statistic<'_>>>>
     ensures { IfOk result (λ stats. option_map (λ v. map stat_view v.items) stats ≡ stats_in (view value.now)) }
 {
-    let Some(items) = value.as_array() else {
-        return Ok(None);
-    };
-    let mut stats = Vec::with_capacity(alloc, items.len())?;
-    for item in items {
-        match stat_in(alloc, item)? {
-            Some(stat) => stats.push(stat)?,
-            None => return Ok(None),
-        }
-    }
-    Ok(Some(stats))
+    list_read(alloc, value)
 }
