@@ -3,6 +3,7 @@ use Rattle.std.specs.Prelude.{ℕ, ℤ, ◌==◌, Bool, false, cond, List, [], �
 use Rattle.serde_json.specs.Data.{Data, Items, no_items, item, Members}
 use Rattle.serde_json.specs.Events.{members_len}
 use Rattle.serde_json.specs.Find.{get, as_object, as_array, as_number, as_u64, as_integer}
+use Rattle.serde_json.specs.Written.{has_float}
 use Rattle.vx_dtype.specs.Types.{Bytes}
 
 -- the step after a value that was found, none where there was none
@@ -43,3 +44,7 @@ count_in d = as_number d >>= as_u64
 
 abbrev pub integer_in : Data → Option ℤ
 integer_in d = as_number d >>= as_integer
+
+-- what is read of a value whose numbers, at any depth, are whole numbers of 64 bits; any other number is a float
+abbrev pub whole_read : {A : Type 0} → (Data → Option A) → Data → Option A
+whole_read read d = cond (has_float d) None (read d)

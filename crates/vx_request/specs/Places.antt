@@ -6,7 +6,7 @@ use Rattle.serde_json.specs.Find.{as_str, as_array}
 use Rattle.vx_dtype.specs.declared.statistics.Stat.{Stat}
 use Rattle.vx_dtype.specs.declared.statistics.Stat.TheVariants.{Min, Max, NullCount}
 use Rattle.vx_dtype.specs.Types.{Bytes, Fields}
-use Rattle.vx_request.specs.Objects.{◌>>=◌, object_of, list_read, count_in}
+use Rattle.vx_request.specs.Objects.{◌>>=◌, object_of, list_read, count_in, whole_read}
 use Rattle.vx_request.specs.WrittenTypes.{named_type_in, named_fields, type_in}
 
 -- a block: how many rows it has, and of each column its cells
@@ -48,9 +48,13 @@ abbrev pub rows_number : List BlockText → ℕ
 rows_number [] = 0
 rows_number (b ∷ bs) = b.rows + rows_number bs
 
--- the blocks: a list of no more rows together than the most, and of fewer blocks than 2^32
+-- blocks of no more rows together than the most, and fewer blocks than 2^32
+abbrev pub few_blocks : List BlockText → Option (List BlockText)
+few_blocks bs = cond (nat_le (rows_number bs) most_rows && nat_lt (length bs) (2 ^ 32)) (Some bs) None
+
+-- the blocks: a list of few enough of them, whose numbers are whole numbers, also those in cells
 abbrev pub blocks_in : Data → Option (List BlockText)
-blocks_in d = list_read block_in d >>= λ bs. cond (nat_le (rows_number bs) most_rows && nat_lt (length bs) (2 ^ 32)) (Some bs) None
+blocks_in d = whole_read (list_read block_in) d >>= few_blocks
 
 -- the statistic of a name
 abbrev pub stat_named : Bytes → Option Stat
@@ -68,6 +72,6 @@ stat_of _ = None
 abbrev pub stat_in : Data → Option StatText
 stat_in d = object_of (codes "path" ∷ codes "stat" ∷ codes "values" ∷ []) d >>= stat_of
 
--- the statistics: a list of them
+-- the statistics: a list of them, whose numbers are whole numbers, also those in cells
 abbrev pub stats_in : Data → Option (List StatText)
-stats_in d = list_read stat_in d
+stats_in d = whole_read (list_read stat_in) d

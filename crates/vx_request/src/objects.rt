@@ -1,9 +1,10 @@
 // JSON values looked into: objects with exactly these members, lists of such values, whole numbers.
 ghost use Rattle.std.specs.Prelude.{◌≡◌, ◌∷◌, [], map, option_map, IfOk};
-ghost use Rattle.serde_json.specs.View.{view};
+ghost use Rattle.serde_json.specs.View.{view, items_view, members_view};
+ghost use Rattle.serde_json.specs.Written.{has_float, items_have_float, members_have_float};
 ghost use Rattle.vx_request.specs.Objects.{has_members, object_of, list_read, integer_in};
 
-use serde_json::Value;
+use serde_json::{Map, Value};
 use std::alloc::Global;
 use vx_dtype::Mem;
 
@@ -99,4 +100,43 @@ pub(crate) fn integer_in(value: &Value) -> Option<i128>
         Some(number) => Some(number as i128),
         None => None,
     }
+}
+
+/// Whether a number in a value, at any depth, is no whole number of 64 bits.
+#[cycle(numbers)]
+pub(crate) fn has_float(value: &Value) -> bool
+    ensures { result ≡ has_float (view value.now) }
+{
+    match value {
+        Value::Number(number) => number.is_f64(),
+        Value::Array(items) => items_have_float(items),
+        Value::Object(members) => members_have_float(members),
+        _ => false,
+    }
+}
+
+/// The same of the items of a list.
+#[cycle(numbers)]
+fn items_have_float(items: &Vec<Value>) -> bool
+    ensures { result ≡ items_have_float (items_view items.now.items) }
+{
+    for item in items {
+        if has_float(item) {
+            return true;
+        }
+    }
+    false
+}
+
+/// The same of the members of an object.
+#[cycle(numbers)]
+fn members_have_float(members: &Map<String, Value>) -> bool
+    ensures { result ≡ members_have_float (members_view members.now.entries) }
+{
+    for (_, member) in members.iter() {
+        if has_float(member) {
+            return true;
+        }
+    }
+    false
 }

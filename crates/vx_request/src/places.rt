@@ -7,7 +7,7 @@ ghost use Rattle.vx_dtype.specs.Types.{Bytes};
 ghost use Rattle.vx_request.specs.Places.{BlockText, StatText, columns_in, rows_in, block_in, rows_number, most_rows, blocks_in, stat_named, stat_in, stats_in};
 ghost use Rattle.vx_request.specs.RequestViews.{cells_view, block_view, name_view, stat_view};
 
-use crate::objects::{FromValue, list_read, three_members, two_members};
+use crate::objects::{FromValue, has_float, list_read, three_members, two_members};
 use crate::types::{MOST_LEVELS, named_fields, named_types_in};
 use serde_json::Value;
 use std::alloc::Global;
@@ -108,11 +108,15 @@ fn rows_within(blocks: &[Block<'_>]) -> bool
     true
 }
 
-/// The blocks: a list of no more rows together than 1,048,576, and of fewer blocks than 2^32.
+/// The blocks: a list of no more rows together than 1,048,576, and of fewer blocks than 2^32, whose numbers are whole
+/// numbers of 64 bits, also those in cells.
 pub(crate) fn blocks_in(alloc: Global, value: &Value) -> Mem<Option<Vec<Block<'_>>>>
     ensures blocks { IfOk result (λ blocks. option_map (λ v. map block_view v.items) blocks ≡ blocks_in (view value.now)) }
     ensures few { IfOk result (λ blocks. IfSome blocks (λ v. length v.items < 2 ^ 32)) }
 {
+    if has_float(value) {
+        return Ok(None);
+    }
     let Some(blocks) = list_read(alloc, value)? else {
         return Ok(None);
     };
@@ -179,9 +183,12 @@ impl<'v> FromValue<'v> for Statistic<'v> {
     }
 }
 
-/// The statistics: a list of them.
+/// The statistics: a list of them, whose numbers are whole numbers of 64 bits, also those in cells.
 pub(crate) fn stats_in(alloc: Global, value: &Value) -> Mem<Option<Vec<Statistic<'_>>>>
     ensures { IfOk result (λ stats. option_map (λ v. map stat_view v.items) stats ≡ stats_in (view value.now)) }
 {
+    if has_float(value) {
+        return Ok(None);
+    }
     list_read(alloc, value)
 }
