@@ -3,12 +3,13 @@
 
 usage: bench/cases.py
 
-A case has a filter and a projection over the table of its group, and answers to questions about them, which the program vx_cases
-compares with those of the public calls. The bytes of expressions are made by bench/wire.py; the answers are written out here.
+A case has a filter and a projection over the table of its group, or an input, and answers to questions about them, which the program
+vx_cases compares with those of the public calls. The bytes of expressions are made by bench/wire.py; the answers are written out here.
 """
 import json
 import os
 
+from inputs import INPUTS
 from rows import ABOVE_TEN, EMPTY_LIST, NEXT, NEXT_POSITIVE, NULL_OR_LESS, PQ, PQ_ROW, TWO, X, X32, X8, nots, realistic
 from wire import ROOT, TRUE, between, binary, cast, contains, item, like, lit, many, merge, negated, node, null_test, pack, request, select, struct
 
@@ -484,6 +485,7 @@ TABLES = {
     "rewriting": REWRITING,
     "pruning": PRUNING,
     "scans": SCANS,
+    "requests": INPUTS,
     "queries": QUERIES,
 }
 
@@ -492,7 +494,7 @@ def main():
     os.makedirs(DATA, exist_ok=True)
     for name, groups in TABLES.items():
         cases = [case for table in groups for case in table["cases"]]
-        answers = sum(len(case) - len({"filter", "projection", "over", "query"} & set(case)) for case in cases)
+        answers = sum(len(case) - len({"filter", "projection", "over", "query", "input"} & set(case)) for case in cases)
         with open(os.path.join(DATA, name + ".json"), "w", encoding="utf-8") as out:
             json.dump(groups, out, ensure_ascii=False, separators=(",", ":"))
             out.write("\n")

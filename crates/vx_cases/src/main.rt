@@ -15,13 +15,14 @@ use std::fs;
 use tables::try_table;
 
 /// The files of data/.
-const TABLES: [&str; 7] = [
+const TABLES: [&str; 8] = [
     "texts.json",
     "typing.json",
     "evaluation.json",
     "rewriting.json",
     "pruning.json",
     "scans.json",
+    "requests.json",
     "queries.json",
 ];
 

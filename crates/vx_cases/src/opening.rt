@@ -5,7 +5,7 @@ use std::alloc::Global;
 use vx_column::ColumnRef;
 use vx_dtype::{DType, FieldName};
 use vx_expr::ExprRef;
-use vx_request::{ScanRequest, decode_request};
+use vx_request::{RequestError, ScanRequest, decode_request};
 use vx_wire::{ExprRegistry, ExprRegistryExt, deserialize_expr_proto};
 use vx_wire_text::read_tree;
 use vx_zones::ZoneMap;
@@ -23,6 +23,7 @@ pub(crate) struct Opened {
 pub(crate) fn requested(alloc: Global, case: &Case<'_>) -> Result<ScanRequest, CaseError> {
     match decode_request(alloc, case.request.as_bytes()) {
         Ok(request) => Ok(request),
+        Err(RequestError::NoMemory) => Err(CaseError::NoMemory),
         Err(error) => Err(CaseError::Request(error)),
     }
 }

@@ -20,9 +20,13 @@ struct Stored {
     projection: Vec<u8>,
 }
 
-/// The rows and the reads of a scan.
+/// The rows and the reads of a scan, or the refusal of its request.
 pub(crate) fn scan_of(alloc: Global, case: &Case<'_>) -> Result<String, CaseError> {
-    let mut stored = store_case(alloc, case, None)?;
+    let mut stored = match store_case(alloc, case, None) {
+        Ok(stored) => stored,
+        Err(CaseError::Request(error)) => return Ok(format!(in alloc; "{error:?}")?),
+        Err(error) => return Err(error),
+    };
     let ended = scanned(
         alloc,
         &mut stored.store,

@@ -39,7 +39,7 @@ pub(crate) enum Subject {
     Required,
     /// The blocks that the filter rules out.
     RuledOut,
-    /// The scan of the table.
+    /// The scan of the table, or the refusal of the request.
     Scan,
     /// The scan of a store that doesn't tell the table.
     ScanUntold,

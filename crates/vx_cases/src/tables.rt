@@ -75,8 +75,11 @@ fn try_answer(
     Ok(())
 }
 
-/// The text of a request for the expressions of a case over the table of its group.
+/// The input of a case, or else the text of a request for its expressions over the table of its group.
 fn request_of(alloc: Global, group: &Value, case: &Value) -> Mem<String> {
+    if let Some(input) = case.get("input").and_then(Value::as_str) {
+        return Ok(String::from_str(alloc, input)?);
+    }
     let columns = member_text(alloc, group, "columns")?;
     let blocks = member_text(alloc, group, "blocks")?;
     let stats = member_text(alloc, group, "stats")?;

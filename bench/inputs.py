@@ -1,0 +1,254 @@
+"""Inputs at the edges of what a request is, each with what a scan of it answers, worked out by hand. bench/cases.py writes them as cases.
+
+An input is written as a text, since Python's numbers and objects hold less than JSON's. An answer is the refusal, or the scan's rows,
+the blocks that it skipped and its reads.
+"""
+import json
+
+from wire import TRUE, contains, item, lit, many
+
+X = '[{"name":"x","type":"i64"}]'
+FIVE = '[{"rows":1,"values":[[5]]}]'
+PROJECTION = item("x").hex()
+EMPTY = "rows / skipped / reads"
+READ_FIVE = "rows 5 / skipped / reads 0 x"
+RULED_OUT = contains(lit(many("i32"), []), lit("i32", 1)).hex()
+TOP, COLUMNS, BLOCKS, STATS = ("BadRequest(%s)" % place for place in ["Top", "Columns", "Blocks", "Stats"])
+NAME_TWICE, DEEP, BAD_PATH, STAT_TWICE, STAT_COUNT, STAT_TYPE, WRONG_LENGTH, WRONG_VALUE = (
+    "BadTable(%s)" % refusal for refusal in
+    ["DuplicateName", "DeepType", "BadStatPath", "DuplicateStat", "WrongStatCount", "WrongStatType", "WrongLength", "WrongValue"])
+
+
+def quoted(text):
+    return json.dumps(text, ensure_ascii=False)
+
+
+def members(columns=X, blocks=FIVE, stats="[]", filter_text=quoted(TRUE.hex()), projection=quoted(PROJECTION)):
+    """The members of a request, each of which is a text."""
+    return ['"columns":' + columns, '"blocks":' + blocks, '"stats":' + stats, '"filter":' + filter_text, '"projection":' + projection]
+
+
+def object_of(texts):
+    return "{" + ",".join(texts) + "}"
+
+
+def asked(*places, **named):
+    return object_of(members(*places, **named))
+
+
+def of(told, *inputs):
+    """Cases of these inputs, which have one answer."""
+    return [{"input": text, "scan": told} for text in inputs]
+
+
+WHOLE = asked()
+
+
+# Texts: no JSON, and no object of the five members.
+
+def nested(levels):
+    return "[" * levels + "]" * levels
+
+
+TEXTS = [
+    *of("BadJson", "", "{", "nul", "\ufeff" + WHOLE, WHOLE + "x", WHOLE + WHOLE, WHOLE[:-1], WHOLE[:-1] + ",}", nested(128)),
+    *of("BadJson", *[asked(X.replace("x", name)) for name in ["\\ud800", "\\x", "\n"]]),
+    *of("BadJson", *[asked(blocks=FIVE.replace("5", number)) for number in ["01", "+1", "1.", ".5", "0x1", "NaN", "1e999", "9" * 400]]),
+    *of(TOP, "[]", "null", "5", quoted(WHOLE), "[" + WHOLE + "]", "{}", nested(127), WHOLE.replace("columns", "Columns")),
+    *of(TOP, *[object_of(members()[:i] + members()[i + 1:]) for i in range(5)]),
+    *of(TOP, object_of(members() + ['"more":1']), object_of(members()[1:] + ['"more":1'])),
+    *of(READ_FIVE, WHOLE, " \t\r\n" + WHOLE + "\n", object_of(reversed(members())), WHOLE.replace("columns", "c\\u006flumns")),
+    # a member given twice counts once, with its last value
+    *of(READ_FIVE, object_of(['"columns":7', *members()]), object_of(['"blocks":[1.5]', *members()]),
+        asked(X.replace('"name":', '"name":"y","name":')), asked(blocks=FIVE.replace('"rows":', '"rows":2,"rows":'))),
+    *of(COLUMNS, object_of([*members(), '"columns":7'])),
+    *of(WRONG_LENGTH, asked(blocks=FIVE.replace('"rows":1', '"rows":1,"rows":2'))),
+]
+
+
+# Columns and types: no columns, no types, names that stand twice, and levels.
+
+def column(kind):
+    return '[{"name":"x","type":%s}]' % kind
+
+
+def lists(number, inner):
+    """So many lists around a type."""
+    return '{"list":' * number + inner + ',"nullable":true}' * number
+
+
+def struct(*fields):
+    return '{"struct":[%s],"nullable":true}' % ",".join('{"name":"%s","type":%s}' % field for field in fields)
+
+
+def columns(number):
+    return "[" + ",".join('{"name":"c%d","type":"u8"}' % i for i in range(number)) + "]"
+
+
+NO_COLUMNS = ["{}", "null", '"x"', "[1]", "[1.5]", "[{}]", '[["x","i64"]]', '[{"name":"x"}]', '[{"type":"i64"}]', '[{"name":1,"type":"i64"}]',
+              '[{"name":"x","type":"i64","more":1}]', '[{"name":"x","type":"i64"},1]']
+NO_TYPES = ["64", "null", "true", "[]", '["i64"]', "{}", '{"nullable":true}', '{"list":"i64"}', '{"list":"i64","nullable":1}',
+            '{"list":"i64","nullable":null}', '{"list":"i64","nullable":true,"more":1}', '{"list":"i65","nullable":true}',
+            '{"List":"i64","nullable":true}', '{"list":"i64","struct":[]}', '{"struct":"i64","nullable":true}', '{"struct":{},"nullable":true}',
+            '{"struct":[],"nullable":0}', '{"struct":["i64"],"nullable":true}', '{"struct":[{"name":"a"}],"nullable":true}',
+            '{"struct":[{"name":1,"type":"i64"}],"nullable":true}', '{"struct":[{"name":"a","type":"i64","more":0}],"nullable":true}',
+            '{"struct":[{"name":"a","type":null}],"nullable":true}']
+A, B = ("a", '"u8"'), ("b", '"u8"')
+TYPES = [
+    *of(COLUMNS, *[asked(text, "7", "7", "7", "7") for text in NO_COLUMNS]),
+    *of(COLUMNS, *[asked(column(quoted(name))) for name in ["", "?", "i64??", "?i64", "i65", "I64", " i64", "i64 ", "u128", "f64", "list", "null"]]),
+    *of(COLUMNS, *[asked(column(kind)) for kind in NO_TYPES]),
+    *of(EMPTY, asked(columns(1024), "[]", projection=quoted(item("c1023").hex()))),
+    *of(COLUMNS, asked(columns(1025), "[]")),
+    *of(NAME_TWICE, asked(X[:-1] + "," + X[1:], "[]"), asked(column(struct(A, A)), "[]"), asked(column(struct(A, B, A)), "[]"),
+        asked(column(lists(1, struct(A, A))), "[]"), asked(column(struct(A, ("b", struct(B, B)))), "[]"), asked(column(lists(64, struct(A, A))), "[]")),
+    *of(EMPTY, asked(column(struct(A, ("b", struct(A, B)), ("x", struct()))), "[]"), asked(column(struct(A, ("A", '"u8"'))), "[]")),
+    *of(EMPTY, *[asked(column(kind), "[]") for kind in [lists(63, '"bool"'), lists(62, struct(A)), lists(63, struct()), lists(61, struct(("a", struct(A))))]]),
+    *of(DEEP, *[asked(column(kind), "[]") for kind in [lists(64, '"bool"'), lists(63, struct(A)), struct(("a", lists(63, '"u8"'))), lists(124, '"u8"')]]),
+    *of("BadJson", asked(column(lists(125, '"u8"')), "[]")),
+]
+
+
+# Blocks: their form, numbers of rows, and their shape beside the columns.
+
+def rows(*numbers):
+    """A request of no columns and of blocks of so many rows, all of which the filter rules out."""
+    blocks = ",".join('{"rows":%s,"values":[]}' % number for number in numbers)
+    return asked("[]", "[%s]" % blocks, filter_text=quoted(RULED_OUT), projection=quoted(RULED_OUT))
+
+
+NO_BLOCKS = ["{}", "null", "[1]", "[{}]", '[{"rows":1}]', '[{"values":[[5]]}]', '[{"rows":1,"values":{}}]', '[{"rows":1,"values":[5]}]',
+             '[{"rows":1,"values":[{}]}]', '[{"rows":1,"values":[[5]],"more":0}]']
+NO_NUMBERS = ["1.5", "1e3", "1E0", "-0", "0.0", "1e-400", "-1", "9223372036854775808", "18446744073709551615", "18446744073709551616", "1048577",
+              "1048576.0", '"1"', "null", "true", "[]"]
+TWO_COLUMNS = '[{"name":"x","type":"i64"},{"name":"y","type":"bool"}]'
+WRONG_SHAPES = ['[{"rows":1,"values":[]}]', '[{"rows":1,"values":[[5]]}]', '[{"rows":1,"values":[[5],[true],[5]]}]', '[{"rows":1,"values":[[5],[]]}]',
+                '[{"rows":1,"values":[[5],[true,true]]}]', '[{"rows":0,"values":[[5],[true]]}]', '[{"rows":0,"values":[]}]', '[{"rows":2,"values":[[5],[true]]}]',
+                '[{"rows":1,"values":[[5],[true]]},{"rows":1,"values":[[5]]}]', '[{"rows":1,"values":[[true],[5]]},{"rows":1,"values":[[5]]}]']
+BLOCK_TEXTS = [
+    *of(BLOCKS, *[asked(blocks=text, stats="7") for text in NO_BLOCKS]),
+    *of(BLOCKS, *[rows(number) for number in NO_NUMBERS], rows(1048576, 1), rows(0, 1048577), rows(524288, 524288, 1)),
+    *of("rows / skipped 0 / reads", rows(0), rows(1), rows(1048576)),
+    *of("rows / skipped 0 1 / reads", rows(1048576, 0), rows(1048575, 1)),
+    *of(WRONG_LENGTH, *[asked(TWO_COLUMNS, text) for text in WRONG_SHAPES], asked("[]")),
+    *of("rows 5 / skipped / reads 1 x", asked(TWO_COLUMNS, '[{"rows":0,"values":[[],[]]},{"rows":1,"values":[[5],[true]]}]')),
+]
+
+
+# Cells: numbers in each width, the other types, and values at depth.
+
+RANGES = {
+    "u8": (0, 255), "u16": (0, 65535), "u32": (0, 4294967295), "u64": (0, 18446744073709551615), "i8": (-128, 127), "i16": (-32768, 32767),
+    "i32": (-2147483648, 2147483647), "i64": (-9223372036854775808, 9223372036854775807)}
+
+
+def cell(kind, text):
+    return asked(column(kind), '[{"rows":1,"values":[[%s]]}]' % text)
+
+
+def number_told(kind, number):
+    """What is answered to a cell of a whole number."""
+    low, high = RANGES[kind]
+    if not -9223372036854775808 <= number <= 18446744073709551615:
+        return BLOCKS
+    return "rows %d / skipped / reads 0 x" % number if low <= number <= high else WRONG_VALUE
+
+
+def numbers(kind):
+    """Cells of a width: numbers that aren't whole, those around its range, and those around the ranges of 64 bits."""
+    low, high = RANGES[kind]
+    around = sorted({low - 1, low, high, high + 1, 9223372036854775808, 18446744073709551615, 18446744073709551616})
+    return [*of(BLOCKS, *[cell(quoted(kind), text) for text in ["1.5", "1.0", "1e3", "-0"]]),
+            *[case for number in around for case in of(number_told(kind, number), cell(quoted(kind), str(number)))]]
+
+
+DEEPER = '{"list":%s,"nullable":false}' % struct(("a", '{"list":"u8?","nullable":false}'))
+CELLS = [
+    *[case for kind in RANGES for case in numbers(kind)],
+    *of(WRONG_VALUE, *[cell(quoted("i64"), text) for text in ["null", "true", '"5"', "[5]", "{}"]]),
+    *of(WRONG_VALUE, *[cell(quoted("bool"), text) for text in ["null", "0", "1", '"true"', "[]"]]),
+    *of(WRONG_VALUE, *[cell(quoted("utf8"), text) for text in ["null", "5", "true", "[]"]]),
+    *of(BLOCKS, *[cell(quoted(kind), "1.5") for kind in ["bool", "bool?", "utf8", "utf8?"]]),
+    *of("rows null / skipped / reads 0 x", *[cell(quoted(kind + "?"), "null") for kind in [*RANGES, "bool", "utf8"]], cell(lists(1, '"u8"'), "null"),
+        cell(struct(A), "null")),
+    *of("rows true / skipped / reads 0 x", cell(quoted("bool"), "true")),
+    *of('rows "é" / skipped / reads 0 x', cell(quoted("utf8"), '"\\u00e9"')),
+    *of('rows [{"a":[1,null]},null] / skipped / reads 0 x', cell(DEEPER, '[{"a":[1,null]},null]')),
+    *of(WRONG_VALUE, *[cell(DEEPER, text) for text in
+                       ["null", "5", "{}", '{"a":[1]}', "[[1]]", "[{}]", '[{"b":[1]}]', '[{"a":[1],"b":[1]}]', '[{"a":null}]', '[{"a":{}}]', '[{"a":[256]}]',
+                        '[{"a":[-1]}]', '[{"a":["1"]}]', '[{"a":[[]]}]', '[{"a":[1]},{"a":[true]}]']]),
+    *of(BLOCKS, *[cell(DEEPER, text) for text in ["1.5", '[{"a":[1.5]}]', '[{"a":[-0]}]', '[{"a":[18446744073709551616]}]', '[{"b":1.5}]', '{"a":{"b":[[1e3]]}}']]),
+    *of("rows {} / skipped / reads 0 x", cell(struct(), "{}")),
+    *of('rows {"a":1} / skipped / reads 0 x', cell(struct(A), '{"a":true,"a":1}')),
+    *of(WRONG_VALUE, cell(struct(A), '{"a":1,"a":true}'), cell(struct(A), '{"A":1}'), cell(struct(A), "[1]"), cell(struct(), "[]")),
+]
+
+
+# Statistics: their form, their paths, and their values.
+
+TREE = '[{"name":"x","type":"i64"},{"name":"l","type":%s},{"name":"t","type":%s}]' % (
+    lists(1, struct(A)), struct(("a", '"utf8?"'), ("u", struct(("b", '"bool"'))), ("l", lists(1, '"u8"'))))
+
+
+def stat(path, kind="min", values="[]"):
+    return '{"path":%s,"stat":"%s","values":%s}' % (json.dumps(path), kind, values)
+
+
+def told(*stats, blocks="[]"):
+    return asked(TREE if blocks == "[]" else X, blocks, "[%s]" % ",".join(stats))
+
+
+def valued(kind, name, text):
+    """A statistic of a column of a type with one value, over a table without rows."""
+    return asked(column(kind), '[{"rows":0,"values":[[]]}]', "[%s]" % stat(["x"], name, "[%s]" % text))
+
+
+NO_STATS = ["{}", "null", "[1]", "[{}]", '[{"path":["x"],"stat":"min"}]', '[{"path":["x"],"stat":"min","values":[5],"more":0}]',
+            '[{"path":"x","stat":"min","values":[5]}]', '[{"path":[1],"stat":"min","values":[5]}]', '[{"path":[["x"]],"stat":"min","values":[5]}]',
+            '[{"path":["x"],"stat":"Min","values":[5]}]', '[{"path":["x"],"stat":"nan_count","values":[5]}]', '[{"path":["x"],"stat":1,"values":[5]}]',
+            '[{"path":["x"],"stat":"min","values":5}]', '[{"path":["x"],"stat":"min","values":{}}]']
+BOTH = '[{"rows":1,"values":[[5]]},{"rows":1,"values":[[6]]}]'
+READ_BOTH = "rows 5 6 / skipped / reads 0 x 1 x"
+STAT_TEXTS = [
+    *of(STATS, *[asked(stats=text, filter_text="7") for text in NO_STATS]),
+    *of(EMPTY, *[told(stat(path, kind)) for path in [["x"], ["t", "a"], ["t", "u", "b"]] for kind in ["min", "max", "null_count"]]),
+    *of(BAD_PATH, *[told(stat(path)) for path in
+                    [[], [""], ["y"], ["X"], ["a"], ["t.a"], ["l"], ["l", "a"], ["t"], ["t", "z"], ["t", "u"], ["t", "l"], ["x", "x"], ["t", "a", "a"]]]),
+    *of(BAD_PATH, *[told(stat(path, "null_count")) for path in [[], ["y"], ["l"], ["t"], ["t", "u"]]], told(stat(["x"]), stat(["x"]), stat(["y"]))),
+    *of(STAT_TWICE, told(stat(["x"]), stat(["x"])), told(stat(["t", "a"]), stat(["x"]), stat(["t", "a"])), told(stat(["x"]), stat(["x"], values="[1]"))),
+    *of(EMPTY, told(stat(["x"]), stat(["x"], "max"), stat(["t", "a"])), told()),
+    *of(STAT_COUNT, told(stat(["x"], values="[5]")), told(stat(["x"], values="[5]"), blocks=BOTH), told(stat(["x"], values="[5,6,7]"), blocks=BOTH),
+        told(stat(["x"], values="[]"), blocks=BOTH), told(stat(["x"], values='["a"]'), blocks=BOTH),
+        told(stat(["x"], values='["a","b"]'), stat(["x"], "max", "[6]"), blocks=BOTH)),
+    *of(READ_BOTH, told(stat(["x"], values="[5,6]"), blocks=BOTH), told(stat(["x"], values="[null,null]"), blocks=BOTH)),
+    *of(STAT_TYPE, *[valued('"i64"', "null_count", text) for text in ["-1", '"0"', "true", "[]", "{}"]]),
+    *of(STATS, *[valued('"i64"', name, text) for name in ["min", "null_count"] for text in ["1.5", "1e3", "-0", "18446744073709551616", "[1.5]"]]),
+    *of(EMPTY, *[valued('"i64"', "null_count", text) for text in ["0", "9223372036854775808", "18446744073709551615", "null"]]),
+    *of(STAT_TYPE, *[valued(kind, "min", text) for kind, text in
+                     [('"i64"', "9223372036854775808"), ('"i64"', '"a"'), ('"i64"', "true"), ('"i8"', "128"), ('"i8"', "-129"), ('"u8"', "-1"), ('"bool"', "0"),
+                      ('"utf8"', "5"), ('"utf8?"', "[]")]]),
+    *of(EMPTY, *[valued(kind, "max", text) for kind, text in
+                        [('"i64"', "-9223372036854775808"), ('"i8"', "-128"), ('"u64"', "18446744073709551615"), ('"bool"', "false"), ('"utf8"', '"a"'),
+                         ('"i64"', "null"), ('"utf8?"', "null")]]),
+    # before what is wrong with a block's cells
+    *of(STAT_TYPE, asked(blocks='[{"rows":2,"values":[[5]]}]', stats="[%s]" % stat(["x"], values='["a"]'))),
+]
+
+
+# Both texts, and the order of places.
+
+NO_DIGITS = ["0", "0g", "0x00", " 00", "00 ", "00f", "é", "\\u0000"]
+SIDES = [
+    *of("BadRequest(Filter)", *[asked(filter_text=text, projection="7") for text in ["7", "1.5", "null", "[]", "{}"]]),
+    *of("BadRequest(Projection)", *[asked(filter_text='"0"', projection=text) for text in ["7", "1.5", "null", "[]", "{}"]]),
+    *of("BadHex(Filter)", *[asked(filter_text='"%s"' % text, projection='"0"') for text in NO_DIGITS], asked(X[:-1] + "," + X[1:], filter_text='"0"')),
+    *of("BadHex(Projection)", *[asked(projection='"%s"' % text) for text in NO_DIGITS], asked(X[:-1] + "," + X[1:], projection='"0"')),
+    *of("BadWire(Filter) / reads", asked(filter_text='""'), asked(filter_text='"00"')),
+    *of("BadWire(Projection) / reads", asked(projection='""')),
+    *of(READ_FIVE, asked(filter_text=quoted(TRUE.hex().upper()), projection=quoted(PROJECTION.upper()))),
+    *of(COLUMNS, asked("7", "7", "7", "7", "7")),
+    *of(BLOCKS, asked(X, "7", "7", "7", "7"), asked(blocks=FIVE.replace("5", "1.5"), stats="7"), asked(blocks=FIVE.replace("5", "1.5"), filter_text='"0"')),
+    *of(STATS, asked(stats="7", filter_text="7", projection="7")),
+]
+
+INPUTS = [{"cases": [*TEXTS, *TYPES, *BLOCK_TEXTS, *CELLS, *STAT_TEXTS, *SIDES]}]
