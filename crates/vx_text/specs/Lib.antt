@@ -3,4 +3,5 @@ pub mod Readings
 pub mod Grammar
 pub mod Reading
 pub mod Writing
+pub mod WritingParts
 pub mod TypeParts
