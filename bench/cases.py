@@ -476,7 +476,84 @@ READ = [
     ("x " * 4097, "TooManyTokens"),
     ("x " * 4096, "BadQuery"),
 ]
-QUERIES = [group([], [], *[{"query": text, "read": told} for text, told in READ])]
+
+# Written queries: each kind once in each form, constants, and names; each of them is read as the expression that it was written for.
+
+RESERVED = ["or", "and", "not", "true", "false", "null", "lit", "is_null", "cast", "contains", "like", "not_like", "ilike", "not_ilike",
+            "between", "between_oo", "between_oc", "between_co", "pack", "pack_null", "merge", "merge_null"]
+WORDS = ["a", "_", "_1", "x9", "Or", "nots", "bool", "u8", "list", "i64"]
+QUOTED = [("", ""), ("1a", "1a"), ("a b", "a b"), ("a\"b", "a\"\"b"), ("\"", "\"\""), ("it's", "it's"), ("é", "é"), ("a.b", "a.b"), ("x\n", "x\n")]
+MANY_FIELDS = pack(*(("f%d" % i, ROOT) for i in range(1025)))
+
+WRITTEN = [
+    (ROOT, "$"),
+    (item("a", item("b")), "$.b.a"),
+    *[(item(name), "$." + name) for name in WORDS],
+    *[(item(name), "$.\"%s\"" % name) for name in RESERVED],
+    *[(item(name), "$.\"%s\"" % inner) for name, inner in QUOTED],
+    *[(binary(A, sign, ROOT), "($.a %s $)" % sign) for sign in ["=", "!=", ">", ">=", "<", "<=", "and", "or", "+", "-"]],
+    (binary(binary(A, "or", B), "and", negated(A)), "(($.a or $.b) and (not $.a))"),
+    (binary(A, "-", binary(A, "-", i32(-1))), "($.a - ($.a - -1i32))"),
+    (negated(negated(A)), "(not (not $.a))"),
+    (item("a", negated(ROOT)), "(not $).a"),
+    (null_test(A), "is_null($.a)"),
+    (like(A, "%x"), "like($.a, '%x')"),
+    (like(A, B, True, False), "not_like($.a, $.b)"),
+    (like(A, B, False, True), "ilike($.a, $.b)"),
+    (like(A, B, True, True), "not_ilike($.a, $.b)"),
+    (between(A, i32(1), i32(2)), "between($.a, 1i32, 2i32)"),
+    (between(A, B, i32(2), True, True), "between_oo($.a, $.b, 2i32)"),
+    (between(A, B, i32(2), True, False), "between_oc($.a, $.b, 2i32)"),
+    (between(A, B, i32(2), False, True), "between_co($.a, $.b, 2i32)"),
+    *[(cast(A, t), "cast($.a, %s)" % t) for t in ["bool", "bool?", "utf8", "utf8?", "u8", "u16?", "u32", "u64?", "i8", "i16?", "i32", "i64?"]],
+    (cast(A, many(struct(True, x="u8?", y=many("utf8", True)), False)), "cast($.a, list({x: u8?, y: list(utf8)?}?))"),
+    (cast(A, struct(**{"or": "i8", "a b": struct()})), "cast($.a, {\"or\": i8, \"a b\": {}})"),
+    (contains(A, B), "contains($.a, $.b)"),
+    (pack(), "pack()"),
+    (pack(("a", A), ("or", B)), "pack(a: $.a, \"or\": $.b)"),
+    (pack(("a", A), nullable=True), "pack_null(a: $.a)"),
+    (merge(A, B, ROOT), "merge($.a, $.b, $)"),
+    (merge(A, nullable=True), "merge_null($.a)"),
+    (select(A), "$.a{}"),
+    (select(A, "x", "y z", "x"), "$.a{x, \"y z\", x}"),
+    (select(select(A, exclude=True), "or", "x", exclude=True), "$.a~{}~{\"or\", x}"),
+    (TRUE, "true"),
+    (lit("bool", False), "false"),
+    *[(lit(t, n), "%d%s" % (n, t)) for t, n in [("u8", 0), ("u16", 65535), ("u32", 10), ("u64", 18446744073709551615),
+                                                ("i8", -128), ("i16", -5), ("i32", 2147483647), ("i64", -9223372036854775808)]],
+    *[(lit("utf8", s), "'%s'" % inner) for s, inner in [("", ""), ("a", "a"), ("it's", "it''s"), ("'", "''"), ("a\"b é\n", "a\"b é\n")]],
+    *[(lit(t + "?", None), "lit(%s?, null)" % t) for t in ["bool", "i32", "utf8"]],
+    (lit("bool?", True), "lit(bool?, true)"),
+    (lit("i8?", -5), "lit(i8?, -5)"),
+    (lit("utf8?", "it's"), "lit(utf8?, 'it''s')"),
+    (lit(many("i32"), []), "lit(list(i32), [])"),
+    (lit(many("i32?", True), [1, None, -2]), "lit(list(i32?)?, [1, null, -2])"),
+    (lit(struct(), {}), "lit({}, {})"),
+    (lit(PET, {"dog": 32, "cat": "rufus"}), "lit({dog: u32, cat: utf8}, {32, 'rufus'})"),
+    (lit(struct(True, a=many(struct(b="bool"))), {"a": [{"b": True}, {"b": False}]}), "lit({a: list({b: bool})}?, {[{true}, {false}]})"),
+    (item("a", i32(10)), "10i32.a"),
+    (select(lit("utf8", "x"), "a"), "'x'{a}"),
+    (nots(250, ROOT), "(not " * 250 + "$" + ")" * 250),
+    (MANY_FIELDS, "pack(" + ", ".join("f%d: $" % i for i in range(1025)) + "), refused with TooManyTokens"),
+]
+READ_AND_WRITTEN = [
+    ("x > 10i32", "($.x > 10i32)"),
+    ("\"x\".\"a\"\"b\"", "$.x.\"a\"\"b\""),
+    ("not a = b or c and d", "((not ($.a = $.b)) or ($.c and $.d))"),
+    ("a - b + 'it''s'", "(($.a - $.b) + 'it''s')"),
+    ("-5", "-5i64"),
+    ("-0u8", "0u8"),
+    ("lit(u8, 1)", "1u8"),
+    ("lit ( u8 ? , 1 )", "lit(u8?, 1)"),
+    ("not " * 1000 + "$", "(not " * 1000 + "$" + ")" * 1000),
+    ("merge()", "merge()"),
+    ("merge_null()", "merge_null()"),
+    ("pack_null()", "pack_null()"),
+]
+QUERIES = [
+    group([], [], *[{"query": text, "read": told} for text, told in READ], *[{"query": text, "read_and_written": told} for text, told in READ_AND_WRITTEN]),
+    group(X32, [[[]]], *[of(projection, written=told) for projection, told in WRITTEN], of(X, written_dynamic="NotWritable")),
+]
 
 TABLES = {
     "texts": [TEXTS],

@@ -2,6 +2,7 @@
 use crate::errors::CaseError;
 use crate::opening::{Opened, open_case};
 use crate::pruning::{pruning, required, ruled_out_blocks};
+use crate::queries::{read, read_and_written, written, written_dynamic};
 use crate::scanning::{scan_failing, scan_of, scan_untold};
 use crate::subjects::Subject;
 use crate::tables::Case;
@@ -12,7 +13,6 @@ use vx_dtype::{DType, Mem, NoMemory};
 use vx_eval::{EvalError, ExprEval, Scope, TypeError};
 use vx_expr::{DisplayAs, ExprRef};
 use vx_partition::{annotate_scope_access, partition};
-use vx_text::{TextError, read_query};
 use vx_transform::laws::{find_between, remove_merge, remove_select};
 use vx_transform::{TransformError, replace_root_fields, simplify, simplify_typed};
 use vx_wire::ExprSerializeProtoExt;
@@ -26,6 +26,7 @@ pub(crate) fn answer(
 ) -> Result<String, CaseError> {
     match subject {
         Subject::Read => Ok(read(alloc, case.query)?),
+        Subject::ReadAndWritten => Ok(read_and_written(alloc, case.query)?),
         Subject::Scan => scan_of(alloc, case),
         Subject::ScanUntold => scan_untold(alloc, case),
         Subject::ScanFailing => scan_failing(alloc, case),
@@ -36,21 +37,14 @@ pub(crate) fn answer(
     }
 }
 
-/// The compact text of the expression that a query names, or its refusal.
-fn read(alloc: Global, query: &str) -> Mem<String> {
-    match read_query(alloc, query) {
-        Ok(expr) => expr.compact(alloc),
-        Err(TextError::NoMemory) => Err(NoMemory),
-        Err(error) => Ok(format!(in alloc; "{error}")?),
-    }
-}
-
 /// The answer to a question about expressions.
 fn answer_opened(alloc: Global, case: &Opened, subject: Subject) -> Result<String, CaseError> {
     let expr = &case.projection;
     let scope = case.rows.dtype();
     let text = match subject {
         Subject::Compact => expr.compact(alloc)?,
+        Subject::Written => written(alloc, expr)?,
+        Subject::WrittenDynamic => written_dynamic(alloc, expr)?,
         Subject::Bytes => bytes_of(alloc, expr)?,
         Subject::Tree => tree_text(alloc, expr)?,
         Subject::ChildNames => child_names(alloc, expr)?,

@@ -6,6 +6,7 @@ mod answers;
 mod errors;
 mod opening;
 mod pruning;
+mod queries;
 mod scanning;
 mod subjects;
 mod tables;

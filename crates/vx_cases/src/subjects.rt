@@ -5,6 +5,12 @@
 pub(crate) enum Subject {
     /// The compact text of the expression that the query names, or its refusal.
     Read,
+    /// The query that this expression is written as, or a refusal; and whether it is read as another expression.
+    ReadAndWritten,
+    /// The query that the projection is written as, or its refusal; and whether it is read as another expression.
+    Written,
+    /// The same of a comparison of the projection with a slot, exchanged.
+    WrittenDynamic,
     /// The compact text of the projection.
     Compact,
     /// The bytes that the projection is written as.
@@ -48,8 +54,11 @@ pub(crate) enum Subject {
 }
 
 /// The members of a case that hold an answer, each with its question.
-pub(crate) const SUBJECTS: [(&str, Subject); 21] = [
+pub(crate) const SUBJECTS: [(&str, Subject); 24] = [
     ("read", Subject::Read),
+    ("read_and_written", Subject::ReadAndWritten),
+    ("written", Subject::Written),
+    ("written_dynamic", Subject::WrittenDynamic),
     ("compact", Subject::Compact),
     ("bytes", Subject::Bytes),
     ("tree", Subject::Tree),

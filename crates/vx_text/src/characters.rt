@@ -1,5 +1,6 @@
 // Characters, and the words and signs that they make.
 ghost use Rattle.std.specs.Prelude.{◌≡◌, ◌∷◌, option_map};
+ghost use Rattle.vx_dtype.specs.Texts.{ptype_text};
 ghost use Rattle.vx_text.specs.Tokens.{is_blank, is_digit, is_first, is_inner, connective_of, call_word_of, match_word_of, keyword_of, integer_named};
 ghost use Rattle.vx_text.specs.Tokens.{two_signs, bracket_of, stop_of, operation_of, one_sign};
 
@@ -112,6 +113,22 @@ pub(crate) fn integer_named(word: &str) -> Option<PType>
         "i32" => Some(PType::I32),
         "i64" => Some(PType::I64),
         _ => None,
+    }
+}
+
+/// The name of an integer type.
+pub(crate) fn integer_name(ptype: PType) -> &'static str
+    ensures { result.now ≡ ptype_text ptype }
+{
+    match ptype {
+        PType::U8 => "u8",
+        PType::U16 => "u16",
+        PType::U32 => "u32",
+        PType::U64 => "u64",
+        PType::I8 => "i8",
+        PType::I16 => "i16",
+        PType::I32 => "i32",
+        PType::I64 => "i64",
     }
 }
 
