@@ -5,7 +5,9 @@ use Rattle.std.specs.Fmt.{signed_decimal}
 use Rattle.vx_dtype.specs.declared.StrictComparison.{StrictComparison}
 use Rattle.vx_dtype.specs.declared.StrictComparison.TheVariants.{Strict, NonStrict}
 use Rattle.vx_dtype.specs.declared.BetweenOptions.{BetweenOptions}
-use Rattle.vx_dtype.specs.Types.{Bytes, Ty, bool_ty, int_ty, text_ty, list_ty, struct_ty, Fields, no_fields, field, Nullability, NonNullable, Nullable}
+use Rattle.vx_dtype.specs.declared.Nullability.{Nullability}
+use Rattle.vx_dtype.specs.declared.Nullability.TheVariants.{NonNullable, Nullable}
+use Rattle.vx_dtype.specs.Types.{Bytes, Ty, bool_ty, int_ty, text_ty, list_ty, struct_ty, Fields, no_fields, field}
 use Rattle.vx_dtype.specs.TypeRules.{nullability_of, is_nullable, is_plain}
 use Rattle.vx_dtype.specs.Values.{Raw, raw_null, raw_bool, raw_int, raw_text, raw_list, raw_struct, Raws, no_raws, raw, Typed}
 use Rattle.vx_dtype.specs.Texts.{nullability_text, ptype_text}
