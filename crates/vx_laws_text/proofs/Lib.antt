@@ -1,0 +1,12 @@
+pub mod Cutting
+pub mod Pieces
+pub mod Decimals
+pub mod Ready
+pub mod CutTexts
+pub mod Sizes
+pub mod ReadParts
+pub mod ReadTypes
+pub mod ReadItems
+pub mod Levels
+pub mod ReadQueries
+pub mod ReadAgain

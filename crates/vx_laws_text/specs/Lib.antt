@@ -1,0 +1,3 @@
+pub mod WrittenTokens
+pub mod Expressions
+pub mod Written

@@ -1,0 +1,6 @@
+//! Laws of queries as texts: each is the contract of a function that does nothing.
+#![tactic(auto)]
+
+mod written;
+
+pub use written::{written_text_is_cut, written_text_is_read};
