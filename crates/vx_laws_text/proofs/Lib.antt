@@ -10,3 +10,5 @@ pub mod ReadItems
 pub mod Levels
 pub mod ReadQueries
 pub mod ReadAgain
+pub mod Alike
+pub mod EnoughRoom

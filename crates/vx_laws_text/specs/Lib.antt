@@ -1,3 +1,4 @@
 pub mod WrittenTokens
 pub mod Expressions
 pub mod Written
+pub mod Fuel
