@@ -12,3 +12,5 @@ pub mod ReadQueries
 pub mod ReadAgain
 pub mod Alike
 pub mod EnoughRoom
+pub mod Utf8Texts
+pub mod LongestTokens

@@ -2,3 +2,5 @@ pub mod WrittenTokens
 pub mod Expressions
 pub mod Written
 pub mod Fuel
+pub mod Unchecked
+pub mod Longest

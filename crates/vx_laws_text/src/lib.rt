@@ -2,7 +2,9 @@
 #![tactic(auto)]
 
 mod room;
+mod tokens;
 mod written;
 
 pub use room::fuel_is_enough;
+pub use tokens::{quoted_texts_are_utf8, tokens_are_longest};
 pub use written::{written_text_is_cut, written_text_is_read};
