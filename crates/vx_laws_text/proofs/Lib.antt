@@ -14,3 +14,8 @@ pub mod Alike
 pub mod EnoughRoom
 pub mod Utf8Texts
 pub mod LongestTokens
+pub mod Sound
+pub mod SoundParts
+pub mod SoundQueries
+pub mod Complete
+pub mod CompleteQueries

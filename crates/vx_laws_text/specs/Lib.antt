@@ -4,3 +4,4 @@ pub mod Written
 pub mod Fuel
 pub mod Unchecked
 pub mod Longest
+pub mod Productions

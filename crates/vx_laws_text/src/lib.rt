@@ -1,10 +1,12 @@
 //! Laws of queries as texts: each is the contract of a function that does nothing.
 #![tactic(auto)]
 
+mod grammar;
 mod room;
 mod tokens;
 mod written;
 
+pub use grammar::queries_are_those_of_the_grammar;
 pub use room::fuel_is_enough;
 pub use tokens::{quoted_texts_are_utf8, tokens_are_longest};
 pub use written::{written_text_is_cut, written_text_is_read};
