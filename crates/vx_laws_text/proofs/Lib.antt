@@ -19,3 +19,4 @@ pub mod SoundParts
 pub mod SoundQueries
 pub mod Complete
 pub mod CompleteQueries
+pub mod CutOrNot

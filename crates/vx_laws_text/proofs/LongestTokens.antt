@@ -25,12 +25,12 @@ use Rattle.vx_laws_text.proofs.CutTexts.{type_suffix}
 -- ---- runs
 
 -- a run is the front of a text, of characters of its class, and none follows
-record IsRun (class : ℕ → Bool) (bytes : Bytes) (r : Bytes × Bytes) : Type 0 where
-  parts : bytes ≡ r.0 ++ r.1
-  all : list_all class r.0 ≡ true
-  stops : begins class r.1 ≡ false
+pub record IsRun (class : ℕ → Bool) (bytes : Bytes) (r : Bytes × Bytes) : Type 0 where
+  pub parts : bytes ≡ r.0 ++ r.1
+  pub all : list_all class r.0 ≡ true
+  pub stops : begins class r.1 ≡ false
 
-run_is : (class : ℕ → Bool) (bytes : Bytes) → IsRun class bytes (run_of class bytes)
+pub run_is : (class : ℕ → Bool) (bytes : Bytes) → IsRun class bytes (run_of class bytes)
 unfolding run_of
 run_is class [] = record { parts = refl; all = refl; stops = refl }
 run_is class (b ∷ bytes) = go (class b) refl (run_is class bytes)
@@ -40,7 +40,7 @@ run_is class (b ∷ bytes) = go (class b) refl (run_is class bytes)
     go false is h = record { parts = refl; all = refl; stops = is }
 
 -- a run is as long as each front of the class
-run_longest : (class : ℕ → Bool) (s rest : Bytes) → list_all class s ≡ true → length (run_of class (s ++ rest)).1 ≤ length rest
+pub run_longest : (class : ℕ → Bool) (s rest : Bytes) → list_all class s ≡ true → length (run_of class (s ++ rest)).1 ≤ length rest
 unfolding run_of
 run_longest class [] rest all = let h = run_is class rest in omega (arith, ap length h.parts, length-append (run_of class rest).0 (run_of class rest).1)
 run_longest class (b ∷ s) rest all =
@@ -159,7 +159,7 @@ suffix_is (b ∷ s) q e = go (integer_named (b ∷ s)) refl e
     go None is e = absurd cc
     go (Some p) is e = let same : Some p ≡ q = cc in named_is (b ∷ s) p is ∙ ap suffix_text same
 
-text_suffix : (q : Option PType) → IsSuffix (suffix_text q) q
+pub text_suffix : (q : Option PType) → IsSuffix (suffix_text q) q
 text_suffix None = no_suffix
 text_suffix (Some p) = type_suffix p
 
@@ -207,7 +207,7 @@ pick_pair a k made s other text more e = go (a == k) refl e
         sym (ap sign_text same) ∙ (text ∙ ap (λ (n : ℕ). n ∷ 61 ∷ []) (sym (is_mark a k is)))
     go false is e = more e
 
-two_is : (a b : ℕ) (s : Sign) → two_signs a b ≡ Some s → sign_text s ≡ a ∷ b ∷ []
+pub two_is : (a b : ℕ) (s : Sign) → two_signs a b ≡ Some s → sign_text s ≡ a ∷ b ∷ []
 two_is a b s e = go (b == 61) refl e
   where
     pairs : two_signs a 61 ≡ Some s → sign_text s ≡ a ∷ 61 ∷ []
@@ -223,7 +223,7 @@ abbrev found : Token → Bytes → Option (Token × Bytes)
 found t rest = Some (t, rest)
 
 -- what stands at the front, told of a pair
-abbrev StandsAs : Bytes → Token × Bytes → Type 0
+abbrev pub StandsAs : Bytes → Token × Bytes → Type 0
 StandsAs bytes x = Stands bytes x.0 x.1
 
 same_pair : (t u : Token) (rest others : Bytes) → found t rest ≡ found u others → ◌≡◌ {A = Token × Bytes} (t, rest) (u, others)
@@ -236,7 +236,7 @@ word_spells : (s rest : Bytes) (o : Option Keyword) → keyword_of s ≡ o → i
 word_spells s rest (Some k) is word = (word, is)
 word_spells s rest None is word = (refl, word, is)
 
-word_stands : (b : ℕ) (bytes : Bytes) → is_first b ≡ true → StandsAs (b ∷ bytes) (word_token (b ∷ (run_of is_inner bytes).0), (run_of is_inner bytes).1)
+pub word_stands : (b : ℕ) (bytes : Bytes) → is_first b ≡ true → StandsAs (b ∷ bytes) (word_token (b ∷ (run_of is_inner bytes).0), (run_of is_inner bytes).1)
 word_stands b bytes first =
     let r = run_of is_inner bytes in
     let k = run_is is_inner bytes in
@@ -246,7 +246,7 @@ word_stands b bytes first =
 or_true : (x y : Bool) → x ≡ true → (x || y) ≡ true
 or_true x y e = rw e refl
 
-word_run : (b : ℕ) (bytes : Bytes) → is_first b ≡ true → run_of is_inner (b ∷ bytes) ≡ before (b ∷ []) (run_of is_inner bytes)
+pub word_run : (b : ℕ) (bytes : Bytes) → is_first b ≡ true → run_of is_inner (b ∷ bytes) ≡ before (b ∷ []) (run_of is_inner bytes)
 unfolding run_of
 word_run b bytes first = if-true (is_inner b) _ _ (or_true (is_first b) (is_digit b) first)
 
@@ -254,7 +254,7 @@ goes_on-begins : (rest : Bytes) → begins is_inner rest ≡ false → goes_on r
 goes_on-begins [] e = refl
 goes_on-begins (b ∷ rest) e = e
 
-begins-goes_on : (rest : Bytes) → goes_on rest ≡ false → begins is_inner rest ≡ false
+pub begins-goes_on : (rest : Bytes) → goes_on rest ≡ false → begins is_inner rest ≡ false
 begins-goes_on [] e = refl
 begins-goes_on (b ∷ rest) e = e
 

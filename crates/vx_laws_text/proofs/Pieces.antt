@@ -134,7 +134,7 @@ run_one mark b bytes s rest true e h =
 run_one mark b bytes s rest false e h = run_plain mark b bytes e ∙ ap (option_map (before (b ∷ []))) h
 
 -- a text with its marks doubled, up to the mark behind it
-run_quoted : (mark : ℕ) (s rest : Bytes) → behind_mark mark rest ≡ None → quoted_run mark (flat_map (doubled mark) s ++ (mark ∷ rest)) ≡ Some (s, rest)
+pub run_quoted : (mark : ℕ) (s rest : Bytes) → behind_mark mark rest ≡ None → quoted_run mark (flat_map (doubled mark) s ++ (mark ∷ rest)) ≡ Some (s, rest)
 run_quoted mark [] rest none = run_end mark rest none
 run_quoted mark (b ∷ s) rest none =
     ap (quoted_run mark) (append_assoc (doubled mark b) (flat_map (doubled mark) s) (mark ∷ rest))

@@ -5,3 +5,4 @@ pub mod Fuel
 pub mod Unchecked
 pub mod Longest
 pub mod Productions
+pub mod Cuts

@@ -1,5 +1,6 @@
 // The tokens of a text.
 
+ghost use Rattle.vx_laws_text.specs.Cuts.{FoundAreCut, CutAreFound};
 ghost use Rattle.vx_laws_text.specs.Longest.{TokenStands, NoLongerStands};
 ghost use Rattle.vx_laws_text.specs.Unchecked.{QuotedIsUtf8, RestIsUtf8, TestChangesNothing};
 
@@ -14,4 +15,11 @@ pub fn quoted_texts_are_utf8()
 pub fn tokens_are_longest()
     ensures stands { TokenStands }
     ensures longest { NoLongerStands }
+{}
+
+/// The tokens of a text are the longest at each place, but for characters that mean nothing; where at some place none stands, there
+/// are no tokens.
+pub fn tokens_are_those_of_the_text()
+    ensures found { FoundAreCut }
+    ensures cut { CutAreFound }
 {}
