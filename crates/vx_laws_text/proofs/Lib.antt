@@ -20,3 +20,4 @@ pub mod SoundQueries
 pub mod Complete
 pub mod CompleteQueries
 pub mod CutOrNot
+pub mod Answering

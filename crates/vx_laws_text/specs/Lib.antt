@@ -6,3 +6,4 @@ pub mod Unchecked
 pub mod Longest
 pub mod Productions
 pub mod Cuts
+pub mod Answers
