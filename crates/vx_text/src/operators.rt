@@ -7,7 +7,7 @@ use vx_expr::Operator;
 
 /// How tightly an operator binds, the loosest first.
 #[derive(Clone, Copy)]
-pub(crate) enum Level {
+pub enum Level {
     Disjunction,
     Conjunction,
     Comparison,

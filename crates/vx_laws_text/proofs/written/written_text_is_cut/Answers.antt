@@ -1,0 +1,5 @@
+use Rattle.vx_laws_text.proofs.ReadAgain.{written_text_is_cut}
+use Rattle.vx_laws_text.proofs.written.written_text_is_cut.Goals as goal
+
+pub returns : goal.returns
+returns c = written_text_is_cut
