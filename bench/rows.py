@@ -91,6 +91,20 @@ def conjunction(n):
     return ABOVE_TEN if n == 1 else binary(conjunction(n // 2), "and", conjunction(n - n // 2))
 
 
+def ors(n):
+    """A left chain of so many columns x."""
+    of = X
+    for _ in range(n - 1):
+        of = binary(of, "or", X)
+    return of
+
+
+def lists(n, of):
+    for _ in range(n):
+        of = {"list": of, "nullable": False}
+    return of
+
+
 def wide(n):
     """A table of so many columns with a row, all of which the projection asks."""
     columns = [("c%d" % i, "i64") for i in range(n)]
@@ -107,6 +121,7 @@ columns "id" "name" "price" "tags" "address" "active"
 reads 30"""
 WIDE = "rows 1 / {%s} / skipped - / columns %s / reads 1024" % (
     ",".join('"c%d":%d' % (i, i) for i in range(1024)), " ".join('"c%d"' % i for i in range(1024)))
+TWICE = {**bytes_of(X), "columns": [{"name": "x", "type": "i32"}, {"name": "x", "type": "i32"}]}
 NONE = "rows 0 / skipped - / columns - / reads 0"
 READ = "rows 0 / skipped - / columns \"x\" / reads 1"
 ROWS = [
@@ -154,19 +169,85 @@ ROWS = [
     ("254 nested selects", nested(254), WHOLE.replace("\n", " / "), 0),
     ("4,094 nodes", bytes_of(conjunction(819)), 'rows 2 / 12 / 20 / skipped - / columns "x" / reads 2', 0),
     ("1,024 columns", wide(1024), WIDE, 0),
+    ("columns that are no list", {**bytes_of(X), "columns": 7, "blocks": 7, "stats": 7, "filter": 7, "projection": 7}, "error: BadRequest columns", 3),
+    ("blocks that are no list", {**bytes_of(X), "blocks": 7, "stats": 7, "filter": 7, "projection": 7}, "error: BadRequest blocks", 3),
+    ("statistics that are no list", {**bytes_of(X), "stats": 7, "filter": 7, "projection": 7}, "error: BadRequest stats", 3),
+    ("a filter that is no text", {**bytes_of(X), "filter": 7, "projection": 7}, "error: BadRequest filter", 3),
+    ("a projection that is no text", {**TWICE, "filter": "a", "projection": 7}, "error: BadRequest projection", 3),
+    ("a filter of one digit", {**TWICE, "filter": "a", "projection": "b"}, "error: BadHex filter", 3),
+    ("a projection of one digit", {**TWICE, "filter": "", "projection": "b"}, "error: BadHex projection", 3),
+    ("a column twice", {**TWICE, "filter": "", "projection": ""}, "error: BadTable DuplicateName", 3),
+    ("a path to no column", request(X32, TWO, X, X, [(["z"], "min", [0, 0])]), "error: BadTable BadStatPath", 3),
+    ("a statistic twice", request(X32, TWO, X, X, [(["x"], "max", [0, 0]), (["x"], "max", [0, 0])]), "error: BadTable DuplicateStat", 3),
+    ("a statistic of one block", request(X32, TWO, X, X, [(["x"], "max", [0])]), "error: BadTable WrongStatCount", 3),
+    ("a statistic of a text", request(X32, TWO, X, X, [(["x"], "max", ["10", 0])]), "error: BadTable WrongStatType", 3),
+    ("a row too many", {**bytes_of(X), "blocks": [{"rows": 3, "values": [[1, 12]]}]}, "error: BadTable WrongLength", 3),
+    ("a truth among numbers", {**bytes_of(X), "blocks": [{"rows": 1, "values": [[True]]}]}, "error: BadTable WrongValue", 3),
+    ("a cell that is no whole number", {**bytes_of(X), "blocks": [{"rows": 1, "values": [[1.5]]}]}, "error: BadRequest blocks", 3),
 ]
+
+# rows of other arguments: the arguments, what they take, and the answer
+BELOW = request(X32, [[[1, 10]], [[11]]], ABOVE_TEN, X, [(["x"], "min", [0, 0]), (["x"], "max", [10, 11])])
+TREE = "Binary(>) / ├── lhs: GetItem(x) / │   └── Root / └── rhs: Literal(value: 10i32, dtype: i32)"
+WORDS = [
+    ("no arguments", [], b"", "error: Usage", 2),
+    ("a longer word", ["scans"], b"", "error: Usage", 2),
+    ("two words", ["scan", "scan"], b"", "error: Usage", 2),
+    ("a cut request", ["scan"], b"{", "error: BadJson", 3),
+    ("a list", ["scan"], b"[]", "error: BadRequest top", 3),
+    ("16,777,217 spaces", ["scan"], b" " * 16777217, "error: InputTooLong", 3),
+    ("an explanation", ["explain"], BELOW,
+     'filter ($.x > 10i32) / pruning ($.x_max <= 10i32) / required "x_max" / parts root: $.x.x_0 {x: pack(x_0: ($.x > 10i32))}'
+     " / projection $.x / parts root: $.x.x_0 {x: pack(x_0: $.x)}", 0),
+    ("an explanation without statistics", ["explain"], bytes_of(ABOVE_TEN),
+     "filter ($.x > 10i32) / pruning - / required - / parts root: $.x.x_0 {x: pack(x_0: ($.x > 10i32))}"
+     " / projection $.x / parts root: $.x.x_0 {x: pack(x_0: $.x)}", 0),
+    ("an explanation of a sum out of range", ["explain"], request(X8, [[[127]]], NEXT_POSITIVE, X),
+     "filter (($.x + 1i8) > 0i8) / pruning - / required - / parts root: $.x.x_0 {x: pack(x_0: (($.x + 1i8) > 0i8))}"
+     " / projection $.x / parts root: $.x.x_0 {x: pack(x_0: $.x)}", 0),
+    ("an explanation of a filter of numbers", ["explain"], bytes_of(X), "error: FilterNotBool", 4),
+    ("a shown expression", ["show", ABOVE_TEN.hex()], b"", "($.x > 10i32)", 0),
+    ("a shown tree", ["show", "tree", ABOVE_TEN.hex()], b"", TREE, 0),
+    ("the word tree", ["show", "tree"], b"", "error: BadHex text", 3),
+    ("three digits", ["show", "046"], b"", "error: BadHex text", 3),
+    ("no digits", ["show", ""], b"", "error: BadWire text", 4),
+    ("a word of a kind that isn't registered", ["show", node("dynamic").hex()], b"", "error: UnknownExpr text", 4),
+    ("a row with metadata", ["show", node("root", b"\0").hex()], b"", "error: BadMetadata text", 4),
+    ("a negation of nothing", ["show", node("not").hex()], b"", "error: WrongChildren text", 4),
+    ("another word behind show", ["show", "trees", ABOVE_TEN.hex()], b"", "error: Usage", 2),
+    ("a query", ["text", "x > 10i32"], b"", ABOVE_TEN.hex(), 0),
+    ("a cut sum", ["text", "1 +"], b"", "error: BadQuery", 4),
+    ("an open text", ["text", "'a"], b"", "error: BadToken", 4),
+    ("a number out of range", ["text", "300u8"], b"", "error: BadValue", 4),
+    ("4,095 tokens", ["text", "x" + " or x" * 2047 + " "], b"", ors(2048).hex(), 0),
+    ("4,097 tokens", ["text", "x" + " or x" * 2048], b"", "error: TooManyTokens", 4),
+    ("a type of depth 64", ["text", "cast(x, %sbool%s)" % ("list(" * 63, ")" * 63)], b"", cast(X, lists(63, "bool")).hex(), 0),
+    ("a type of depth 65", ["text", "cast(x, %sbool%s)" % ("list(" * 64, ")" * 64)], b"", "error: NotSerializable", 4),
+    ("a query without its word", ["text"], b"", "error: Usage", 2),
+    ("a query that isn't UTF-8", ["text", b"\xff"], b"", "error: Usage", 2),
+    ("the version", ["--version"], b"", "vx 0.1.0", 0),
+]
+
+
+def rows():
+    """All rows: a name, arguments, what is taken, the answer and the exit status."""
+    for name, asked, told, status in ROWS:
+        yield name, ["scan"], asked, told, status
+    yield from WORDS
 
 
 def main():
     program = sys.argv[1] if len(sys.argv) > 1 else PROGRAM
-    wrong = 0
-    for name, asked, told, status in ROWS:
-        ran = subprocess.run([program, "scan"], input=json.dumps(asked).encode(), stdout=subprocess.PIPE, check=False)
+    wrong = number = 0
+    for name, words, taken, told, status in rows():
+        number += 1
+        given = taken if isinstance(taken, bytes) else json.dumps(taken).encode()
+        ran = subprocess.run([program, *words], input=given, stdout=subprocess.PIPE, check=False)
         want = told.replace(" / ", "\n") + "\n"
         if ran.stdout.decode() != want or ran.returncode != status:
             wrong += 1
             print("%s: %d %r instead of %d %r" % (name, ran.returncode, ran.stdout.decode(), status, want))
-    print("%d of %d rows agree" % (len(ROWS) - wrong, len(ROWS)))
+    print("%d of %d rows agree" % (number - wrong, number))
     return 1 if wrong else 0
 
 

@@ -37,7 +37,7 @@ use Rattle.vx_query.specs.RefusalViews.{IsUnanswered, IsUnscanned, request_refus
 use Rattle.vx_query.specs.declared.endings.Ending.{Ending}
 use Rattle.vx_query.specs.declared.endings.Ending.TheVariants.{Report as Told, Overflow, BadCast}
 use Rattle.vx_query.specs.declared.refusals.Refusal.{Refusal}
-use Rattle.vx_query.specs.declared.refusals.Refusal.TheVariants.{NoMemory, ReadFault, InputTooLong, BadJson, BadRequest, BadHex, BadTable, BadHexText, Scan}
+use Rattle.vx_query.specs.declared.refusals.Refusal.TheVariants.{NoMemory, ReadFault, InputTooLong, BadJson, BadRequest, BadHex, BadTable, BadHexText, Scan, Query, NotSerializable, LongPart}
 use Rattle.vx_query.proofs.CellLemmas.{and_left, and_right}
 
 -- reports of equal parts are equal
@@ -202,6 +202,9 @@ unscanned_by input s (BadRequest place) found none = absurd none
 unscanned_by input s (BadHex side) found none = absurd none
 unscanned_by input s (BadTable refusal) found none = absurd none
 unscanned_by input s BadHexText found none = absurd none
+unscanned_by input s (Query e) found none = absurd none
+unscanned_by input s NotSerializable found none = absurd none
+unscanned_by input s LongPart found none = absurd none
 unscanned_by input s (Scan e) found refused = record { asked = s; held = found; refused = refused }
 
 -- an input whose request is refused is answered by the refusal

@@ -1,5 +1,5 @@
--- What the status of a run tells.
-use Rattle.std.proofs.Common.{◌≡◌, ◌∙◌, sym, ap, refl, subst, ℕ, ◌+◌, ◌≤◌, Bool, true, false, ◌||◌, cond, List, [], ◌∷◌, nat_le, map, length, take, Option, Some, None, Result, Ok, Err, is_some, arith, true≢false}
+-- What the status of a run whose arguments read a request tells.
+use Rattle.std.proofs.Common.{◌≡◌, ◌∙◌, sym, ap, refl, subst, ℕ, ◌+◌, ◌≤◌, Bool, true, false, ◌||◌, cond, List, [], ◌∷◌, nat_le, map, length, take, Option, Some, None, Result, Ok, Err, arith, true≢false}
 use Rattle.std.specs.List.{list_any}
 use Rattle.std.proofs.lemmas.Bool.{leb-true}
 use Rattle.std.proofs.lemmas.List.{take_all}
@@ -15,229 +15,158 @@ use Rattle.vx_laws_scan.specs.Pruned.{KeptRowsAreAll}
 use Rattle.vx_io.specs.Ends.{TookUpTo, Added}
 use Rattle.vx_scan.specs.Stores.{Seen}
 use Rattle.vx_scan.specs.declared.errors.ScanError.{ScanError}
+use Rattle.vx_explain.specs.Explanations.{explain_text}
 use Rattle.vx_request.specs.Requests.{◌>>=◌, RequestedScan, request_of, ensured, json_in, scan_of, most_bytes}
 use Rattle.vx_request.specs.declared.errors.RequestError.{RequestError}
 use Rattle.vx_request.specs.declared.errors.RequestError.TheVariants.{InputTooLong}
 use Rattle.vx_query.specs.Reports.{report_text}
 use Rattle.vx_query.specs.Refusals.{request_refusal_name, scan_refusal_name, break_name, refusal_line}
-use Rattle.vx_query.specs.Running.{End, Form, HoldsScan, HoldsRefused, scan_table, scan_reads, scan_phases, scan_breaks, scan_breaks_by, scan_report, scanned_store, broken_store, scan_form, explain_form, show_form, show_tree_form, help_form, version_form, reads_request, shown_word, Outcome, misused, helped, versioned, out_of_memory, unread, refused, unscanned, broken, answered, explained, undecoded, unshown, shown, tree_shown, Writing, whole, cut, IsOutcome, IsWriting, IsRun, status_of, text_of, used_by}
+use Rattle.vx_query.specs.Running.{End, Form, HoldsScan, HoldsRefused, scan_table, scan_reads, scan_phases, scan_breaks, scan_breaks_by, scan_report, scanned_store, broken_store, scan_form, explain_form, reads_request, IsTaken, IsRun}
 use Rattle.vx_query.specs.WireLaws.{WireLaws}
-use Rattle.vx_query.specs.Causes.{HasRisen, IsReported, IsRefused, IsUnscanned, IsBroken, TellsScan, TellsRefused, TellsUnscanned, told_breaks, told_breaks_by, whole_report}
+use Rattle.vx_query.specs.Causes.{HasRisen, IsReported, IsRefused, IsUnscanned, IsBroken, IsExplained, HasBroken, TellsScan, told_breaks, told_breaks_by, whole_report}
+use Rattle.vx_query.specs.Exactly.{Tells, RunsWell, EndsWith, taken_of}
 use Rattle.vx_query.proofs.RefusalLemmas.{IsSameScan, one_err, not_err, one_scan, one_held_refusal, held_unrefused}
+use Rattle.vx_query.proofs.LineLemmas.{one_request, one_scan_error, one_cause, told_name}
+use Rattle.vx_query.proofs.FormLemmas.{broken_reads, broken_scans}
+use Rattle.vx_query.proofs.RequestEnds.{RequestEnd, cut_off, without_memory, not_read, no_request, no_scan, breaks, reports, explains, request_end}
 
-pub not_none : {X : Type 0} {x : X} → Some x ≡ None → ⊥
-not_none e = true≢false (ap is_some e)
-
--- whether a form is that of scans, of explanations, of what is shown in a line and as a tree, where there is one
+-- whether a form is that of scans, where there is one
 abbrev is_scan : Option Form → Bool
 is_scan (Some scan_form) = true
 is_scan _ = false
 
-abbrev pub is_explain : Option Form → Bool
-is_explain (Some explain_form) = true
-is_explain _ = false
-
-abbrev pub is_show : Option Form → Bool
-is_show (Some (show_form word)) = true
-is_show _ = false
-
-abbrev pub is_show_tree : Option Form → Bool
-is_show_tree (Some (show_tree_form word)) = true
-is_show_tree _ = false
-
--- arguments that read a request are of another form than these, and show no word
-reads_other : (form other : Option Form) → reads_request form ≡ true → reads_request other ≡ false → ¬ (form ≡ other)
-reads_other form other reads none same = true≢false (sym reads ∙ ap reads_request same ∙ none)
-
-pub shows_none : (form : Option Form) (word : Bytes) → reads_request form ≡ true → ¬ (shown_word form ≡ Some word)
-shows_none None word reads h = true≢false (sym reads)
-shows_none (Some scan_form) word reads h = not_none (sym h)
-shows_none (Some explain_form) word reads h = not_none (sym h)
-shows_none (Some (show_form other)) word reads h = true≢false (sym reads)
-shows_none (Some (show_tree_form other)) word reads h = true≢false (sym reads)
-shows_none (Some help_form) word reads h = true≢false (sym reads)
-shows_none (Some version_form) word reads h = true≢false (sym reads)
+no_explain : ¬ (Some scan_form ≡ Some explain_form)
+no_explain same = true≢false (ap is_scan same)
 
 -- ---- what each status means
 
 -- the report that status 0 means
 pub reported : (i i' o o' : End) (used : Option Seen) → IsRun (Some scan_form) i i' o o' used 0 → IsReported i i' o o' used
-reported i i' o o' used run = by run.outcome run.writing run.comes run.written run.held
+reported i i' o o' used run = by (request_end (Some scan_form) i i' o o' used 0 refl run)
   where
-    by : (outcome : Outcome) (writing : Writing) → IsOutcome (Some scan_form) i i' outcome → IsWriting o o' (text_of outcome) (status_of outcome) 0 writing
-        → used ≡ used_by outcome → IsReported i i' o o' used
-    by outcome cut comes written held = absurd (omega (arith, written.0))
-    by misused whole comes written held = absurd (not_none comes.0)
-    by helped whole comes written held = absurd (true≢false (ap is_scan comes.0))
-    by versioned whole comes written held = absurd (true≢false (ap is_scan comes.0))
-    by out_of_memory whole comes written held = absurd (omega (arith, written.0))
-    by unread whole comes written held = absurd (omega (arith, written.0))
-    by (refused input e) whole comes written held = absurd (omega (arith, written.0))
-    by (unscanned input e) whole comes written held = absurd (omega (arith, written.0))
-    by (broken cause input a f p) whole comes written held = absurd (omega (arith, written.0))
-    by (answered input a f p) whole comes written held = record {
-      input = input;
-      asked = a;
-      filter = f;
-      projection = p;
-      taken = comes.1.0;
-      asks = comes.1.1.0;
-      unbroken = comes.1.1.1;
-      written = written.1.0;
-      held = held;
-    }
-    by (explained input a f p) whole comes written held = absurd (true≢false (ap is_scan comes.0))
-    by undecoded whole comes written held = absurd (not_none (sym comes.0.1))
-    by (unshown e) whole comes written held = absurd (not_none (sym comes.0.1))
-    by (shown e) whole comes written held = absurd (true≢false (ap is_scan comes.0.1))
-    by (tree_shown e) whole comes written held = absurd (true≢false (ap is_scan comes.0.1))
+    by : RequestEnd (Some scan_form) i i' o o' used 0 → IsReported i i' o o' used
+    by (cut_off s risen) = absurd (omega (arith, s))
+    by (without_memory s held) = absurd (omega (arith, s))
+    by (not_read s risen held) = absurd (omega (arith, s))
+    by (no_request input e s taken why written held) = absurd (omega (arith, s))
+    by (no_scan input e s taken why written held) = absurd (omega (arith, s))
+    by (breaks cause input a f p s scans taken asks broken written held) = absurd (omega (arith, s))
+    by (reports input a f p s scans taken asks unbroken written held) =
+        record { input = input; asked = a; filter = f; projection = p; taken = taken; asks = asks; unbroken = unbroken; written = written; held = held }
+    by (explains input a f p s other taken asks written held) = absurd (no_explain other)
 
--- arguments of no form
-pub unformed : (form : Option Form) (i i' o o' : End) (used : Option Seen) → IsRun form i i' o o' used 2 → form ≡ None
-unformed form i i' o o' used run = by run.outcome run.writing run.comes run.written run.held
+-- the explanation that it means
+pub was_explained : (i i' o o' : End) (used : Option Seen) → IsRun (Some explain_form) i i' o o' used 0 → IsExplained i i' o o' used
+was_explained i i' o o' used run = by (request_end (Some explain_form) i i' o o' used 0 refl run)
   where
-    by : (outcome : Outcome) (writing : Writing) → IsOutcome form i i' outcome → IsWriting o o' (text_of outcome) (status_of outcome) 2 writing
-        → used ≡ used_by outcome → form ≡ None
-    by outcome cut comes written held = absurd (omega (arith, written.0))
-    by misused whole comes written held = comes.0
-    by helped whole comes written held = absurd (omega (arith, written.0))
-    by versioned whole comes written held = absurd (omega (arith, written.0))
-    by out_of_memory whole comes written held = absurd (omega (arith, written.0))
-    by unread whole comes written held = absurd (omega (arith, written.0))
-    by (refused input e) whole comes written held = absurd (omega (arith, written.0))
-    by (unscanned input e) whole comes written held = absurd (omega (arith, written.0))
-    by (broken cause input a f p) whole comes written held = absurd (omega (arith, written.0))
-    by (answered input a f p) whole comes written held = absurd (omega (arith, written.0))
-    by (explained input a f p) whole comes written held = absurd (omega (arith, written.0))
-    by undecoded whole comes written held = absurd (omega (arith, written.0))
-    by (unshown e) whole comes written held = absurd (omega (arith, written.0))
-    by (shown e) whole comes written held = absurd (omega (arith, written.0))
-    by (tree_shown e) whole comes written held = absurd (omega (arith, written.0))
+    by : RequestEnd (Some explain_form) i i' o o' used 0 → IsExplained i i' o o' used
+    by (cut_off s risen) = absurd (omega (arith, s))
+    by (without_memory s held) = absurd (omega (arith, s))
+    by (not_read s risen held) = absurd (omega (arith, s))
+    by (no_request input e s taken why written held) = absurd (omega (arith, s))
+    by (no_scan input e s taken why written held) = absurd (omega (arith, s))
+    by (breaks cause input a f p s scans taken asks broken written held) = absurd (omega (arith, s))
+    by (reports input a f p s scans taken asks unbroken written held) = absurd (no_explain (sym scans))
+    by (explains input a f p s other taken asks written held) =
+        record { input = input; asked = a; filter = f; projection = p; taken = taken; asks = asks; written = written; unheld = held }
 
 -- an input that is no request
 pub unasked : (form : Option Form) (i i' o o' : End) (used : Option Seen) → reads_request form ≡ true → IsRun form i i' o o' used 3
     → IsRefused i i' o o' used
-unasked form i i' o o' used reads run = by run.outcome run.writing run.comes run.written run.held
+unasked form i i' o o' used reads run = by (request_end form i i' o o' used 3 reads run)
   where
-    by : (outcome : Outcome) (writing : Writing) → IsOutcome form i i' outcome → IsWriting o o' (text_of outcome) (status_of outcome) 3 writing
-        → used ≡ used_by outcome → IsRefused i i' o o' used
-    by outcome cut comes written held = absurd (omega (arith, written.0))
-    by misused whole comes written held = absurd (omega (arith, written.0))
-    by helped whole comes written held = absurd (omega (arith, written.0))
-    by versioned whole comes written held = absurd (omega (arith, written.0))
-    by out_of_memory whole comes written held = absurd (omega (arith, written.0))
-    by unread whole comes written held = absurd (omega (arith, written.0))
-    by (refused input e) whole comes written held =
-        record { input = input; refusal = e; taken = comes.1.0; cause = comes.1.1; written = written.1.0; unheld = held }
-    by (unscanned input e) whole comes written held = absurd (omega (arith, written.0))
-    by (broken cause input a f p) whole comes written held = absurd (omega (arith, written.0))
-    by (answered input a f p) whole comes written held = absurd (omega (arith, written.0))
-    by (explained input a f p) whole comes written held = absurd (omega (arith, written.0))
-    by undecoded whole comes written held = absurd (shows_none form comes.0.0 reads comes.0.1)
-    by (unshown e) whole comes written held = absurd (omega (arith, written.0))
-    by (shown e) whole comes written held = absurd (omega (arith, written.0))
-    by (tree_shown e) whole comes written held = absurd (omega (arith, written.0))
+    by : RequestEnd form i i' o o' used 3 → IsRefused i i' o o' used
+    by (cut_off s risen) = absurd (omega (arith, s))
+    by (without_memory s held) = absurd (omega (arith, s))
+    by (not_read s risen held) = absurd (omega (arith, s))
+    by (no_request input e s taken why written held) =
+        record { input = input; refusal = e; taken = taken; cause = why; written = written; unheld = held }
+    by (no_scan input e s taken why written held) = absurd (omega (arith, s))
+    by (breaks cause input a f p s scans taken asks broken written held) = absurd (omega (arith, s))
+    by (reports input a f p s scans taken asks unbroken written held) = absurd (omega (arith, s))
+    by (explains input a f p s other taken asks written held) = absurd (omega (arith, s))
 
 -- a scan whose expressions are refused
 pub unspelled : (form : Option Form) (i i' o o' : End) (used : Option Seen) → reads_request form ≡ true → IsRun form i i' o o' used 4
     → IsUnscanned i i' o o' used
-unspelled form i i' o o' used reads run = by run.outcome run.writing run.comes run.written run.held
+unspelled form i i' o o' used reads run = by (request_end form i i' o o' used 4 reads run)
   where
-    by : (outcome : Outcome) (writing : Writing) → IsOutcome form i i' outcome → IsWriting o o' (text_of outcome) (status_of outcome) 4 writing
-        → used ≡ used_by outcome → IsUnscanned i i' o o' used
-    by outcome cut comes written held = absurd (omega (arith, written.0))
-    by misused whole comes written held = absurd (omega (arith, written.0))
-    by helped whole comes written held = absurd (omega (arith, written.0))
-    by versioned whole comes written held = absurd (omega (arith, written.0))
-    by out_of_memory whole comes written held = absurd (omega (arith, written.0))
-    by unread whole comes written held = absurd (omega (arith, written.0))
-    by (refused input e) whole comes written held = absurd (omega (arith, written.0))
-    by (unscanned input e) whole comes written held =
-        record { input = input; refusal = e; taken = comes.1.0; cause = comes.1.1; written = written.1.0; unheld = held }
-    by (broken cause input a f p) whole comes written held = absurd (omega (arith, written.0))
-    by (answered input a f p) whole comes written held = absurd (omega (arith, written.0))
-    by (explained input a f p) whole comes written held = absurd (omega (arith, written.0))
-    by undecoded whole comes written held = absurd (omega (arith, written.0))
-    by (unshown e) whole comes written held = absurd (shows_none form comes.0.0 reads comes.0.1)
-    by (shown e) whole comes written held = absurd (omega (arith, written.0))
-    by (tree_shown e) whole comes written held = absurd (omega (arith, written.0))
+    by : RequestEnd form i i' o o' used 4 → IsUnscanned i i' o o' used
+    by (cut_off s risen) = absurd (omega (arith, s))
+    by (without_memory s held) = absurd (omega (arith, s))
+    by (not_read s risen held) = absurd (omega (arith, s))
+    by (no_request input e s taken why written held) = absurd (omega (arith, s))
+    by (no_scan input e s taken why written held) =
+        record { input = input; refusal = e; taken = taken; cause = why; written = written; unheld = held }
+    by (breaks cause input a f p s scans taken asks broken written held) = absurd (omega (arith, s))
+    by (reports input a f p s scans taken asks unbroken written held) = absurd (omega (arith, s))
+    by (explains input a f p s other taken asks written held) = absurd (omega (arith, s))
 
 -- a scan that broke
 pub stopped : (form : Option Form) (i i' o o' : End) (used : Option Seen) → IsRun form i i' o o' used 5 → IsBroken i i' o o' used
-stopped form i i' o o' used run = by run.outcome run.writing run.comes run.written run.held
+stopped form i i' o o' used run = by (request_end form i i' o o' used 5 (broken_reads form i i' o o' used run) run)
   where
-    by : (outcome : Outcome) (writing : Writing) → IsOutcome form i i' outcome → IsWriting o o' (text_of outcome) (status_of outcome) 5 writing
-        → used ≡ used_by outcome → IsBroken i i' o o' used
-    by outcome cut comes written held = absurd (omega (arith, written.0))
-    by misused whole comes written held = absurd (omega (arith, written.0))
-    by helped whole comes written held = absurd (omega (arith, written.0))
-    by versioned whole comes written held = absurd (omega (arith, written.0))
-    by out_of_memory whole comes written held = absurd (omega (arith, written.0))
-    by unread whole comes written held = absurd (omega (arith, written.0))
-    by (refused input e) whole comes written held = absurd (omega (arith, written.0))
-    by (unscanned input e) whole comes written held = absurd (omega (arith, written.0))
-    by (broken cause input a f p) whole comes written held = record {
+    by : RequestEnd form i i' o o' used 5 → IsBroken i i' o o' used
+    by (cut_off s risen) = absurd (omega (arith, s))
+    by (without_memory s held) = absurd (omega (arith, s))
+    by (not_read s risen held) = absurd (omega (arith, s))
+    by (no_request input e s taken why written held) = absurd (omega (arith, s))
+    by (no_scan input e s taken why written held) = absurd (omega (arith, s))
+    by (breaks cause input a f p s scans taken asks broken written held) = record {
       input = input;
       asked = a;
       filter = f;
       projection = p;
       cause = cause;
-      taken = comes.1.0;
-      asks = comes.1.1.0;
-      breaks = comes.1.1.1;
-      written = written.1.0;
+      taken = taken;
+      asks = asks;
+      breaks = broken;
+      written = written;
       held = held;
     }
-    by (answered input a f p) whole comes written held = absurd (omega (arith, written.0))
-    by (explained input a f p) whole comes written held = absurd (omega (arith, written.0))
-    by undecoded whole comes written held = absurd (omega (arith, written.0))
-    by (unshown e) whole comes written held = absurd (omega (arith, written.0))
-    by (shown e) whole comes written held = absurd (omega (arith, written.0))
-    by (tree_shown e) whole comes written held = absurd (omega (arith, written.0))
+    by (reports input a f p s scans taken asks unbroken written held) = absurd (omega (arith, s))
+    by (explains input a f p s other taken asks written held) = absurd (omega (arith, s))
 
--- a source that failed
-pub source_risen : (form : Option Form) (i i' o o' : End) (used : Option Seen) → IsRun form i i' o o' used 6 → HasRisen i i'
-source_risen form i i' o o' used run = by run.outcome run.writing run.comes run.written run.held
-  where
-    by : (outcome : Outcome) (writing : Writing) → IsOutcome form i i' outcome → IsWriting o o' (text_of outcome) (status_of outcome) 6 writing
-        → used ≡ used_by outcome → HasRisen i i'
-    by outcome cut comes written held = absurd (omega (arith, written.0))
-    by misused whole comes written held = absurd (omega (arith, written.0))
-    by helped whole comes written held = absurd (omega (arith, written.0))
-    by versioned whole comes written held = absurd (omega (arith, written.0))
-    by out_of_memory whole comes written held = absurd (omega (arith, written.0))
-    by unread whole comes written held = comes.1.1
-    by (refused input e) whole comes written held = absurd (omega (arith, written.0))
-    by (unscanned input e) whole comes written held = absurd (omega (arith, written.0))
-    by (broken cause input a f p) whole comes written held = absurd (omega (arith, written.0))
-    by (answered input a f p) whole comes written held = absurd (omega (arith, written.0))
-    by (explained input a f p) whole comes written held = absurd (omega (arith, written.0))
-    by undecoded whole comes written held = absurd (omega (arith, written.0))
-    by (unshown e) whole comes written held = absurd (omega (arith, written.0))
-    by (shown e) whole comes written held = absurd (omega (arith, written.0))
-    by (tree_shown e) whole comes written held = absurd (omega (arith, written.0))
+-- ---- what a line tells
 
--- a sink that failed
-pub sink_risen : (form : Option Form) (i i' o o' : End) (used : Option Seen) → IsRun form i i' o o' used 7 → HasRisen o o'
-sink_risen form i i' o o' used run = by run.outcome run.writing run.comes run.written run.held
-  where
-    by : (outcome : Outcome) (writing : Writing) → IsOutcome form i i' outcome → IsWriting o o' (text_of outcome) (status_of outcome) 7 writing
-        → used ≡ used_by outcome → HasRisen o o'
-    by outcome cut comes written held = written.1.1
-    by misused whole comes written held = absurd (omega (arith, written.0))
-    by helped whole comes written held = absurd (omega (arith, written.0))
-    by versioned whole comes written held = absurd (omega (arith, written.0))
-    by out_of_memory whole comes written held = absurd (omega (arith, written.0))
-    by unread whole comes written held = absurd (omega (arith, written.0))
-    by (refused input e) whole comes written held = absurd (omega (arith, written.0))
-    by (unscanned input e) whole comes written held = absurd (omega (arith, written.0))
-    by (broken cause input a f p) whole comes written held = absurd (omega (arith, written.0))
-    by (answered input a f p) whole comes written held = absurd (omega (arith, written.0))
-    by (explained input a f p) whole comes written held = absurd (omega (arith, written.0))
-    by undecoded whole comes written held = absurd (omega (arith, written.0))
-    by (unshown e) whole comes written held = absurd (omega (arith, written.0))
-    by (shown e) whole comes written held = absurd (omega (arith, written.0))
-    by (tree_shown e) whole comes written held = absurd (omega (arith, written.0))
+-- a run that tells a refusal of its request
+pub told_request : (e : RequestError) (form : Option Form) (i i' o o' : End) (used : Option Seen) → reads_request form ≡ true
+    → Tells form i i' o o' used 3 (refusal_line (request_refusal_name e)) → (input : Bytes) × IsTaken i i' input × (request_of input ≡ Err e)
+told_request e form i i' o o' used reads tells =
+    let found = unasked form i i' o o' used reads tells.run in
+    let same : found.refusal ≡ e =
+    one_request found.refusal e
+    (told_name o.bytes o'.bytes tells.before (request_refusal_name e) (request_refusal_name found.refusal) tells.stood tells.written found.written) in
+    (found.input, found.taken, found.cause ∙ ap Err same)
+
+-- one that tells a refusal of its expressions
+pub told_expressions : (e : ScanError) (form : Option Form) (i i' o o' : End) (used : Option Seen) → reads_request form ≡ true
+    → Tells form i i' o o' used 4 (refusal_line (scan_refusal_name e)) → (input : Bytes) × IsTaken i i' input × HoldsRefused input e
+told_expressions e form i i' o o' used reads tells =
+    let found = unspelled form i i' o o' used reads tells.run in
+    let same : found.refusal ≡ e =
+    one_scan_error found.refusal e
+    (told_name o.bytes o'.bytes tells.before (scan_refusal_name e) (scan_refusal_name found.refusal) tells.stood tells.written found.written) in
+    (found.input, found.taken, subst (HoldsRefused found.input) same found.cause)
+
+-- one that tells a break
+pub told_break : (cause : Cause) (form : Option Form) (i i' o o' : End) (used : Option Seen) → Tells form i i' o o' used 5 (refusal_line (break_name cause))
+    → HasBroken cause form i i'
+told_break cause form i i' o o' used tells =
+    let found = stopped form i i' o o' used tells.run in
+    let same : found.cause ≡ cause =
+    one_cause found.cause cause
+    (told_name o.bytes o'.bytes tells.before (break_name cause) (break_name found.cause) tells.stood tells.written found.written) in
+    record {
+      scans = broken_scans form i i' o o' used tells.run;
+      input = found.input;
+      asked = found.asked;
+      filter = found.filter;
+      projection = found.projection;
+      taken = found.taken;
+      asks = found.asks;
+      breaks = subst (λ c. scan_breaks_by c found.asked found.filter found.projection ≡ true) same found.breaks;
+    }
 
 -- ---- what is taken of an input
 
@@ -314,153 +243,116 @@ told_breaking told a f p b same h = sym (λ j. scan_breaks (same.asked j) (same.
 
 -- ---- runs over a source whose bytes are told
 
--- where no phase of the scan that is told breaks
+-- where no phase of the scan that is told breaks, its report is written
 pub completed : WireLaws → (i i' o o' : End) (used : Option Seen) (status : ℕ) (told : TellsScan i) → told_breaks told ≡ false
-    → IsRun (Some scan_form) i i' o o' used status → ¬ (HasRisen i i') → ¬ (HasRisen o o') → ¬ (status ≡ 8) → status ≡ 0
-completed laws i i' o o' used status told breaks run still quiet memory = by run.outcome run.writing run.comes run.written
+    → RunsWell (Some scan_form) i i' o o' used status → ¬ (HasRisen i i')
+    → EndsWith 0 (scan_report told.asked told.filter told.projection) o o' status
+completed laws i i' o o' used status told unbroken well still = by (request_end (Some scan_form) i i' o o' used status refl well.run)
   where
-    by : (outcome : Outcome) (writing : Writing) → IsOutcome (Some scan_form) i i' outcome
-        → IsWriting o o' (text_of outcome) (status_of outcome) status writing
-        → status ≡ 0
-    by outcome cut comes written = absurd (quiet written.1.1)
-    by misused whole comes written = absurd (not_none comes.0)
-    by helped whole comes written = absurd (true≢false (ap is_scan comes.0))
-    by versioned whole comes written = absurd (true≢false (ap is_scan comes.0))
-    by out_of_memory whole comes written = absurd (memory written.0)
-    by unread whole comes written = absurd (still comes.1.1)
-    by (refused input e) whole comes written = absurd (told_unrefused i i' input e told comes.1.0.bytes comes.1.1)
-    by (unscanned input e) whole comes written = absurd (told_spelled laws i i' input e told comes.1.0.bytes comes.1.1)
-    by (broken cause input a f p) whole comes written =
-        let same = told_scan laws i i' input a f p told comes.1.0.bytes comes.1.1.0 in
-        let breaking = told_breaking told a f p true same (breaks_by_one cause a f p comes.1.1.1) in
-        absurd (true≢false (sym breaking ∙ breaks))
-    by (answered input a f p) whole comes written = written.0
-    by (explained input a f p) whole comes written = absurd (true≢false (ap is_scan comes.0))
-    by undecoded whole comes written = absurd (not_none (sym comes.0.1))
-    by (unshown e) whole comes written = absurd (not_none (sym comes.0.1))
-    by (shown e) whole comes written = absurd (true≢false (ap is_scan comes.0.1))
-    by (tree_shown e) whole comes written = absurd (true≢false (ap is_scan comes.0.1))
+    by : RequestEnd (Some scan_form) i i' o o' used status → EndsWith 0 (scan_report told.asked told.filter told.projection) o o' status
+    by (cut_off s risen) = absurd (well.quiet risen)
+    by (without_memory s held) = absurd (well.memory s)
+    by (not_read s risen held) = absurd (still risen)
+    by (no_request input e s taken why written held) = absurd (told_unrefused i i' input e told taken.bytes why)
+    by (no_scan input e s taken why written held) = absurd (told_spelled laws i i' input e told taken.bytes why)
+    by (breaks cause input a f p s scans taken asks broken written held) =
+        let same = told_scan laws i i' input a f p told taken.bytes asks in
+        absurd (true≢false (sym (told_breaking told a f p true same (breaks_by_one cause a f p broken)) ∙ unbroken))
+    by (reports input a f p s scans taken asks own written held) =
+        let same = told_scan laws i i' input a f p told taken.bytes asks in
+        (s, subst (Added o.bytes o'.bytes) (λ j. scan_report (same.asked j) (same.filter j) (same.projection j)) written)
+    by (explains input a f p s other taken asks written held) = absurd (no_explain other)
 
--- the run of a request that is refused says why
-abbrev pub SaysWhy : End → End → ℕ → ℕ → Bytes → Type 0
-SaysWhy o o' status told name = (status ≡ told) × Added o.bytes o'.bytes (refusal_line name)
-
--- where the bytes that are told are no request
-pub says_why : (form : Option Form) → reads_request form ≡ true → (e : RequestError) (i i' o o' : End) (used : Option Seen) (status : ℕ) → TellsRefused i e
-    → IsRun form i i' o o' used status → ¬ (HasRisen i i') → ¬ (HasRisen o o') → ¬ (status ≡ 8)
-    → SaysWhy o o' status 3 (request_refusal_name e)
-says_why form reads e i i' o o' used status tells run still quiet memory = by run.outcome run.writing run.comes run.written
+-- where the bytes that are told hold a scan, its explanation is written
+pub explained_whole : WireLaws → (i i' o o' : End) (used : Option Seen) (status : ℕ) (told : TellsScan i)
+    → RunsWell (Some explain_form) i i' o o' used status → ¬ (HasRisen i i')
+    → EndsWith 0 (explain_text told.asked.zones told.filter told.projection) o o' status
+explained_whole laws i i' o o' used status told well still = by (request_end (Some explain_form) i i' o o' used status refl well.run)
   where
-    by : (outcome : Outcome) (writing : Writing) → IsOutcome form i i' outcome
-        → IsWriting o o' (text_of outcome) (status_of outcome) status writing
-        → SaysWhy o o' status 3 (request_refusal_name e)
-    by outcome cut comes written = absurd (quiet written.1.1)
-    by misused whole comes written = absurd (reads_other form None reads refl comes.0)
-    by helped whole comes written = absurd (reads_other form (Some help_form) reads refl comes.0)
-    by versioned whole comes written = absurd (reads_other form (Some version_form) reads refl comes.0)
-    by out_of_memory whole comes written = absurd (memory written.0)
-    by unread whole comes written = absurd (still comes.1.1)
-    by (refused input g) whole comes written =
-        let part = taken_part i i' tells.input input tells.told comes.1.0.bytes in
-        let same : g ≡ e = one_err (request_of input) g e comes.1.1 (ap request_of part ∙ tells.refused) in
-        (written.0, subst (λ x. Added o.bytes o'.bytes (refusal_line (request_refusal_name x))) same written.1.0)
-    by (unscanned input g) whole comes written =
-        let part = taken_part i i' tells.input input tells.told comes.1.0.bytes in
-        absurd (not_err (request_of input) comes.1.1.asked e comes.1.1.held (ap request_of part ∙ tells.refused))
-    by (broken cause input a f p) whole comes written =
-        let part = taken_part i i' tells.input input tells.told comes.1.0.bytes in
-        absurd (not_err (request_of input) a e comes.1.1.0.asked (ap request_of part ∙ tells.refused))
-    by (answered input a f p) whole comes written =
-        let part = taken_part i i' tells.input input tells.told comes.1.0.bytes in
-        absurd (not_err (request_of input) a e comes.1.1.0.asked (ap request_of part ∙ tells.refused))
-    by (explained input a f p) whole comes written =
-        let part = taken_part i i' tells.input input tells.told comes.1.0.bytes in
-        absurd (not_err (request_of input) a e comes.1.1.asked (ap request_of part ∙ tells.refused))
-    by undecoded whole comes written = absurd (shows_none form comes.0.0 reads comes.0.1)
-    by (unshown g) whole comes written = absurd (shows_none form comes.0.0 reads comes.0.1)
-    by (shown g) whole comes written = absurd (reads_other form (Some (show_form comes.0.0)) reads refl comes.0.1)
-    by (tree_shown g) whole comes written = absurd (reads_other form (Some (show_tree_form comes.0.0)) reads refl comes.0.1)
+    by : RequestEnd (Some explain_form) i i' o o' used status → EndsWith 0 (explain_text told.asked.zones told.filter told.projection) o o' status
+    by (cut_off s risen) = absurd (well.quiet risen)
+    by (without_memory s held) = absurd (well.memory s)
+    by (not_read s risen held) = absurd (still risen)
+    by (no_request input e s taken why written held) = absurd (told_unrefused i i' input e told taken.bytes why)
+    by (no_scan input e s taken why written held) = absurd (told_spelled laws i i' input e told taken.bytes why)
+    by (breaks cause input a f p s scans taken asks broken written held) = absurd (no_explain (sym scans))
+    by (reports input a f p s scans taken asks own written held) = absurd (no_explain (sym scans))
+    by (explains input a f p s other taken asks written held) =
+        let same = told_scan laws i i' input a f p told taken.bytes asks in
+        (s, subst (Added o.bytes o'.bytes) (λ j. explain_text (same.asked j).zones (same.filter j) (same.projection j)) written)
 
--- the input of a scan whose expressions are refused is taken whole
-unscanned_input : (i i' : End) (input : Bytes) (e : ScanError) (tells : TellsUnscanned i e)
-    → TookUpTo (most_bytes + 1) i.bytes i'.bytes input → input ≡ tells.input
-unscanned_input i i' input e tells took =
-    taken_whole i i' tells.input input tells.told (asks_within tells.input tells.refused.asked tells.refused.held) took
-
--- where the expressions of the scan that is told are refused
-pub says_refusal : WireLaws → (form : Option Form) → reads_request form ≡ true → (e : ScanError) (i i' o o' : End) (used : Option Seen) (status : ℕ) → TellsUnscanned i e
-    → IsRun form i i' o o' used status → ¬ (HasRisen i i') → ¬ (HasRisen o o') → ¬ (status ≡ 8)
-    → SaysWhy o o' status 4 (scan_refusal_name e)
-says_refusal laws form reads e i i' o o' used status tells run still quiet memory = by run.outcome run.writing run.comes run.written
+-- where what is taken of them is no request
+pub says_why : (e : RequestError) (form : Option Form) (i i' o o' : End) (used : Option Seen) (status : ℕ) (input : Bytes) → reads_request form ≡ true
+    → i.bytes ≡ Some input → request_of (taken_of input) ≡ Err e → RunsWell form i i' o o' used status → ¬ (HasRisen i i')
+    → EndsWith 3 (refusal_line (request_refusal_name e)) o o' status
+says_why e form i i' o o' used status all reads told refuses well still = by (request_end form i i' o o' used status reads well.run)
   where
-    by : (outcome : Outcome) (writing : Writing) → IsOutcome form i i' outcome
-        → IsWriting o o' (text_of outcome) (status_of outcome) status writing
-        → SaysWhy o o' status 4 (scan_refusal_name e)
-    by outcome cut comes written = absurd (quiet written.1.1)
-    by misused whole comes written = absurd (reads_other form None reads refl comes.0)
-    by helped whole comes written = absurd (reads_other form (Some help_form) reads refl comes.0)
-    by versioned whole comes written = absurd (reads_other form (Some version_form) reads refl comes.0)
-    by out_of_memory whole comes written = absurd (memory written.0)
-    by unread whole comes written = absurd (still comes.1.1)
-    by (refused input g) whole comes written =
-        let same = unscanned_input i i' input e tells comes.1.0.bytes in
-        absurd (not_err (request_of input) tells.refused.asked g (ap request_of same ∙ tells.refused.held) comes.1.1)
-    by (unscanned input g) whole comes written =
-        let same = unscanned_input i i' input e tells comes.1.0.bytes in
-        let one : g ≡ e = one_held_refusal laws tells.input g e (subst (λ bytes. HoldsRefused bytes g) same comes.1.1) tells.refused in
-        (written.0, subst (λ x. Added o.bytes o'.bytes (refusal_line (scan_refusal_name x))) one written.1.0)
-    by (broken cause input a f p) whole comes written =
-        let same = unscanned_input i i' input e tells comes.1.0.bytes in
-        absurd (held_unrefused laws tells.input a f p e (subst (λ bytes. HoldsScan bytes a f p) same comes.1.1.0) tells.refused)
-    by (answered input a f p) whole comes written =
-        let same = unscanned_input i i' input e tells comes.1.0.bytes in
-        absurd (held_unrefused laws tells.input a f p e (subst (λ bytes. HoldsScan bytes a f p) same comes.1.1.0) tells.refused)
-    by (explained input a f p) whole comes written =
-        let same = unscanned_input i i' input e tells comes.1.0.bytes in
-        absurd (held_unrefused laws tells.input a f p e (subst (λ bytes. HoldsScan bytes a f p) same comes.1.1) tells.refused)
-    by undecoded whole comes written = absurd (shows_none form comes.0.0 reads comes.0.1)
-    by (unshown g) whole comes written = absurd (shows_none form comes.0.0 reads comes.0.1)
-    by (shown g) whole comes written = absurd (reads_other form (Some (show_form comes.0.0)) reads refl comes.0.1)
-    by (tree_shown g) whole comes written = absurd (reads_other form (Some (show_tree_form comes.0.0)) reads refl comes.0.1)
+    refused_all : (input : Bytes) → IsTaken i i' input → request_of input ≡ Err e
+    refused_all input taken = ap request_of (taken_part i i' all input told taken.bytes) ∙ refuses
+
+    by : RequestEnd form i i' o o' used status → EndsWith 3 (refusal_line (request_refusal_name e)) o o' status
+    by (cut_off s risen) = absurd (well.quiet risen)
+    by (without_memory s held) = absurd (well.memory s)
+    by (not_read s risen held) = absurd (still risen)
+    by (no_request input g s taken why written held) =
+        let same : g ≡ e = one_err (request_of input) g e why (refused_all input taken) in
+        (s, subst (λ x. Added o.bytes o'.bytes (refusal_line (request_refusal_name x))) same written)
+    by (no_scan input g s taken why written held) = absurd (not_err (request_of input) why.asked e why.held (refused_all input taken))
+    by (breaks cause input a f p s scans taken asks broken written held) = absurd (not_err (request_of input) a e asks.asked (refused_all input taken))
+    by (reports input a f p s scans taken asks unbroken written held) = absurd (not_err (request_of input) a e asks.asked (refused_all input taken))
+    by (explains input a f p s other taken asks written held) = absurd (not_err (request_of input) a e asks.asked (refused_all input taken))
+
+-- where it holds a scan whose expressions are refused
+pub says_refusal : WireLaws → (e : ScanError) (form : Option Form) (i i' o o' : End) (used : Option Seen) (status : ℕ) (input : Bytes)
+    → reads_request form ≡ true → i.bytes ≡ Some input → HoldsRefused (taken_of input) e → RunsWell form i i' o o' used status → ¬ (HasRisen i i')
+    → EndsWith 4 (refusal_line (scan_refusal_name e)) o o' status
+says_refusal laws e form i i' o o' used status all reads told refuses well still = by (request_end form i i' o o' used status reads well.run)
+  where
+    refused_all : (input : Bytes) → IsTaken i i' input → HoldsRefused input e
+    refused_all input taken = subst (λ bytes. HoldsRefused bytes e) (sym (taken_part i i' all input told taken.bytes)) refuses
+
+    by : RequestEnd form i i' o o' used status → EndsWith 4 (refusal_line (scan_refusal_name e)) o o' status
+    by (cut_off s risen) = absurd (well.quiet risen)
+    by (without_memory s held) = absurd (well.memory s)
+    by (not_read s risen held) = absurd (still risen)
+    by (no_request input g s taken why written held) =
+        let own = refused_all input taken in
+        absurd (not_err (request_of input) own.asked g own.held why)
+    by (no_scan input g s taken why written held) =
+        let same : g ≡ e = one_held_refusal laws input g e why (refused_all input taken) in
+        (s, subst (λ x. Added o.bytes o'.bytes (refusal_line (scan_refusal_name x))) same written)
+    by (breaks cause input a f p s scans taken asks broken written held) = absurd (held_unrefused laws input a f p e asks (refused_all input taken))
+    by (reports input a f p s scans taken asks unbroken written held) = absurd (held_unrefused laws input a f p e asks (refused_all input taken))
+    by (explains input a f p s other taken asks written held) = absurd (held_unrefused laws input a f p e asks (refused_all input taken))
 
 -- the run of a scan that breaks says why, and holds its store
 abbrev pub SaysBreak : {i : End} → TellsScan i → End → End → Option Seen → ℕ → Type 0
 SaysBreak told o o' used status =
-    (status ≡ 5) × ((cause : Cause) × (told_breaks_by cause told ≡ true) × Added o.bytes o'.bytes (refusal_line (break_name cause)))
+    ((cause : Cause) × (told_breaks_by cause told ≡ true) × EndsWith 5 (refusal_line (break_name cause)) o o' status)
     × (used ≡ Some (broken_store told.asked told.filter told.projection))
 
 -- where a phase of the scan that is told breaks
 pub says_break : WireLaws → (i i' o o' : End) (used : Option Seen) (status : ℕ) (told : TellsScan i) → told_breaks told ≡ true
-    → IsRun (Some scan_form) i i' o o' used status → ¬ (HasRisen i i') → ¬ (HasRisen o o') → ¬ (status ≡ 8) → SaysBreak told o o' used status
-says_break laws i i' o o' used status told breaks run still quiet memory = by run.outcome run.writing run.comes run.written run.held
+    → RunsWell (Some scan_form) i i' o o' used status → ¬ (HasRisen i i') → SaysBreak told o o' used status
+says_break laws i i' o o' used status told breaking well still = by (request_end (Some scan_form) i i' o o' used status refl well.run)
   where
-    by : (outcome : Outcome) (writing : Writing) → IsOutcome (Some scan_form) i i' outcome
-        → IsWriting o o' (text_of outcome) (status_of outcome) status writing
-        → used ≡ used_by outcome
-        → SaysBreak told o o' used status
-    by outcome cut comes written held = absurd (quiet written.1.1)
-    by misused whole comes written held = absurd (not_none comes.0)
-    by helped whole comes written held = absurd (true≢false (ap is_scan comes.0))
-    by versioned whole comes written held = absurd (true≢false (ap is_scan comes.0))
-    by out_of_memory whole comes written held = absurd (memory written.0)
-    by unread whole comes written held = absurd (still comes.1.1)
-    by (refused input e) whole comes written held = absurd (told_unrefused i i' input e told comes.1.0.bytes comes.1.1)
-    by (unscanned input e) whole comes written held = absurd (told_spelled laws i i' input e told comes.1.0.bytes comes.1.1)
-    by (broken cause input a f p) whole comes written held =
-        let same = told_scan laws i i' input a f p told comes.1.0.bytes comes.1.1.0 in
+    by : RequestEnd (Some scan_form) i i' o o' used status → SaysBreak told o o' used status
+    by (cut_off s risen) = absurd (well.quiet risen)
+    by (without_memory s held) = absurd (well.memory s)
+    by (not_read s risen held) = absurd (still risen)
+    by (no_request input e s taken why written held) = absurd (told_unrefused i i' input e told taken.bytes why)
+    by (no_scan input e s taken why written held) = absurd (told_spelled laws i i' input e told taken.bytes why)
+    by (breaks cause input a f p s scans taken asks broken written held) =
+        let same = told_scan laws i i' input a f p told taken.bytes asks in
         let by_cause : told_breaks_by cause told ≡ true =
-        sym (λ j. scan_breaks_by cause (same.asked j) (same.filter j) (same.projection j)) ∙ comes.1.1.1 in
-        (written.0, (cause, by_cause, written.1.0), held ∙ (λ j. Some (broken_store (same.asked j) (same.filter j) (same.projection j))))
-    by (answered input a f p) whole comes written held =
-        let unbroken = told_breaking told a f p false (told_scan laws i i' input a f p told comes.1.0.bytes comes.1.1.0) comes.1.1.1 in
-        absurd (true≢false (sym breaks ∙ unbroken))
-    by (explained input a f p) whole comes written held = absurd (true≢false (ap is_scan comes.0))
-    by undecoded whole comes written held = absurd (not_none (sym comes.0.1))
-    by (unshown e) whole comes written held = absurd (not_none (sym comes.0.1))
-    by (shown e) whole comes written held = absurd (true≢false (ap is_scan comes.0.1))
-    by (tree_shown e) whole comes written held = absurd (true≢false (ap is_scan comes.0.1))
+        sym (λ j. scan_breaks_by cause (same.asked j) (same.filter j) (same.projection j)) ∙ broken in
+        ((cause, by_cause, (s, written)), held ∙ (λ j. Some (broken_store (same.asked j) (same.filter j) (same.projection j))))
+    by (reports input a f p s scans taken asks unbroken written held) =
+        let own = told_breaking told a f p false (told_scan laws i i' input a f p told taken.bytes asks) unbroken in
+        absurd (true≢false (sym breaking ∙ own))
+    by (explains input a f p s other taken asks written held) = absurd (no_explain other)
 
--- the scan that a run reports is the one that the source's bytes ask
+-- the scan that a run reports is the one that the source's bytes ask, and so is the one that is explained
 pub reported_as_told : WireLaws → (i i' o o' : End) (used : Option Seen) (told : TellsScan i) → IsRun (Some scan_form) i i' o o' used 0
     → Added o.bytes o'.bytes (scan_report told.asked told.filter told.projection) × (used ≡ Some (scanned_store told.asked told.filter told.projection))
 reported_as_told laws i i' o o' used told run =
@@ -469,6 +361,13 @@ reported_as_told laws i i' o o' used told run =
       subst (Added o.bytes o'.bytes) (λ j. scan_report (same.asked j) (same.filter j) (same.projection j)) found.written,
       found.held ∙ (λ j. Some (scanned_store (same.asked j) (same.filter j) (same.projection j))),
     )
+
+pub explained_as_told : WireLaws → (i i' o o' : End) (used : Option Seen) (told : TellsScan i) → IsRun (Some explain_form) i i' o o' used 0
+    → Added o.bytes o'.bytes (explain_text told.asked.zones told.filter told.projection)
+explained_as_told laws i i' o o' used told run =
+    let found = was_explained i i' o o' used run in
+    let same = told_scan laws i i' found.input found.asked found.filter found.projection told found.taken.bytes found.asks in
+    subst (Added o.bytes o'.bytes) (λ j. explain_text (same.asked j).zones (same.filter j) (same.projection j)) found.written
 
 -- where the statistics are honest, the report tells all rows
 pub whole_where_honest : KeptRowsAreAll → (a : RequestedScan) (f p : Tree) → IsHonest a.zones (scan_table a) → scan_report a f p ≡ whole_report a f p

@@ -3,7 +3,16 @@ pub mod ShapeLemmas
 mod AnswerLemmas
 mod OutcomeLemmas
 mod RefusalLemmas
-mod CauseLemmas
+mod LineLemmas
+mod RequestEnds
+mod WordEnds
+mod QueryEnds
 mod FormLemmas
+mod CauseLemmas
+mod RequestCauseLemmas
+mod ExpressionCauseLemmas
 mod WordLemmas
+mod ReadLemmas
+mod QueryLemmas
+mod ByteLemmas
 mod TextLemmas

@@ -14,15 +14,15 @@ use Rattle.vx_scan.specs.Stores.{Seen}
 use Rattle.vx_request.specs.Requests.{most_bytes}
 use Rattle.vx_request.specs.declared.errors.RequestError.TheVariants as requests
 use Rattle.vx_query.specs.EndingViews.{ending_status, ending_text, EndsBy, IsAnswered}
-use Rattle.vx_query.specs.Running.{End, Form, scan_form, explain_form, show_form, show_tree_form, reads_request, shown_word, Outcome, out_of_memory, unread, refused, unscanned, broken, answered, explained, undecoded, unshown, shown, tree_shown, Writing, IsOutcome, IsTaken, IsPartTaken, IsWriting, IsRun, status_of, text_of, used_by}
-use Rattle.vx_query.specs.RefusalViews.{refusal_status, refusal_text, input_refusal, IsUnanswered, IsWordUnshown}
-use Rattle.vx_query.specs.TextViews.{answer_status, answer_text, ExplainsInput, ShowsWord, IsAnsweredBy}
+use Rattle.vx_query.specs.Running.{End, Form, scan_form, explain_form, show_form, show_tree_form, text_form, reads_request, shown_word, Outcome, out_of_memory, unread, refused, unscanned, broken, answered, explained, undecoded, unshown, shown, tree_shown, unnamed, unserialized, overlong, named, Writing, IsOutcome, IsTaken, IsPartTaken, IsWriting, IsRun, status_of, text_of, used_by}
+use Rattle.vx_query.specs.RefusalViews.{refusal_status, refusal_text, input_refusal, IsUnanswered, IsWordUnshown, IsQueryRefused}
+use Rattle.vx_query.specs.TextViews.{answer_status, answer_text, ExplainsInput, ShowsWord, AnswersQuery, IsAnsweredBy}
 use Rattle.vx_io.specs.declared.reading.InputError.{InputError}
 use Rattle.vx_io.specs.declared.reading.InputError.TheVariants as inputs
 use Rattle.vx_query.specs.declared.endings.Ending.{Ending}
 use Rattle.vx_query.specs.declared.endings.Ending.TheVariants.{Report, Overflow, BadCast}
 use Rattle.vx_query.specs.declared.refusals.Refusal.{Refusal}
-use Rattle.vx_query.specs.declared.refusals.Refusal.TheVariants.{NoMemory, ReadFault, InputTooLong, BadJson, BadRequest, BadHex, BadTable, BadHexText, Scan}
+use Rattle.vx_query.specs.declared.refusals.Refusal.TheVariants.{NoMemory, ReadFault, InputTooLong, BadJson, BadRequest, BadHex, BadTable, BadHexText, Scan, Query, NotSerializable, LongPart}
 
 -- an outcome that a refusal stands for
 abbrev pub IsRefused : Option Form → End → End → Refusal → Type 0
@@ -49,11 +49,14 @@ refused_taken form reads before after input (BadTable refusal) part taken told =
     (refused input (requests.BadTable refusal), (reads, (taken, told)), refl, refl, refl)
 refused_taken form reads before after input BadHexText part taken told = absurd told
 refused_taken form reads before after input (Scan e) part taken told = (unscanned input e, (reads, (taken, told)), refl, refl, refl)
+refused_taken form reads before after input (Query e) part taken told = absurd told
+refused_taken form reads before after input NotSerializable part taken told = absurd told
+refused_taken form reads before after input LongPart part taken told = absurd told
 
 -- a word that is not shown
 word_refused : (form : Option Form) (word : Bytes) → shown_word form ≡ Some word → (source : End) (r : Refusal) → IsWordUnshown word r
     → IsRefused form source source r
-word_refused form word is source NoMemory told = (out_of_memory, inr ((word, is), refl), refl, refl, refl)
+word_refused form word is source NoMemory told = (out_of_memory, inr ((word, inl is), refl), refl, refl, refl)
 word_refused form word is source ReadFault told = absurd told
 word_refused form word is source InputTooLong told = absurd told
 word_refused form word is source BadJson told = absurd told
@@ -62,6 +65,24 @@ word_refused form word is source (BadHex side) told = absurd told
 word_refused form word is source (BadTable refusal) told = absurd told
 word_refused form word is source BadHexText told = (undecoded, ((word, is, told), refl), refl, refl, refl)
 word_refused form word is source (Scan e) told = (unshown e, ((word, is, told), refl), refl, refl, refl)
+word_refused form word is source (Query e) told = absurd told
+word_refused form word is source NotSerializable told = absurd told
+word_refused form word is source LongPart told = absurd told
+
+-- a query that has no bytes
+query_refused : (query : Bytes) (source : End) (r : Refusal) → IsQueryRefused query r → IsRefused (Some (text_form query)) source source r
+query_refused query source NoMemory told = (out_of_memory, inr ((query, inr refl), refl), refl, refl, refl)
+query_refused query source ReadFault told = absurd told
+query_refused query source InputTooLong told = absurd told
+query_refused query source BadJson told = absurd told
+query_refused query source (BadRequest place) told = absurd told
+query_refused query source (BadHex side) told = absurd told
+query_refused query source (BadTable refusal) told = absurd told
+query_refused query source BadHexText told = absurd told
+query_refused query source (Scan e) told = absurd told
+query_refused query source (Query e) told = (unnamed e, ((query, refl, told), refl), refl, refl, refl)
+query_refused query source NotSerializable told = (unserialized, ((query, told.0, refl, told.1, told.2), refl), refl, refl, refl)
+query_refused query source LongPart told = (overlong, ((query, told.0, refl, told.1, told.2, told.3), refl), refl, refl, refl)
 
 -- an answer that is a refusal
 answered_refusal : (form : Option Form) (before after : End) (r : Refusal) → IsRefused form before after r → IsAnsweredBy form before after (Err r)
@@ -98,6 +119,13 @@ word_shown_as_tree word source (Ok text) h =
     record { outcome = tree_shown h.0; comes = ((word, refl, h.1), refl); status = refl; text = sym h.2; unheld = refl }
 word_shown_as_tree word source (Err r) h =
     answered_refusal (Some (show_tree_form word)) source source r (word_refused (Some (show_tree_form word)) word refl source r h)
+
+-- a query that is answered
+pub query_answered : (query : Bytes) (source : End) (answer : Result (String Global) Refusal) → AnswersQuery query answer
+    → IsAnsweredBy (Some (text_form query)) source source answer
+query_answered query source (Ok text) h =
+    record { outcome = named h.0; comes = ((query, refl, h.1, h.2), refl); status = refl; text = sym h.3; unheld = refl }
+query_answered query source (Err r) h = answered_refusal (Some (text_form query)) source source r (query_refused query source r h)
 
 -- what is answered where an input is refused
 pub refused_by : {T : Type 0} (form : Option Form) (before after : End) (r : Refusal) (result : Result T Refusal) → IsErrAnd result (λ x. x ≡ r)

@@ -70,7 +70,7 @@ not_refused laws a f p t e spelled typed h =
 -- ---- the scan of an input
 
 -- an answer is one value
-one_ok : {T E : Type 0} (r : Result T E) (x y : T) → r ≡ Ok x → r ≡ Ok y → x ≡ y
+pub one_ok : {T E : Type 0} (r : Result T E) (x y : T) → r ≡ Ok x → r ≡ Ok y → x ≡ y
 one_ok (Err e) x y h k = absurd (cc h)
 one_ok (Ok z) x y h k =
     let own : z ≡ x = cc h in

@@ -1,5 +1,5 @@
--- What the status of a run that shows a word tells.
-use Rattle.std.proofs.Common.{◌≡◌, ◌∙◌, sym, ap, refl, subst, ℕ, true, false, codes, Option, Some, None, arith, true≢false}
+-- What the status of a run whose arguments show a word tells.
+use Rattle.std.proofs.Common.{◌≡◌, ◌∙◌, sym, ap, refl, subst, ℕ, Bool, true, false, codes, Option, Some, None, arith, true≢false}
 use Rattle.std.proofs.lemmas.Option.{same_Some}
 use Rattle.vx_dtype.specs.Types.{Bytes}
 use Rattle.vx_expr.specs.Trees.{Tree}
@@ -14,11 +14,14 @@ use Rattle.vx_scan.proofs.TextLemmas.{one_spelled, spelled_is_taken, one_refusal
 use Rattle.vx_explain.specs.Explaining.{shown_line}
 use Rattle.vx_request.specs.Requests.{hex_bytes}
 use Rattle.vx_query.specs.Refusals.{scan_refusal_name, refusal_line}
-use Rattle.vx_query.specs.Running.{End, Form, scan_form, explain_form, show_form, show_tree_form, help_form, version_form, reads_request, shown_word, WordSpells, WordIsRefused, Outcome, misused, helped, versioned, out_of_memory, unread, refused, unscanned, broken, answered, explained, undecoded, unshown, shown, tree_shown, Writing, whole, cut, IsOutcome, IsWriting, IsRun, status_of, text_of, used_by}
-use Rattle.vx_query.specs.Causes.{HasRisen, IsShown}
-use Rattle.vx_query.proofs.CauseLemmas.{not_none, is_show, is_show_tree, shows_none, SaysWhy}
+use Rattle.vx_query.specs.Running.{End, Form, show_form, show_tree_form, shown_word, WordSpells, WordIsRefused, IsRun}
+use Rattle.vx_query.specs.Causes.{IsShown}
+use Rattle.vx_query.specs.Exactly.{Tells, RunsWell, EndsWith, WordsEndSo}
+use Rattle.vx_query.proofs.RequestEnds.{not_none}
+use Rattle.vx_query.proofs.LineLemmas.{one_scan_error, told_name}
+use Rattle.vx_query.proofs.WordEnds.{WordEnd, cut_off, without_memory, no_digits, no_expression, line, drawn, word_end}
 
--- ---- words that are shown
+-- ---- words
 
 -- a word spells one expression, and is refused for one reason; both never
 one_word : (word : Bytes) (e g : Tree) → WordSpells word e → WordSpells word g → e ≡ g
@@ -36,221 +39,120 @@ unrefused_word word e r x y =
     let same : x.bytes ≡ y.bytes = same_Some _ _ (sym x.digits ∙ y.digits) in
     spelled_is_taken is_default_kind Text y.bytes e r (subst (λ b. SpellsTree is_default_kind b e) same x.spelled) y.refused
 
--- the word of a run is the one that is given
-same_word : (form : Option Form) (word other : Bytes) → shown_word form ≡ Some word → shown_word form ≡ Some other → other ≡ word
-same_word form word other h k = same_Some _ _ (sym k ∙ h)
+-- whether a form is that of what is shown in a line
+abbrev is_show : Option Form → Bool
+is_show (Some (show_form word)) = true
+is_show _ = false
 
--- what status 0 means
+no_tree : (word other : Bytes) → ¬ (Some (show_form word) ≡ Some (show_tree_form other))
+no_tree word other same = true≢false (ap is_show same)
+
+-- ---- what status 0 means
+
 pub was_shown : (word : Bytes) (i i' o o' : End) (used : Option Seen) → IsRun (Some (show_form word)) i i' o o' used 0 → IsShown shown_line word i i' o o' used
-was_shown word i i' o o' used run = by run.outcome run.writing run.comes run.written run.held
+was_shown word i i' o o' used run = by (word_end (Some (show_form word)) word i i' o o' used 0 refl run)
   where
-    by : (outcome : Outcome) (writing : Writing) → IsOutcome (Some (show_form word)) i i' outcome
-        → IsWriting o o' (text_of outcome) (status_of outcome) 0 writing
-        → used ≡ used_by outcome
-        → IsShown shown_line word i i' o o' used
-    by outcome cut comes written held = absurd (omega (arith, written.0))
-    by misused whole comes written held = absurd (not_none comes.0)
-    by helped whole comes written held = absurd (true≢false (ap is_show comes.0))
-    by versioned whole comes written held = absurd (true≢false (ap is_show comes.0))
-    by out_of_memory whole comes written held = absurd (omega (arith, written.0))
-    by unread whole comes written held = absurd (true≢false (sym comes.0))
-    by (refused input e) whole comes written held = absurd (true≢false (sym comes.0))
-    by (unscanned input e) whole comes written held = absurd (true≢false (sym comes.0))
-    by (broken cause input a f p) whole comes written held = absurd (true≢false (ap is_show comes.0))
-    by (answered input a f p) whole comes written held = absurd (true≢false (ap is_show comes.0))
-    by (explained input a f p) whole comes written held = absurd (true≢false (ap is_show comes.0))
-    by undecoded whole comes written held = absurd (omega (arith, written.0))
-    by (unshown e) whole comes written held = absurd (omega (arith, written.0))
-    by (shown e) whole comes written held = record {
-      expression = e;
-      spelled = subst (λ w. WordSpells w e) (same_word (Some (show_form word)) word comes.0.0 refl (ap shown_word comes.0.1)) comes.0.2;
-      untaken = comes.1;
-      written = written.1.0;
-      unheld = held;
-    }
-    by (tree_shown e) whole comes written held = absurd (true≢false (ap is_show comes.0.1))
+    by : WordEnd (Some (show_form word)) word i i' o o' used 0 → IsShown shown_line word i i' o o' used
+    by (cut_off s risen) = absurd (omega (arith, s))
+    by (without_memory s) = absurd (omega (arith, s))
+    by (no_digits s none written) = absurd (omega (arith, s))
+    by (no_expression e s why written) = absurd (omega (arith, s))
+    by (line e s form spells untaken written held) =
+        record { expression = e; spelled = spells; untaken = untaken; written = written; unheld = held }
+    by (drawn e s form spells untaken written held) = absurd (no_tree word word form)
 
--- and that a word which spells an expression is shown
-pub was_shown_whole : (word : Bytes) (e : Tree) (i i' o o' : End) (used : Option Seen) (status : ℕ) → WordSpells word e → IsRun (Some (show_form word)) i i' o o' used status
-    → ¬ (HasRisen o o') → ¬ (status ≡ 8) → (status ≡ 0) × Added o.bytes o'.bytes (shown_line e)
-was_shown_whole word e i i' o o' used status spells run quiet memory = by run.outcome run.writing run.comes run.written
+pub was_shown_as_tree : (word : Bytes) (i i' o o' : End) (used : Option Seen) → IsRun (Some (show_tree_form word)) i i' o o' used 0
+    → IsShown tree_text_of word i i' o o' used
+was_shown_as_tree word i i' o o' used run = by (word_end (Some (show_tree_form word)) word i i' o o' used 0 refl run)
   where
-    by : (outcome : Outcome) (writing : Writing) → IsOutcome (Some (show_form word)) i i' outcome
-        → IsWriting o o' (text_of outcome) (status_of outcome) status writing
-        → (status ≡ 0) × Added o.bytes o'.bytes (shown_line e)
-    by outcome cut comes written = absurd (quiet written.1.1)
-    by misused whole comes written = absurd (not_none comes.0)
-    by helped whole comes written = absurd (true≢false (ap is_show comes.0))
-    by versioned whole comes written = absurd (true≢false (ap is_show comes.0))
-    by out_of_memory whole comes written = absurd (memory written.0)
-    by unread whole comes written = absurd (true≢false (sym comes.0))
-    by (refused input r) whole comes written = absurd (true≢false (sym comes.0))
-    by (unscanned input r) whole comes written = absurd (true≢false (sym comes.0))
-    by (broken cause input a f p) whole comes written = absurd (true≢false (ap is_show comes.0))
-    by (answered input a f p) whole comes written = absurd (true≢false (ap is_show comes.0))
-    by (explained input a f p) whole comes written = absurd (true≢false (ap is_show comes.0))
-    by undecoded whole comes written = absurd (not_none (sym spells.digits ∙ (subst (λ w. hex_bytes w ≡ None) (same_word (Some (show_form word)) word comes.0.0 refl comes.0.1) comes.0.2)))
-    by (unshown r) whole comes written = absurd (unrefused_word word e r spells (subst (λ w. WordIsRefused w r) (same_word (Some (show_form word)) word comes.0.0 refl comes.0.1) comes.0.2))
-    by (shown g) whole comes written =
-        let own = subst (λ w. WordSpells w g) (same_word (Some (show_form word)) word comes.0.0 refl (ap shown_word comes.0.1)) comes.0.2 in
-        (written.0, subst (λ x. Added o.bytes o'.bytes (shown_line x)) (one_word word g e own spells) written.1.0)
-    by (tree_shown g) whole comes written = absurd (true≢false (ap is_show comes.0.1))
+    by : WordEnd (Some (show_tree_form word)) word i i' o o' used 0 → IsShown tree_text_of word i i' o o' used
+    by (cut_off s risen) = absurd (omega (arith, s))
+    by (without_memory s) = absurd (omega (arith, s))
+    by (no_digits s none written) = absurd (omega (arith, s))
+    by (no_expression e s why written) = absurd (omega (arith, s))
+    by (line e s form spells untaken written held) = absurd (no_tree word word (sym form))
+    by (drawn e s form spells untaken written held) =
+        record { expression = e; spelled = spells; untaken = untaken; written = written; unheld = held }
 
--- what status 0 means
-pub was_shown_as_tree : (word : Bytes) (i i' o o' : End) (used : Option Seen) → IsRun (Some (show_tree_form word)) i i' o o' used 0 → IsShown tree_text_of word i i' o o' used
-was_shown_as_tree word i i' o o' used run = by run.outcome run.writing run.comes run.written run.held
+-- ---- a word that spells an expression is shown
+
+pub was_shown_whole : (word : Bytes) (e : Tree) (i i' o o' : End) (used : Option Seen) (status : ℕ) → WordSpells word e
+    → RunsWell (Some (show_form word)) i i' o o' used status → EndsWith 0 (shown_line e) o o' status
+was_shown_whole word e i i' o o' used status spells well = by (word_end (Some (show_form word)) word i i' o o' used status refl well.run)
   where
-    by : (outcome : Outcome) (writing : Writing) → IsOutcome (Some (show_tree_form word)) i i' outcome
-        → IsWriting o o' (text_of outcome) (status_of outcome) 0 writing
-        → used ≡ used_by outcome
-        → IsShown tree_text_of word i i' o o' used
-    by outcome cut comes written held = absurd (omega (arith, written.0))
-    by misused whole comes written held = absurd (not_none comes.0)
-    by helped whole comes written held = absurd (true≢false (ap is_show_tree comes.0))
-    by versioned whole comes written held = absurd (true≢false (ap is_show_tree comes.0))
-    by out_of_memory whole comes written held = absurd (omega (arith, written.0))
-    by unread whole comes written held = absurd (true≢false (sym comes.0))
-    by (refused input e) whole comes written held = absurd (true≢false (sym comes.0))
-    by (unscanned input e) whole comes written held = absurd (true≢false (sym comes.0))
-    by (broken cause input a f p) whole comes written held = absurd (true≢false (ap is_show_tree comes.0))
-    by (answered input a f p) whole comes written held = absurd (true≢false (ap is_show_tree comes.0))
-    by (explained input a f p) whole comes written held = absurd (true≢false (ap is_show_tree comes.0))
-    by undecoded whole comes written held = absurd (omega (arith, written.0))
-    by (unshown e) whole comes written held = absurd (omega (arith, written.0))
-    by (shown e) whole comes written held = absurd (true≢false (ap is_show_tree comes.0.1))
-    by (tree_shown e) whole comes written held = record {
-      expression = e;
-      spelled = subst (λ w. WordSpells w e) (same_word (Some (show_tree_form word)) word comes.0.0 refl (ap shown_word comes.0.1)) comes.0.2;
-      untaken = comes.1;
-      written = written.1.0;
-      unheld = held;
-    }
+    by : WordEnd (Some (show_form word)) word i i' o o' used status → EndsWith 0 (shown_line e) o o' status
+    by (cut_off s risen) = absurd (well.quiet risen)
+    by (without_memory s) = absurd (well.memory s)
+    by (no_digits s none written) = absurd (not_none (sym spells.digits ∙ none))
+    by (no_expression r s why written) = absurd (unrefused_word word e r spells why)
+    by (line g s form own untaken written held) = (s, subst (λ x. Added o.bytes o'.bytes (shown_line x)) (one_word word g e own spells) written)
+    by (drawn g s form own untaken written held) = absurd (no_tree word word form)
 
--- and that a word which spells an expression is shown
-pub was_shown_as_tree_whole : (word : Bytes) (e : Tree) (i i' o o' : End) (used : Option Seen) (status : ℕ) → WordSpells word e → IsRun (Some (show_tree_form word)) i i' o o' used status
-    → ¬ (HasRisen o o') → ¬ (status ≡ 8) → (status ≡ 0) × Added o.bytes o'.bytes (tree_text_of e)
-was_shown_as_tree_whole word e i i' o o' used status spells run quiet memory = by run.outcome run.writing run.comes run.written
+pub was_shown_as_tree_whole : (word : Bytes) (e : Tree) (i i' o o' : End) (used : Option Seen) (status : ℕ) → WordSpells word e
+    → RunsWell (Some (show_tree_form word)) i i' o o' used status → EndsWith 0 (tree_text_of e) o o' status
+was_shown_as_tree_whole word e i i' o o' used status spells well = by (word_end (Some (show_tree_form word)) word i i' o o' used status refl well.run)
   where
-    by : (outcome : Outcome) (writing : Writing) → IsOutcome (Some (show_tree_form word)) i i' outcome
-        → IsWriting o o' (text_of outcome) (status_of outcome) status writing
-        → (status ≡ 0) × Added o.bytes o'.bytes (tree_text_of e)
-    by outcome cut comes written = absurd (quiet written.1.1)
-    by misused whole comes written = absurd (not_none comes.0)
-    by helped whole comes written = absurd (true≢false (ap is_show_tree comes.0))
-    by versioned whole comes written = absurd (true≢false (ap is_show_tree comes.0))
-    by out_of_memory whole comes written = absurd (memory written.0)
-    by unread whole comes written = absurd (true≢false (sym comes.0))
-    by (refused input r) whole comes written = absurd (true≢false (sym comes.0))
-    by (unscanned input r) whole comes written = absurd (true≢false (sym comes.0))
-    by (broken cause input a f p) whole comes written = absurd (true≢false (ap is_show_tree comes.0))
-    by (answered input a f p) whole comes written = absurd (true≢false (ap is_show_tree comes.0))
-    by (explained input a f p) whole comes written = absurd (true≢false (ap is_show_tree comes.0))
-    by undecoded whole comes written = absurd (not_none (sym spells.digits ∙ (subst (λ w. hex_bytes w ≡ None) (same_word (Some (show_tree_form word)) word comes.0.0 refl comes.0.1) comes.0.2)))
-    by (unshown r) whole comes written = absurd (unrefused_word word e r spells (subst (λ w. WordIsRefused w r) (same_word (Some (show_tree_form word)) word comes.0.0 refl comes.0.1) comes.0.2))
-    by (shown g) whole comes written = absurd (true≢false (ap is_show_tree comes.0.1))
-    by (tree_shown g) whole comes written =
-        let own = subst (λ w. WordSpells w g) (same_word (Some (show_tree_form word)) word comes.0.0 refl (ap shown_word comes.0.1)) comes.0.2 in
-        (written.0, subst (λ x. Added o.bytes o'.bytes (tree_text_of x)) (one_word word g e own spells) written.1.0)
+    by : WordEnd (Some (show_tree_form word)) word i i' o o' used status → EndsWith 0 (tree_text_of e) o o' status
+    by (cut_off s risen) = absurd (well.quiet risen)
+    by (without_memory s) = absurd (well.memory s)
+    by (no_digits s none written) = absurd (not_none (sym spells.digits ∙ none))
+    by (no_expression r s why written) = absurd (unrefused_word word e r spells why)
+    by (line g s form own untaken written held) = absurd (no_tree word word (sym form))
+    by (drawn g s form own untaken written held) = (s, subst (λ x. Added o.bytes o'.bytes (tree_text_of x)) (one_word word g e own spells) written)
 
--- arguments that show a word are of no other form
-shows_other : (form other : Option Form) (word : Bytes) → shown_word form ≡ Some word → shown_word other ≡ None → ¬ (form ≡ other)
-shows_other form other word shows none same = not_none (sym shows ∙ ap shown_word same ∙ none)
+-- ---- words that are refused
 
-unread_word : (form : Option Form) (word : Bytes) → shown_word form ≡ Some word → ¬ (reads_request form ≡ true)
-unread_word form word shows reads = shows_none form word reads shows
-
--- a word that is no hexadecimal text, and one whose bytes spell no expression
-pub says_undecoded : (form : Option Form) (word : Bytes) (i i' o o' : End) (used : Option Seen) (status : ℕ) → shown_word form ≡ Some word
-    → hex_bytes word ≡ None → IsRun form i i' o o' used status → ¬ (HasRisen o o') → ¬ (status ≡ 8) → SaysWhy o o' status 3 (codes "BadHex text")
-says_undecoded form word i i' o o' used status shows none run quiet memory = by run.outcome run.writing run.comes run.written
+-- a word that is no hexadecimal text
+pub undigited : WordsEndSo 3 (codes "BadHex text") (λ word. hex_bytes word ≡ None)
+undigited = record {
+  only = λ form word i i' o o' used shows tells. means form word i i' o o' used (word_end form word i i' o o' used 3 shows tells.run);
+  always = λ form word i i' o o' used status shows none well. says form word i i' o o' used status none well (word_end form word i i' o o' used status shows well.run);
+}
   where
-    by : (outcome : Outcome) (writing : Writing) → IsOutcome form i i' outcome
-        → IsWriting o o' (text_of outcome) (status_of outcome) status writing
-        → SaysWhy o o' status 3 (codes "BadHex text")
-    by outcome cut comes written = absurd (quiet written.1.1)
-    by misused whole comes written = absurd (shows_other form None word shows refl comes.0)
-    by helped whole comes written = absurd (shows_other form (Some help_form) word shows refl comes.0)
-    by versioned whole comes written = absurd (shows_other form (Some version_form) word shows refl comes.0)
-    by out_of_memory whole comes written = absurd (memory written.0)
-    by unread whole comes written = absurd (unread_word form word shows comes.0)
-    by (refused input r) whole comes written = absurd (unread_word form word shows comes.0)
-    by (unscanned input r) whole comes written = absurd (unread_word form word shows comes.0)
-    by (broken cause input a f p) whole comes written = absurd (shows_other form (Some scan_form) word shows refl comes.0)
-    by (answered input a f p) whole comes written = absurd (shows_other form (Some scan_form) word shows refl comes.0)
-    by (explained input a f p) whole comes written = absurd (shows_other form (Some explain_form) word shows refl comes.0)
-    by undecoded whole comes written = (written.0, written.1.0)
-    by (unshown r) whole comes written = absurd (not_none (sym (subst (λ w. WordIsRefused w r) (same_word form word comes.0.0 shows comes.0.1) comes.0.2).digits ∙ none))
-    by (shown g) whole comes written = absurd (not_none (sym (subst (λ w. WordSpells w g) (same_word form word comes.0.0 shows (ap shown_word comes.0.1)) comes.0.2).digits ∙ none))
-    by (tree_shown g) whole comes written = absurd (not_none (sym (subst (λ w. WordSpells w g) (same_word form word comes.0.0 shows (ap shown_word comes.0.1)) comes.0.2).digits ∙ none))
+    means : (form : Option Form) (word : Bytes) (i i' o o' : End) (used : Option Seen) → WordEnd form word i i' o o' used 3 → hex_bytes word ≡ None
+    means form word i i' o o' used (cut_off s risen) = absurd (omega (arith, s))
+    means form word i i' o o' used (without_memory s) = absurd (omega (arith, s))
+    means form word i i' o o' used (no_digits s none written) = none
+    means form word i i' o o' used (no_expression e s why written) = absurd (omega (arith, s))
+    means form word i i' o o' used (line e s is spells untaken written held) = absurd (omega (arith, s))
+    means form word i i' o o' used (drawn e s is spells untaken written held) = absurd (omega (arith, s))
 
-pub says_unshown : (form : Option Form) (word : Bytes) (e : ScanError) (i i' o o' : End) (used : Option Seen) (status : ℕ) → shown_word form ≡ Some word
-    → WordIsRefused word e → IsRun form i i' o o' used status → ¬ (HasRisen o o') → ¬ (status ≡ 8) → SaysWhy o o' status 4 (scan_refusal_name e)
-says_unshown form word e i i' o o' used status shows refuses run quiet memory = by run.outcome run.writing run.comes run.written
-  where
-    by : (outcome : Outcome) (writing : Writing) → IsOutcome form i i' outcome
-        → IsWriting o o' (text_of outcome) (status_of outcome) status writing
-        → SaysWhy o o' status 4 (scan_refusal_name e)
-    by outcome cut comes written = absurd (quiet written.1.1)
-    by misused whole comes written = absurd (shows_other form None word shows refl comes.0)
-    by helped whole comes written = absurd (shows_other form (Some help_form) word shows refl comes.0)
-    by versioned whole comes written = absurd (shows_other form (Some version_form) word shows refl comes.0)
-    by out_of_memory whole comes written = absurd (memory written.0)
-    by unread whole comes written = absurd (unread_word form word shows comes.0)
-    by (refused input r) whole comes written = absurd (unread_word form word shows comes.0)
-    by (unscanned input r) whole comes written = absurd (unread_word form word shows comes.0)
-    by (broken cause input a f p) whole comes written = absurd (shows_other form (Some scan_form) word shows refl comes.0)
-    by (answered input a f p) whole comes written = absurd (shows_other form (Some scan_form) word shows refl comes.0)
-    by (explained input a f p) whole comes written = absurd (shows_other form (Some explain_form) word shows refl comes.0)
-    by undecoded whole comes written = absurd (not_none (sym refuses.digits ∙ subst (λ w. hex_bytes w ≡ None) (same_word form word comes.0.0 shows comes.0.1) comes.0.2))
-    by (unshown r) whole comes written =
-        let own = subst (λ w. WordIsRefused w r) (same_word form word comes.0.0 shows comes.0.1) comes.0.2 in
-        (written.0, subst (λ x. Added o.bytes o'.bytes (refusal_line (scan_refusal_name x))) (one_word_refusal word r e own refuses) written.1.0)
-    by (shown g) whole comes written = absurd (unrefused_word word g e (subst (λ w. WordSpells w g) (same_word form word comes.0.0 shows (ap shown_word comes.0.1)) comes.0.2) refuses)
-    by (tree_shown g) whole comes written = absurd (unrefused_word word g e (subst (λ w. WordSpells w g) (same_word form word comes.0.0 shows (ap shown_word comes.0.1)) comes.0.2) refuses)
+    says : (form : Option Form) (word : Bytes) (i i' o o' : End) (used : Option Seen) (status : ℕ) → hex_bytes word ≡ None
+        → RunsWell form i i' o o' used status → WordEnd form word i i' o o' used status
+        → EndsWith 3 (refusal_line (codes "BadHex text")) o o' status
+    says form word i i' o o' used status none well (cut_off s risen) = absurd (well.quiet risen)
+    says form word i i' o o' used status none well (without_memory s) = absurd (well.memory s)
+    says form word i i' o o' used status none well (no_digits s own written) = (s, written)
+    says form word i i' o o' used status none well (no_expression e s why written) = absurd (not_none (sym why.digits ∙ none))
+    says form word i i' o o' used status none well (line e s is spells untaken written held) = absurd (not_none (sym spells.digits ∙ none))
+    says form word i i' o o' used status none well (drawn e s is spells untaken written held) = absurd (not_none (sym spells.digits ∙ none))
 
--- and what the statuses of their refusals mean
-pub was_undecoded : (form : Option Form) (word : Bytes) (i i' o o' : End) (used : Option Seen) → shown_word form ≡ Some word → IsRun form i i' o o' used 3
-    → hex_bytes word ≡ None
-was_undecoded form word i i' o o' used shows run = by run.outcome run.writing run.comes run.written
+-- one whose bytes spell no expression
+pub unexpressed : (e : ScanError) → WordsEndSo 4 (scan_refusal_name e) (λ word. WordIsRefused word e)
+unexpressed e = record {
+  only = λ form word i i' o o' used shows tells. means form word i i' o o' used tells (word_end form word i i' o o' used 4 shows tells.run);
+  always = λ form word i i' o o' used status shows refuses well. says form word i i' o o' used status refuses well (word_end form word i i' o o' used status shows well.run);
+}
   where
-    by : (outcome : Outcome) (writing : Writing) → IsOutcome form i i' outcome
-        → IsWriting o o' (text_of outcome) (status_of outcome) 3 writing
-        → hex_bytes word ≡ None
-    by outcome cut comes written = absurd (omega (arith, written.0))
-    by misused whole comes written = absurd (omega (arith, written.0))
-    by helped whole comes written = absurd (omega (arith, written.0))
-    by versioned whole comes written = absurd (omega (arith, written.0))
-    by out_of_memory whole comes written = absurd (omega (arith, written.0))
-    by unread whole comes written = absurd (omega (arith, written.0))
-    by (refused input e) whole comes written = absurd (unread_word form word shows comes.0)
-    by (unscanned input e) whole comes written = absurd (omega (arith, written.0))
-    by (broken cause input a f p) whole comes written = absurd (omega (arith, written.0))
-    by (answered input a f p) whole comes written = absurd (omega (arith, written.0))
-    by (explained input a f p) whole comes written = absurd (omega (arith, written.0))
-    by undecoded whole comes written = subst (λ w. hex_bytes w ≡ None) (same_word form word comes.0.0 shows comes.0.1) comes.0.2
-    by (unshown e) whole comes written = absurd (omega (arith, written.0))
-    by (shown e) whole comes written = absurd (omega (arith, written.0))
-    by (tree_shown e) whole comes written = absurd (omega (arith, written.0))
+    means : (form : Option Form) (word : Bytes) (i i' o o' : End) (used : Option Seen)
+        → Tells form i i' o o' used 4 (refusal_line (scan_refusal_name e)) → WordEnd form word i i' o o' used 4 → WordIsRefused word e
+    means form word i i' o o' used tells (cut_off s risen) = absurd (omega (arith, s))
+    means form word i i' o o' used tells (without_memory s) = absurd (omega (arith, s))
+    means form word i i' o o' used tells (no_digits s none written) = absurd (omega (arith, s))
+    means form word i i' o o' used tells (no_expression g s why written) =
+        let same : g ≡ e =
+        one_scan_error g e (told_name o.bytes o'.bytes tells.before (scan_refusal_name e) (scan_refusal_name g) tells.stood tells.written written) in
+        subst (λ r. WordIsRefused word r) same why
+    means form word i i' o o' used tells (line g s is spells untaken written held) = absurd (omega (arith, s))
+    means form word i i' o o' used tells (drawn g s is spells untaken written held) = absurd (omega (arith, s))
 
-pub was_unshown : (form : Option Form) (word : Bytes) (i i' o o' : End) (used : Option Seen) → shown_word form ≡ Some word → IsRun form i i' o o' used 4
-    → (e : ScanError) × WordIsRefused word e
-was_unshown form word i i' o o' used shows run = by run.outcome run.writing run.comes run.written
-  where
-    by : (outcome : Outcome) (writing : Writing) → IsOutcome form i i' outcome
-        → IsWriting o o' (text_of outcome) (status_of outcome) 4 writing
-        → (e : ScanError) × WordIsRefused word e
-    by outcome cut comes written = absurd (omega (arith, written.0))
-    by misused whole comes written = absurd (omega (arith, written.0))
-    by helped whole comes written = absurd (omega (arith, written.0))
-    by versioned whole comes written = absurd (omega (arith, written.0))
-    by out_of_memory whole comes written = absurd (omega (arith, written.0))
-    by unread whole comes written = absurd (omega (arith, written.0))
-    by (refused input e) whole comes written = absurd (omega (arith, written.0))
-    by (unscanned input e) whole comes written = absurd (unread_word form word shows comes.0)
-    by (broken cause input a f p) whole comes written = absurd (omega (arith, written.0))
-    by (answered input a f p) whole comes written = absurd (omega (arith, written.0))
-    by (explained input a f p) whole comes written = absurd (omega (arith, written.0))
-    by undecoded whole comes written = absurd (omega (arith, written.0))
-    by (unshown e) whole comes written = (e, subst (λ w. WordIsRefused w e) (same_word form word comes.0.0 shows comes.0.1) comes.0.2)
-    by (shown e) whole comes written = absurd (omega (arith, written.0))
-    by (tree_shown e) whole comes written = absurd (omega (arith, written.0))
+    says : (form : Option Form) (word : Bytes) (i i' o o' : End) (used : Option Seen) (status : ℕ) → WordIsRefused word e
+        → RunsWell form i i' o o' used status → WordEnd form word i i' o o' used status
+        → EndsWith 4 (refusal_line (scan_refusal_name e)) o o' status
+    says form word i i' o o' used status refuses well (cut_off s risen) = absurd (well.quiet risen)
+    says form word i i' o o' used status refuses well (without_memory s) = absurd (well.memory s)
+    says form word i i' o o' used status refuses well (no_digits s none written) = absurd (not_none (sym refuses.digits ∙ none))
+    says form word i i' o o' used status refuses well (no_expression g s why written) =
+        (s, subst (λ x. Added o.bytes o'.bytes (refusal_line (scan_refusal_name x))) (one_word_refusal word g e why refuses) written)
+    says form word i i' o o' used status refuses well (line g s is spells untaken written held) = absurd (unrefused_word word g e spells refuses)
+    says form word i i' o o' used status refuses well (drawn g s is spells untaken written held) = absurd (unrefused_word word g e spells refuses)

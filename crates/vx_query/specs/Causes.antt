@@ -1,20 +1,28 @@
 -- What the exit status of a run tells: the report, the explanation or the shown text that 0 means, and the cause of each other one.
-use Rattle.std.specs.Prelude.{◌≡◌, ℕ, ◌+◌, ◌≤◌, [], map, length, take, codes, Bool, true, false, Option, Some, None, Err}
+use Rattle.std.specs.Prelude.{◌≡◌, ◌⊎◌, ℕ, ◌≤◌, [], map, length, codes, Bool, true, false, Option, Some, None, Err}
+use Rattle.std.specs.List.{list_all}
 use Rattle.vx_dtype.specs.Types.{Bytes}
 use Rattle.vx_expr.specs.Trees.{Tree}
 use Rattle.vx_semantics.specs.Breaks.{Cause}
-use Rattle.vx_semantics.specs.Scans.{rows_of, skipped_blocks, read_columns}
+use Rattle.vx_semantics.specs.Scans.{rows_of, skipped_blocks, read_columns, reads_to_break}
 use Rattle.vx_display.specs.ValueTexts.{value_text}
 use Rattle.vx_io.specs.Counts.{one_more}
-use Rattle.vx_io.specs.Ends.{Added}
+use Rattle.vx_io.specs.Ends.{Added, AddedPrefix}
+use Rattle.vx_scan.specs.ScanLaws.{is_asked_read}
 use Rattle.vx_scan.specs.Stores.{Seen}
 use Rattle.vx_scan.specs.declared.errors.ScanError.{ScanError}
-use Rattle.vx_request.specs.Requests.{RequestedScan, request_of, most_bytes}
+use Rattle.vx_request.specs.Requests.{RequestedScan, request_of}
 use Rattle.vx_request.specs.declared.errors.RequestError.{RequestError}
 use Rattle.vx_query.specs.Reports.{report_text}
 use Rattle.vx_query.specs.Refusals.{request_refusal_name, scan_refusal_name, break_name, refusal_line}
+use Rattle.vx_text.specs.Reading.{reading_of}
+use Rattle.vx_text.specs.declared.errors.TextError.TheVariants.{TooLong}
 use Rattle.vx_explain.specs.Explanations.{explain_text}
-use Rattle.vx_query.specs.Running.{End, IsTaken, HoldsScan, HoldsRefused, WordSpells, scan_table, scan_reads, scan_report, scan_breaks, scan_breaks_by, scanned_store, broken_store}
+use Rattle.vx_query.specs.Running.{End, Form, IsTaken, HoldsScan, HoldsRefused, WordSpells, Names, IsShallow, IsOverlong, HasBytes, bytes_line, Outcome, IsOutcome, text_of, scan_form, scan_table, scan_reads, scan_report, scan_breaks, scan_breaks_by, scanned_store, broken_store}
+
+-- an end counted a fault
+abbrev pub HasRisen : End → End → Type 0
+HasRisen before after = one_more before.faults ≤ after.faults
 
 -- a report was written whole: of the scan that the input holds, no phase of which breaks, and whose store is held
 pub record IsReported (in_before in_after out_before out_after : End) (used : Option Seen) : Type 0 where
@@ -60,6 +68,18 @@ pub record IsBroken (in_before in_after out_before out_after : End) (used : Opti
   pub written : Added out_before.bytes out_after.bytes (refusal_line (break_name cause))
   pub held : used ≡ Some (broken_store asked filter projection)
 
+-- a store whose reads are those of the scan that the input holds, or those up to the end of its first phase that breaks; each of them is of a kept block
+-- and of a column that the filter or the projection asks
+pub record HasAskedReads (in_before in_after : End) (store : Seen) : Type 0 where
+  pub input : Bytes
+  pub asked : RequestedScan
+  pub filter : Tree
+  pub projection : Tree
+  pub taken : IsTaken in_before in_after input
+  pub asks : HoldsScan input asked filter projection
+  pub reads : (store.log ≡ scan_reads asked filter projection) ⊎ (store.log ≡ reads_to_break (scan_table asked) asked.zones [] filter projection)
+  pub all_asked : list_all (is_asked_read asked.zones [] filter projection) store.log ≡ true
+
 -- an explanation was written whole: of the scan that the input holds; no store is held
 pub record IsExplained (in_before in_after out_before out_after : End) (used : Option Seen) : Type 0 where
   pub input : Bytes
@@ -79,6 +99,26 @@ pub record IsShown (told : Tree → Bytes) (word : Bytes) (in_before in_after ou
   pub written : Added out_before.bytes out_after.bytes (told expression)
   pub unheld : used ≡ None
 
+-- the bytes of the expression that a query names were written whole; nothing was taken, and no store is held
+pub record IsNamed (query : Bytes) (in_before in_after out_before out_after : End) (used : Option Seen) : Type 0 where
+  pub expression : Tree
+  pub names : Names query expression
+  pub bytes : HasBytes expression
+  pub untaken : in_after ≡ in_before
+  pub written : Added out_before.bytes out_after.bytes (bytes_line expression)
+  pub unheld : used ≡ None
+
+-- a query that names an expression in which a type is too deep for its bytes, or a part too long
+abbrev pub HasDeepType : Bytes → Type 0
+HasDeepType query = (e : Tree) × Names query e × (¬ (IsShallow e))
+
+abbrev pub HasLongPart : Bytes → Type 0
+HasLongPart query = (e : Tree) × Names query e × IsShallow e × IsOverlong e
+
+-- one that is too long itself, or names an expression of which a part is
+abbrev pub IsLongQuery : Bytes → Type 0
+IsLongQuery query = (reading_of query ≡ Err TooLong) ⊎ HasLongPart query
+
 -- the line of arguments of no form was written whole; nothing was taken, and no store is held
 pub record IsMisuse (in_before in_after out_before out_after : End) (used : Option Seen) (status : ℕ) : Type 0 where
   pub ends : status ≡ 2
@@ -86,9 +126,23 @@ pub record IsMisuse (in_before in_after out_before out_after : End) (used : Opti
   pub untaken : in_after ≡ in_before
   pub unheld : used ≡ None
 
--- an end counted a fault
-abbrev pub HasRisen : End → End → Type 0
-HasRisen before after = one_more before.faults ≤ after.faults
+-- the argument was `scan`, and an input was taken that holds a scan whose first phase that breaks does so by a cause
+pub record HasBroken (cause : Cause) (form : Option Form) (in_before in_after : End) : Type 0 where
+  pub scans : form ≡ Some scan_form
+  pub input : Bytes
+  pub asked : RequestedScan
+  pub filter : Tree
+  pub projection : Tree
+  pub taken : IsTaken in_before in_after input
+  pub asks : HoldsScan input asked filter projection
+  pub breaks : scan_breaks_by cause asked filter projection ≡ true
+
+-- the sink counted a fault, and the first bytes were written of the text in which the run was to end
+pub record IsCut (form : Option Form) (in_before in_after out_before out_after : End) : Type 0 where
+  pub outcome : Outcome
+  pub comes : IsOutcome form in_before in_after outcome
+  pub risen : HasRisen out_before out_after
+  pub written : AddedPrefix out_before.bytes out_after.bytes (text_of outcome)
 
 -- an end that tells its bytes, which hold the scan of this filter and projection
 pub record TellsScan (before : End) : Type 0 where
@@ -105,18 +159,6 @@ told_breaks told = scan_breaks told.asked told.filter told.projection
 
 abbrev pub told_breaks_by : {before : End} → Cause → TellsScan before → Bool
 told_breaks_by cause told = scan_breaks_by cause told.asked told.filter told.projection
-
--- an end that tells its bytes, which as far as they are taken are a request that is refused so
-pub record TellsRefused (before : End) (e : RequestError) : Type 0 where
-  pub input : Bytes
-  pub told : before.bytes ≡ Some input
-  pub refused : request_of (take (most_bytes + 1) input) ≡ Err e
-
--- an end that tells its bytes, which hold a scan whose expressions are refused so
-pub record TellsUnscanned (before : End) (e : ScanError) : Type 0 where
-  pub input : Bytes
-  pub told : before.bytes ≡ Some input
-  pub refused : HoldsRefused input e
 
 -- the report of a scan with what the projection means at all rows at which the filter means true, whatever the statistics say
 abbrev pub whole_report : RequestedScan → Tree → Tree → Bytes

@@ -7,4 +7,7 @@ pub mod RefusalViews
 pub mod EndingViews
 pub mod TextViews
 pub mod Causes
+pub mod RequestCauses
+pub mod ExpressionCauses
+pub mod Exactly
 pub mod WireLaws

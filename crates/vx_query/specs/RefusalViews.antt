@@ -1,6 +1,7 @@
 -- For the checker: no public clause cites this. The exit statuses and lines of refusals.
 use Rattle.std.specs.Prelude.{◌≡◌, ℕ, codes, None, Err}
 use Rattle.vx_dtype.specs.Types.{Bytes}
+use Rattle.vx_expr.specs.Trees.{Tree}
 use Rattle.vx_scan.specs.declared.errors.ScanError.{ScanError}
 use Rattle.vx_scan.specs.declared.errors.ScanError.TheVariants as scans
 use Rattle.vx_request.specs.Requests.{RequestedScan, request_of, hex_bytes}
@@ -8,16 +9,22 @@ use Rattle.vx_request.specs.declared.errors.RequestError.{RequestError}
 use Rattle.vx_request.specs.declared.errors.RequestError.TheVariants as requests
 use Rattle.vx_io.specs.declared.reading.InputError.{InputError}
 use Rattle.vx_io.specs.declared.reading.InputError.TheVariants as inputs
-use Rattle.vx_query.specs.Refusals.{request_refusal_name, scan_refusal_name, refusal_line}
-use Rattle.vx_query.specs.Running.{HoldsRefused, IsScanRefused, WordIsRefused}
+use Rattle.vx_text.specs.Reading.{reading_of}
+use Rattle.vx_text.specs.declared.errors.TextError.{TextError}
+use Rattle.vx_text.specs.declared.errors.TextError.TheVariants as texts
+use Rattle.vx_query.specs.Refusals.{request_refusal_name, scan_refusal_name, text_refusal_name, refusal_line}
+use Rattle.vx_query.specs.Running.{HoldsRefused, IsScanRefused, WordIsRefused, Names, IsShallow, IsOverlong}
 use Rattle.vx_query.specs.declared.refusals.Refusal.{Refusal}
-use Rattle.vx_query.specs.declared.refusals.Refusal.TheVariants.{NoMemory, ReadFault, InputTooLong, BadJson, BadRequest, BadHex, BadTable, BadHexText, Scan}
+use Rattle.vx_query.specs.declared.refusals.Refusal.TheVariants.{NoMemory, ReadFault, InputTooLong, BadJson, BadRequest, BadHex, BadTable, BadHexText, Scan, Query, NotSerializable, LongPart}
 
 -- the exit status of a refusal
 abbrev pub refusal_status : Refusal → ℕ
 refusal_status NoMemory = 8
 refusal_status ReadFault = 6
 refusal_status (Scan e) = 4
+refusal_status (Query e) = 4
+refusal_status NotSerializable = 4
+refusal_status LongPart = 4
 refusal_status _ = 3
 
 -- what is told of a refusal
@@ -31,6 +38,9 @@ refusal_name (BadHex side) = request_refusal_name (requests.BadHex side)
 refusal_name (BadTable refusal) = request_refusal_name (requests.BadTable refusal)
 refusal_name BadHexText = codes "BadHex text"
 refusal_name (Scan e) = scan_refusal_name e
+refusal_name (Query e) = text_refusal_name e
+refusal_name NotSerializable = codes "NotSerializable"
+refusal_name LongPart = codes "TooLong"
 
 -- the line of a refusal
 abbrev pub refusal_text : Refusal → Bytes
@@ -61,6 +71,9 @@ IsUnanswered input (BadHex side) = request_of input ≡ Err (requests.BadHex sid
 IsUnanswered input (BadTable refusal) = request_of input ≡ Err (requests.BadTable refusal)
 IsUnanswered input BadHexText = ⊥
 IsUnanswered input (Scan e) = HoldsRefused input e
+IsUnanswered input (Query e) = ⊥
+IsUnanswered input NotSerializable = ⊥
+IsUnanswered input LongPart = ⊥
 
 -- a scan is answered by this refusal: want of memory at any time, else why its expressions are refused
 abbrev pub IsUnscanned : RequestedScan → Refusal → Type 0
@@ -79,3 +92,23 @@ IsWordUnshown word NoMemory = Unit {0}
 IsWordUnshown word BadHexText = hex_bytes word ≡ None
 IsWordUnshown word (Scan e) = WordIsRefused word e
 IsWordUnshown word _ = ⊥
+
+-- the refusal of a query
+abbrev pub text_refusal : TextError → Refusal
+text_refusal texts.NoMemory = NoMemory
+text_refusal e = Query e
+
+-- an expression has no bytes, for this reason: want of memory at any time, else a type that is too deep, or a part that is too long
+abbrev pub IsUnspelled : Tree → Refusal → Type 0
+IsUnspelled e NoMemory = Unit {0}
+IsUnspelled e NotSerializable = ¬ (IsShallow e)
+IsUnspelled e LongPart = IsShallow e × IsOverlong e
+IsUnspelled e _ = ⊥
+
+-- a query has no bytes, for this reason: want of memory at any time, else it names no expression, or one that has none
+abbrev pub IsQueryRefused : Bytes → Refusal → Type 0
+IsQueryRefused query NoMemory = Unit {0}
+IsQueryRefused query (Query e) = reading_of query ≡ Err e
+IsQueryRefused query NotSerializable = (e : Tree) × Names query e × (¬ (IsShallow e))
+IsQueryRefused query LongPart = (e : Tree) × Names query e × IsShallow e × IsOverlong e
+IsQueryRefused query _ = ⊥

@@ -14,6 +14,8 @@ use Rattle.vx_scan.specs.declared.errors.Side.TheVariants as scanned
 use Rattle.vx_scan.specs.declared.errors.ScanError.{ScanError}
 use Rattle.vx_scan.specs.declared.errors.ScanError.TheVariants as scans
 use Rattle.vx_request.specs.declared.errors.RequestError.TheVariants.{NoMemory, InputTooLong, BadJson, BadRequest, BadHex, BadTable}
+use Rattle.vx_text.specs.declared.errors.TextError.{TextError}
+use Rattle.vx_text.specs.declared.errors.TextError.TheVariants as texts
 
 -- the name of a place of a request
 abbrev pub place_name : Place → Bytes
@@ -73,6 +75,16 @@ scan_refusal_name scans.FilterNotBool = codes "FilterNotBool"
 scan_refusal_name scans.Overflow = codes "Overflow"
 scan_refusal_name scans.BadCast = codes "BadCast"
 scan_refusal_name scans.StoreFault = codes "StoreFault"
+
+-- what is told of a query that is refused
+abbrev pub text_refusal_name : TextError → Bytes
+text_refusal_name texts.NoMemory = codes "NoMemory"
+text_refusal_name texts.TooLong = codes "TooLong"
+text_refusal_name texts.BadToken = codes "BadToken"
+text_refusal_name texts.TooManyTokens = codes "TooManyTokens"
+text_refusal_name texts.BadQuery = codes "BadQuery"
+text_refusal_name texts.BadValue = codes "BadValue"
+text_refusal_name texts.NotWritable = codes "NotWritable"
 
 -- what is told of a phase that breaks by a cause
 abbrev pub break_name : Cause → Bytes

@@ -4,7 +4,7 @@ use Rattle.vx_dtype.specs.Types.{Bytes}
 use Rattle.vx_request.specs.Requests.{RequestedScan}
 use Rattle.vx_query.specs.Running as running
 use Rattle.vx_query.specs.declared.forms.Form.{Form}
-use Rattle.vx_query.specs.declared.forms.Form.TheVariants.{Scan, Explain, Show, ShowTree, Help, Version}
+use Rattle.vx_query.specs.declared.forms.Form.TheVariants.{Scan, Explain, Show, ShowTree, Text, Help, Version}
 
 -- the form that a value of the code stands for
 abbrev pub form_view : Form → running.Form
@@ -12,6 +12,7 @@ form_view Scan = running.scan_form
 form_view Explain = running.explain_form
 form_view (Show hex) = running.show_form hex.now
 form_view (ShowTree hex) = running.show_tree_form hex.now
+form_view (Text query) = running.text_form query.now
 form_view Help = running.help_form
 form_view Version = running.version_form
 

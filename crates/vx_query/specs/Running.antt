@@ -6,7 +6,13 @@ use Rattle.vx_expr.specs.Trees.{Tree}
 use Rattle.vx_semantics.specs.Breaks.{Cause}
 use Rattle.vx_semantics.specs.Tables.{Table, row_type}
 use Rattle.vx_semantics.specs.Scans.{kept_rows_of, skipped_blocks, reads_of, reads_to_break, read_columns, Phase, phases_of, some_phase_breaks, first_breaks_by}
+use Rattle.hex.specs.Hex.{encode_lower}
+use Rattle.vx_wire_text.specs.Wires.{HasShortParts}
 use Rattle.vx_wire.specs.Encodings.{is_default_kind}
+use Rattle.vx_wire.specs.Forms.{wire_of, wire_text, Everywhere}
+use Rattle.vx_wire.specs.Metadata.{IsSerializable, HasShortMetadata}
+use Rattle.vx_text.specs.Reading.{reading_of}
+use Rattle.vx_text.specs.declared.errors.TextError.{TextError}
 use Rattle.vx_display.specs.ValueTexts.{value_text}
 use Rattle.vx_display.specs.TreeTexts.{tree_text_of}
 use Rattle.vx_explain.specs.Explanations.{explain_text}
@@ -22,7 +28,7 @@ use Rattle.vx_io.specs.Ends.{TookPart, TookUpTo, Added, AddedPrefix}
 use Rattle.vx_query.specs.Reports.{report_text}
 use Rattle.vx_request.specs.Requests.{RequestedScan, request_of, most_bytes, hex_bytes}
 use Rattle.vx_request.specs.declared.errors.RequestError.{RequestError}
-use Rattle.vx_query.specs.Refusals.{request_refusal_name, scan_refusal_name, break_name, refusal_line}
+use Rattle.vx_query.specs.Refusals.{request_refusal_name, scan_refusal_name, text_refusal_name, break_name, refusal_line}
 
 -- the forms of arguments
 pub data Form : Type 0 where
@@ -30,6 +36,7 @@ pub data Form : Type 0 where
   explain_form : Form
   show_form : Bytes → Form
   show_tree_form : Bytes → Form
+  text_form : Bytes → Form
   help_form : Form
   version_form : Form
 
@@ -41,12 +48,13 @@ form_named argument =
     (cond (bytes_eq argument (codes "--help")) (Some help_form)
     (cond (bytes_eq argument (codes "--version")) (Some version_form) None)))
 
--- the form that arguments have; any one word may stand behind `show` and behind `show tree`, of which `show` comes first
+-- the form that arguments have; any one word may stand behind `show`, behind `show tree` and behind `text`
 abbrev pub form_of : List Bytes → Option Form
 form_of (argument ∷ []) = form_named argument
-form_of (first ∷ hex ∷ []) = cond (bytes_eq first (codes "show")) (Some (show_form hex)) None
-form_of (first ∷ second ∷ hex ∷ []) =
-    cond (bytes_eq first (codes "show") && bytes_eq second (codes "tree")) (Some (show_tree_form hex)) None
+form_of (first ∷ word ∷ []) =
+    cond (bytes_eq first (codes "show")) (Some (show_form word)) (cond (bytes_eq first (codes "text")) (Some (text_form word)) None)
+form_of (first ∷ second ∷ word ∷ []) =
+    cond (bytes_eq first (codes "show") && bytes_eq second (codes "tree")) (Some (show_tree_form word)) None
 form_of _ = None
 
 -- whether arguments of this form read a request
@@ -60,6 +68,11 @@ abbrev pub shown_word : Option Form → Option Bytes
 shown_word (Some (show_form word)) = Some word
 shown_word (Some (show_tree_form word)) = Some word
 shown_word _ = None
+
+-- the query whose expression's bytes are to be written, where the arguments have that form
+abbrev pub asked_query : Option Form → Option Bytes
+asked_query (Some (text_form query)) = Some query
+asked_query _ = None
 
 -- an end of the program: its bytes, to come or written, where they are told, and how many of its faults were counted
 pub record End : Type 0 where
@@ -134,6 +147,26 @@ pub record WordIsRefused (word : Bytes) (e : ScanError) : Type 0 where
   pub digits : hex_bytes word ≡ Some bytes
   pub refused : IsTextRefused is_default_kind Text bytes e
 
+-- a query that names this expression
+abbrev pub Names : Bytes → Tree → Type 0
+Names query e = reading_of query ≡ Ok e
+
+-- an expression in which no type is deeper than 64, and no dynamic comparison stands
+abbrev pub IsShallow : Tree → Type 0
+IsShallow e = Everywhere IsSerializable e
+
+-- one in which a name, a text or a list, the bytes of a node's metadata or the list of its children has 2 ^ 32 or more
+abbrev pub IsOverlong : Tree → Type 0
+IsOverlong e = (¬ (Everywhere HasShortMetadata e)) ⊎ (¬ (HasShortParts (wire_of e)))
+
+-- one that has bytes
+abbrev pub HasBytes : Tree → Type 0
+HasBytes e = IsShallow e × (¬ (IsOverlong e))
+
+-- the line of an expression's bytes: two hexadecimal digits for each
+abbrev pub bytes_line : Tree → Bytes
+bytes_line e = encode_lower (wire_text e) ++ codes "\n"
+
 -- the phases of the scan of a filter and a projection
 abbrev pub scan_phases : RequestedScan → Tree → Tree → List Phase
 scan_phases a f p = phases_of (scan_table a) a.zones [] f p
@@ -147,7 +180,8 @@ scan_breaks_by cause a f p = first_breaks_by cause (row_type a.zones.columns) []
 
 -- how the program comes to an end: arguments of no form, help, the version, no memory, an input that can't be read, one that is no request, one whose
 -- expressions are refused, one whose scan breaks by a sum or a cast, one that is answered by a report and one by an explanation; a word to be shown that
--- is no hexadecimal text, one whose bytes spell no expression, and one that is shown, in a line or as a tree
+-- is no hexadecimal text, one whose bytes spell no expression, and one that is shown, in a line or as a tree; a query that names no expression, one of whose
+-- expression there are no bytes, for a type that is too deep or a part that is too long, and one of whose expression the bytes are written
 pub data Outcome : Type 0 where
   misused : Outcome
   helped : Outcome
@@ -163,6 +197,10 @@ pub data Outcome : Type 0 where
   unshown : ScanError → Outcome
   shown : Tree → Outcome
   tree_shown : Tree → Outcome
+  unnamed : TextError → Outcome
+  unserialized : Outcome
+  overlong : Outcome
+  named : Tree → Outcome
 
 -- the input was taken to its end, or to one byte more than the most; that many bytes are no request
 pub record IsTaken (before after : End) (input : Bytes) : Type 0 where
@@ -174,11 +212,11 @@ pub record IsTaken (before after : End) (input : Bytes) : Type 0 where
 abbrev pub IsPartTaken : End → End → Type 0
 IsPartTaken before after = TookPart (most_bytes + 1) before.bytes after.bytes
 
--- what was taken where there was no memory: a first part of the input by arguments that read a request, and nothing by those that show an expression
+-- what was taken where there was no memory: a first part of the input by arguments that read a request, and nothing by those that give a word or a query
 abbrev pub IsCutShort : Option Form → End → End → Type 0
 IsCutShort form before after =
     ((reads_request form ≡ true) × (IsPartTaken before after × (before.faults ≤ after.faults)))
-    ⊎ (((word : Bytes) × (shown_word form ≡ Some word)) × (after ≡ before))
+    ⊎ (((word : Bytes) × ((shown_word form ≡ Some word) ⊎ (asked_query form ≡ Some word))) × (after ≡ before))
 
 -- what an outcome says of arguments and of the source: arguments that read no request take nothing
 abbrev pub IsOutcome : Option Form → End → End → Outcome → Type 0
@@ -198,6 +236,12 @@ IsOutcome form before after undecoded = ((word : Bytes) × (shown_word form ≡ 
 IsOutcome form before after (unshown e) = ((word : Bytes) × (shown_word form ≡ Some word) × WordIsRefused word e) × (after ≡ before)
 IsOutcome form before after (shown e) = ((word : Bytes) × (form ≡ Some (show_form word)) × WordSpells word e) × (after ≡ before)
 IsOutcome form before after (tree_shown e) = ((word : Bytes) × (form ≡ Some (show_tree_form word)) × WordSpells word e) × (after ≡ before)
+IsOutcome form before after (unnamed e) = ((query : Bytes) × (asked_query form ≡ Some query) × (reading_of query ≡ Err e)) × (after ≡ before)
+IsOutcome form before after unserialized =
+    ((query : Bytes) × (e : Tree) × (asked_query form ≡ Some query) × Names query e × (¬ (IsShallow e))) × (after ≡ before)
+IsOutcome form before after overlong =
+    ((query : Bytes) × (e : Tree) × (asked_query form ≡ Some query) × Names query e × IsShallow e × IsOverlong e) × (after ≡ before)
+IsOutcome form before after (named e) = ((query : Bytes) × (asked_query form ≡ Some query) × Names query e × HasBytes e) × (after ≡ before)
 
 -- the text of `--version`
 abbrev pub version_text : Bytes
@@ -210,10 +254,11 @@ help_text =
     ++ (codes "vx explain < REQUEST   prints what a scan does with its filter and its projection, as in: vx explain < examples/explain.json\n"
     ++ (codes "vx show HEX            prints the expression that the bytes spell, as in: vx show 04726f6f740000\n"
     ++ (codes "vx show tree HEX       prints it as a tree, as in: vx show tree 04726f6f740000\n"
+    ++ (codes "vx text QUERY          prints the bytes of the expression that a query names, as in: vx text 'x > 10i32'\n"
     ++ (codes "vx --help              prints this text\n"
     ++ (codes "vx --version           prints the version\n"
-    ++ (codes "exit status: 0 written whole, 2 wrong arguments, 3 no request or no hex, 4 refused expressions, 5 overflow or bad cast,\n"
-    ++ (codes "6 input not read, 7 output not written, 8 no memory\n")))))))
+    ++ (codes "exit status: 0 written whole, 2 wrong arguments, 3 no request or no hex, 4 refused expressions or query, 5 overflow or bad cast,\n"
+    ++ (codes "6 input not read, 7 output not written, 8 no memory\n"))))))))
 
 -- the exit status of an outcome
 abbrev pub status_of : Outcome → ℕ
@@ -231,6 +276,10 @@ status_of undecoded = 3
 status_of (unshown e) = 4
 status_of (shown e) = 0
 status_of (tree_shown e) = 0
+status_of (unnamed e) = 4
+status_of unserialized = 4
+status_of overlong = 4
+status_of (named e) = 0
 
 -- the text that an outcome writes
 abbrev pub text_of : Outcome → Bytes
@@ -248,6 +297,10 @@ text_of undecoded = refusal_line (codes "BadHex text")
 text_of (unshown e) = refusal_line (scan_refusal_name e)
 text_of (shown e) = shown_line e
 text_of (tree_shown e) = tree_text_of e
+text_of (unnamed e) = refusal_line (text_refusal_name e)
+text_of unserialized = refusal_line (codes "NotSerializable")
+text_of overlong = refusal_line (codes "TooLong")
+text_of (named e) = bytes_line e
 
 -- the store that is held after an outcome: the one that was scanned, where a report was made or a phase broke
 abbrev pub used_by : Outcome → Option Seen

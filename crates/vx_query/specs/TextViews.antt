@@ -7,8 +7,8 @@ use Rattle.vx_dtype.specs.Types.{Bytes}
 use Rattle.vx_expr.specs.Trees.{Tree}
 use Rattle.vx_explain.specs.Explanations.{explain_text}
 use Rattle.vx_request.specs.Requests.{RequestedScan}
-use Rattle.vx_query.specs.Running.{End, Form, HoldsScan, WordSpells, Outcome, IsOutcome, status_of, text_of, used_by}
-use Rattle.vx_query.specs.RefusalViews.{refusal_status, refusal_text, IsUnanswered, IsWordUnshown}
+use Rattle.vx_query.specs.Running.{End, Form, HoldsScan, WordSpells, Names, HasBytes, bytes_line, Outcome, IsOutcome, status_of, text_of, used_by}
+use Rattle.vx_query.specs.RefusalViews.{refusal_status, refusal_text, IsUnanswered, IsWordUnshown, IsQueryRefused}
 use Rattle.vx_query.specs.declared.refusals.Refusal.{Refusal}
 
 -- the exit status of an answer, and the text that is written
@@ -37,6 +37,11 @@ ExplainsInput input (Err r) = IsUnanswered input r
 abbrev pub ShowsWord : (Tree → Bytes) → Bytes → Result (String Global) Refusal → Type 0
 ShowsWord told word (Ok text) = (e : Tree) × WordSpells word e × (string_bytes text ≡ told e)
 ShowsWord told word (Err r) = IsWordUnshown word r
+
+-- a query is answered by the bytes of the expression that it names, or is refused
+abbrev pub AnswersQuery : Bytes → Result (String Global) Refusal → Type 0
+AnswersQuery query (Ok text) = (e : Tree) × Names query e × HasBytes e × (string_bytes text ≡ bytes_line e)
+AnswersQuery query (Err r) = IsQueryRefused query r
 
 -- an outcome that an answer stands for; no store is held
 pub record IsAnsweredBy (form : Option Form) (before after : End) (answer : Result (String Global) Refusal) : Type 0 where

@@ -1,68 +1,94 @@
 // What the exit status of a run tells.
-ghost use Rattle.std.specs.Prelude.{◌≡◌, ℕ, true, false, Option, None, Some};
+ghost use Rattle.std.specs.Prelude.{◌≡◌, ℕ, true, false, Option, Some};
+ghost use Rattle.vx_dtype.specs.Types.{Bytes};
+ghost use Rattle.vx_expr.specs.Trees.{Tree};
 ghost use Rattle.vx_semantics.specs.Breaks.{Cause};
 ghost use Rattle.vx_semantics.specs.Honest.{IsHonest};
+ghost use Rattle.vx_display.specs.TreeTexts.{tree_text_of};
 ghost use Rattle.vx_io.specs.Ends.{Added};
 ghost use Rattle.vx_scan.specs.Stores.{Seen};
-ghost use Rattle.vx_scan.specs.declared.errors.ScanError.{ScanError};
-ghost use Rattle.vx_request.specs.declared.errors.RequestError.{RequestError};
-ghost use Rattle.vx_query.specs.Causes.{HasRisen, IsReported, IsRefused, IsUnscanned, IsBroken, TellsRefused, TellsScan, TellsUnscanned};
+ghost use Rattle.vx_explain.specs.Explanations.{explain_text};
+ghost use Rattle.vx_explain.specs.Explaining.{shown_line};
+ghost use Rattle.vx_query.specs.Causes.{HasRisen, IsReported, IsRefused, IsUnscanned, IsBroken, HasBroken, HasAskedReads, IsCut, TellsScan};
 ghost use Rattle.vx_query.specs.Causes.{told_breaks, told_breaks_by, whole_report};
-ghost use Rattle.vx_query.specs.Refusals.{refusal_line, request_refusal_name, scan_refusal_name, break_name};
+ghost use Rattle.vx_query.specs.Exactly.{Tells, RunsWell, EndsWith};
+ghost use Rattle.vx_query.specs.Refusals.{refusal_line, break_name};
 ghost use Rattle.vx_query.specs.WireLaws.{WireLaws};
-ghost use Rattle.vx_query.specs.Running.{End, Form, IsRun, reads_request, scan_table, scan_report, scan_form, scanned_store, broken_store};
+ghost use Rattle.vx_query.specs.Running.{End, Form, IsRun, reads_request, scan_table, scan_report, scanned_store, broken_store, bytes_line};
+ghost use Rattle.vx_query.specs.Running.{scan_form, explain_form, show_form, show_tree_form, text_form, WordSpells, Names, HasBytes};
 
-use vx_laws_scan::kept_rows_are_all;
+use vx_laws_scan::{kept_numbers_are_kept_blocks, kept_rows_are_all};
 use vx_wire::{one_expression, one_tree};
 
-/// What the exit status of each run tells. Of the argument `scan` 0 means that the report was written whole, of a scan no
-/// phase of which breaks. 2 comes only where the arguments have no form. 3 and 4 of `scan` and `explain`, and 5, mean that
-/// the input was taken and that the line of its one cause was written: it is no request; the expressions of its scan are
-/// refused; the first phase of its scan that breaks does so by this cause. 6 comes only where the source counted a fault, 7
-/// only where the sink did. And a run of `scan` over a source whose bytes hold a scan no phase of which breaks ends with 0 or
-/// 8 where no fault is counted.
+/// 3 and 4 of `scan` and `explain` mean that the input was taken and that the line of its one cause was written: it is no
+/// request; the expressions of its scan are refused. No store is held then. Which refusal a line tells is said by the laws of
+/// `refusal_causes`.
 pub fn statuses_have_their_causes()
-    ensures report { (i i' o o' : End) (used : Option Seen) → IsRun (Some scan_form) i i' o o' used 0 → IsReported i i' o o' used }
-    ensures usage { (form : Option Form) (i i' o o' : End) (used : Option Seen) → IsRun form i i' o o' used 2 → form ≡ None }
     ensures refused { (form : Option Form) (i i' o o' : End) (used : Option Seen) → reads_request form ≡ true → IsRun form i i' o o' used 3
         → IsRefused i i' o o' used }
     ensures unscanned { (form : Option Form) (i i' o o' : End) (used : Option Seen) → reads_request form ≡ true → IsRun form i i' o o' used 4
         → IsUnscanned i i' o o' used }
-    ensures broken { (form : Option Form) (i i' o o' : End) (used : Option Seen) → IsRun form i i' o o' used 5 → IsBroken i i' o o' used }
-    ensures read_fault { (form : Option Form) (i i' o o' : End) (used : Option Seen) → IsRun form i i' o o' used 6 → HasRisen i i' }
-    ensures write_fault { (form : Option Form) (i i' o o' : End) (used : Option Seen) → IsRun form i i' o o' used 7 → HasRisen o o' }
-    ensures complete { (i i' o o' : End) (used : Option Seen) (status : ℕ) (told : TellsScan i) → told_breaks told ≡ false
-        → IsRun (Some scan_form) i i' o o' used status → ¬ (HasRisen i i') → ¬ (HasRisen o o') → ¬ (status ≡ 8) → status ≡ 0 }
-{
-    wire_laws();
-}
-
-/// A run of the argument `scan` or `explain` over a source that tells its bytes, which are a request that is refused, ends
-/// with 3 and writes the line of this refusal, or with 8, where no fault is counted.
-pub fn refused_inputs_say_why()
-    ensures { (form : Option Form) → reads_request form ≡ true → (e : RequestError) (i i' o o' : End) (used : Option Seen) (status : ℕ)
-        → TellsRefused i e → IsRun form i i' o o' used status → ¬ (HasRisen i i') → ¬ (HasRisen o o') → ¬ (status ≡ 8)
-        → (status ≡ 3) × Added o.bytes o'.bytes (refusal_line (request_refusal_name e)) }
 {}
 
-/// A run of the argument `scan` or `explain` over a source that tells its bytes, which hold a scan whose expressions are
-/// refused, ends with 4 and writes the line of this refusal, or with 8, where no fault is counted.
-pub fn refused_scans_say_why()
-    ensures { (form : Option Form) → reads_request form ≡ true → (e : ScanError) (i i' o o' : End) (used : Option Seen) (status : ℕ)
-        → TellsUnscanned i e → IsRun form i i' o o' used status → ¬ (HasRisen i i') → ¬ (HasRisen o o') → ¬ (status ≡ 8)
-        → (status ≡ 4) × Added o.bytes o'.bytes (refusal_line (scan_refusal_name e)) }
+/// 5 means that the input holds a scan of which a phase breaks, that the line of a cause was written by which the first phase
+/// that breaks does so, and that the store is held with the reads up to there. Where the sink tells the line, its cause is one
+/// of the argument `scan`. And a run of `scan` over a source that tells its bytes, which hold a scan some phase of which
+/// breaks, ends so where there is memory and no end counts a fault.
+pub fn breaks_exactly()
+    ensures only { (form : Option Form) (i i' o o' : End) (used : Option Seen) → IsRun form i i' o o' used 5 → IsBroken i i' o o' used }
+    ensures told { (cause : Cause) (form : Option Form) (i i' o o' : End) (used : Option Seen)
+        → Tells form i i' o o' used 5 (refusal_line (break_name cause)) → HasBroken cause form i i' }
+    ensures always { (i i' o o' : End) (used : Option Seen) (status : ℕ) (told : TellsScan i) → told_breaks told ≡ true
+        → RunsWell (Some scan_form) i i' o o' used status → ¬ (HasRisen i i')
+        → ((cause : Cause) × (told_breaks_by cause told ≡ true) × EndsWith 5 (refusal_line (break_name cause)) o o' status)
+        × (used ≡ Some (broken_store told.asked told.filter told.projection)) }
 {
     wire_laws();
 }
 
-/// A run of the argument `scan` over a source that tells its bytes, which hold a scan some phase of which breaks, ends with
-/// 5, writes the line of a cause by which the first phase that breaks does so, and holds the store with the reads up to
-/// there; or it ends with 8, where no fault is counted.
-pub fn broken_scans_say_why()
-    ensures { (i i' o o' : End) (used : Option Seen) (status : ℕ) (told : TellsScan i) → told_breaks told ≡ true
-        → IsRun (Some scan_form) i i' o o' used status → ¬ (HasRisen i i') → ¬ (HasRisen o o') → ¬ (status ≡ 8) → (status ≡ 5)
-        × ((cause : Cause) × (told_breaks_by cause told ≡ true) × Added o.bytes o'.bytes (refusal_line (break_name cause)))
-        × (used ≡ Some (broken_store told.asked told.filter told.projection)) }
+/// 6 comes only where the source counted a fault.
+pub fn read_faults_are_counted()
+    ensures { (form : Option Form) (i i' o o' : End) (used : Option Seen) → IsRun form i i' o o' used 6 → HasRisen i i' }
+{}
+
+/// 7 comes only where the sink counted a fault; what was written then is a first part of the text in which the run was to end.
+pub fn write_faults_are_counted()
+    ensures { (form : Option Form) (i i' o o' : End) (used : Option Seen) → IsRun form i i' o o' used 7 → IsCut form i i' o o' }
+{}
+
+/// 0 of the argument `scan` means that the input was taken, that it is a request whose two byte texts spell expressions that
+/// are strictly typed for its table, the filter a boolean, that no phase of their scan breaks, and that its report was written
+/// whole.
+pub fn reports_are_typed()
+    ensures { (i i' o o' : End) (used : Option Seen) → IsRun (Some scan_form) i i' o o' used 0 → IsReported i i' o o' used }
+{}
+
+/// The store that is held afterwards has just the reads of the scan that the input holds, or those up to the end of its first
+/// phase that breaks: each is of a block that the statistics don't rule out, and of a column that the filter or the projection
+/// asks.
+pub fn reads_are_asked()
+    ensures { (form : Option Form) (i i' o o' : End) (store : Seen) (status : ℕ) → IsRun form i i' o o' (Some store) status
+        → HasAskedReads i i' store }
+{
+    kept_numbers_are_kept_blocks();
+}
+
+/// Where there is memory, and no end counts a fault, a run of `scan` over a source that tells its bytes, which hold a scan no
+/// phase of which breaks, ends with 0 and the report of this scan; one of `explain` over bytes that hold a scan with 0 and its
+/// explanation; and one that shows a word whose bytes spell an expression with 0 and the expression's line, or its tree. One
+/// that asks the bytes of a query ends with 0 and the bytes of the expression that the query names, where this has any.
+pub fn answers_are_complete()
+    ensures scan { (i i' o o' : End) (used : Option Seen) (status : ℕ) (told : TellsScan i) → told_breaks told ≡ false
+        → RunsWell (Some scan_form) i i' o o' used status → ¬ (HasRisen i i')
+        → EndsWith 0 (scan_report told.asked told.filter told.projection) o o' status }
+    ensures explain { (i i' o o' : End) (used : Option Seen) (status : ℕ) (told : TellsScan i) → RunsWell (Some explain_form) i i' o o' used status
+        → ¬ (HasRisen i i') → EndsWith 0 (explain_text told.asked.zones told.filter told.projection) o o' status }
+    ensures show { (word : Bytes) (e : Tree) (i i' o o' : End) (used : Option Seen) (status : ℕ) → WordSpells word e
+        → RunsWell (Some (show_form word)) i i' o o' used status → EndsWith 0 (shown_line e) o o' status }
+    ensures show_tree { (word : Bytes) (e : Tree) (i i' o o' : End) (used : Option Seen) (status : ℕ) → WordSpells word e
+        → RunsWell (Some (show_tree_form word)) i i' o o' used status → EndsWith 0 (tree_text_of e) o o' status }
+    ensures text { (query : Bytes) (e : Tree) (i i' o o' : End) (used : Option Seen) (status : ℕ) → Names query e → HasBytes e
+        → RunsWell (Some (text_form query)) i i' o o' used status → EndsWith 0 (bytes_line e) o o' status }
 {
     wire_laws();
 }

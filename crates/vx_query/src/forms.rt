@@ -15,6 +15,8 @@ pub(crate) enum Form<'a> {
     Show(&'a str),
     /// Shows it as a tree.
     ShowTree(&'a str),
+    /// Tells the bytes of the expression that a query names.
+    Text(&'a str),
     /// Tells the forms.
     Help,
     /// Tells the version.
@@ -31,6 +33,7 @@ pub(crate) fn form_of(arguments: &[String]) -> Option<Form<'_>>
         [argument] if argument.as_str() == "--help" => Some(Form::Help),
         [argument] if argument.as_str() == "--version" => Some(Form::Version),
         [first, hex] if first.as_str() == "show" => Some(Form::Show(hex.as_str())),
+        [first, query] if first.as_str() == "text" => Some(Form::Text(query.as_str())),
         [first, second, hex] if first.as_str() == "show" && second.as_str() == "tree" => {
             Some(Form::ShowTree(hex.as_str()))
         }

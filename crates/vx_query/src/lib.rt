@@ -1,4 +1,4 @@
-//! The program as a call over two ends: the scan that an input holds, its report and its explanation, expressions that are shown, and refusals.
+//! The program as a call over two ends: the scan that an input holds, its report and its explanation, expressions that are shown, queries, and refusals.
 #![tactic(auto)]
 
 mod answers;
@@ -6,6 +6,9 @@ mod causes;
 mod endings;
 mod form_causes;
 mod forms;
+mod queries;
+mod query_causes;
+mod refusal_causes;
 mod refusals;
 mod reports;
 mod running;
@@ -13,12 +16,19 @@ mod shapes;
 mod texts;
 
 pub use causes::{
-    broken_scans_say_why, honest_reports_are_whole, refused_inputs_say_why, refused_scans_say_why,
-    reports_are_of_the_request, statuses_have_their_causes,
+    answers_are_complete, breaks_exactly, honest_reports_are_whole, read_faults_are_counted,
+    reads_are_asked, reports_are_of_the_request, reports_are_typed, statuses_have_their_causes,
+    write_faults_are_counted,
 };
 pub use form_causes::{
-    explanations_are_of_the_request, refused_words_say_why, scans_alone_break_and_hold,
-    shown_texts_are_spelled, usage_exactly,
+    explanations_are_of_the_request, scans_alone_break_and_hold, shown_texts_are_spelled,
+    usage_exactly,
+};
+pub use query_causes::{text_is_named_exactly, texts_say_why};
+pub use refusal_causes::{
+    bad_hex_exactly, bad_json_exactly, bad_request_exactly, bad_table_exactly,
+    build_refusals_exactly, filter_not_bool_exactly, input_too_long_exactly,
+    typing_refusals_exactly, wire_refusals_exactly,
 };
 pub use reports::report_text;
 pub use running::run;

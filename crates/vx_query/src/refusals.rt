@@ -1,15 +1,16 @@
 // Why the program writes only a line.
 ghost use Rattle.std.specs.Prelude.{◌≡◌};
 ghost use Rattle.vx_request.specs.declared.errors.RequestError.TheVariants as requests;
-ghost use Rattle.vx_query.specs.Refusals.{refusal_line, request_refusal_name, scan_refusal_name};
+ghost use Rattle.vx_query.specs.Refusals.{refusal_line, request_refusal_name, scan_refusal_name, text_refusal_name};
 ghost use Rattle.vx_query.specs.RefusalViews.{refusal_status, refusal_text};
 
 use vx_dtype::NoMemory;
 use vx_io::InputError;
 use vx_request::{Place, RequestError, Side, TableRefusal};
 use vx_scan::{ScanError, Side as ScannedSide};
+use vx_text::TextError;
 
-/// Why an input has no report or explanation, or a word is not shown.
+/// Why an input has no report or explanation, a word is not shown, or a query has no bytes.
 #[derive(PartialEq, Eq, Debug, Drop)]
 pub(crate) enum Refusal {
     /// There was no memory.
@@ -30,6 +31,12 @@ pub(crate) enum Refusal {
     BadHexText,
     /// The request's expressions are refused, or what is to be shown is no expression.
     Scan(ScanError),
+    /// The query names no expression.
+    Query(TextError),
+    /// A type in the expression that the query names is deeper than the wire form allows.
+    NotSerializable,
+    /// A part of the expression that the query names is longer than the wire form allows.
+    LongPart,
 }
 
 impl Refusal {
@@ -46,7 +53,8 @@ impl Refusal {
             | Refusal::BadHex(_)
             | Refusal::BadTable(_)
             | Refusal::BadHexText => 3,
-            Refusal::Scan(_) => 4,
+            Refusal::Scan(_) | Refusal::Query(_) | Refusal::NotSerializable | Refusal::LongPart =>
+                4,
         }
     }
 
@@ -65,6 +73,9 @@ impl Refusal {
             Refusal::BadTable(refusal) => table_line(*refusal),
             Refusal::BadHexText => "error: BadHex text\n",
             Refusal::Scan(error) => scan_line(error),
+            Refusal::Query(error) => query_line(*error),
+            Refusal::NotSerializable => "error: NotSerializable\n",
+            Refusal::LongPart => "error: TooLong\n",
         }
     }
 }
@@ -134,6 +145,21 @@ fn scan_line(error: &ScanError) -> &'static str
     }
 }
 
+/// The line of a query that is refused.
+fn query_line(error: TextError) -> &'static str
+    ensures { result.now ≡ refusal_line (text_refusal_name error) }
+{
+    match error {
+        TextError::NoMemory => "error: NoMemory\n",
+        TextError::TooLong => "error: TooLong\n",
+        TextError::BadToken => "error: BadToken\n",
+        TextError::TooManyTokens => "error: TooManyTokens\n",
+        TextError::BadQuery => "error: BadQuery\n",
+        TextError::BadValue => "error: BadValue\n",
+        TextError::NotWritable => "error: NotWritable\n",
+    }
+}
+
 impl From<InputError> for Refusal {
     ghost use Rattle.vx_query.specs.RefusalViews.{input_refusal};
 
@@ -183,6 +209,19 @@ impl From<ScanError> for Refusal {
         match error {
             ScanError::NoMemory => Refusal::NoMemory,
             error => Refusal::Scan(error),
+        }
+    }
+}
+
+impl From<TextError> for Refusal {
+    ghost use Rattle.vx_query.specs.RefusalViews.{text_refusal};
+
+    ghost from_gives = { λ e r. r ≡ text_refusal e };
+
+    fn from(error: TextError) -> Refusal {
+        match error {
+            TextError::NoMemory => Refusal::NoMemory,
+            error => Refusal::Query(error),
         }
     }
 }

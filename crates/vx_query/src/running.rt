@@ -10,6 +10,7 @@ ghost use Rattle.vx_query.specs.TextViews.{IsAnsweredBy, answer_status, answer_t
 use crate::answers::answer;
 use crate::endings::Ending;
 use crate::forms::{Form, form_of};
+use crate::queries::query_bytes;
 use crate::refusals::Refusal;
 use crate::texts::{explanation, shown, shown_as_tree};
 use std::alloc::Global;
@@ -20,7 +21,7 @@ use vx_scan::MemoryStore;
 const USAGE: &str = "error: Usage\n";
 
 const HELP: &str =
-    "vx scan < REQUEST      prints the selected rows, the skipped blocks and the columns read, as in: vx scan < examples/first.json\nvx explain < REQUEST   prints what a scan does with its filter and its projection, as in: vx explain < examples/explain.json\nvx show HEX            prints the expression that the bytes spell, as in: vx show 04726f6f740000\nvx show tree HEX       prints it as a tree, as in: vx show tree 04726f6f740000\nvx --help              prints this text\nvx --version           prints the version\nexit status: 0 written whole, 2 wrong arguments, 3 no request or no hex, 4 refused expressions, 5 overflow or bad cast,\n6 input not read, 7 output not written, 8 no memory\n";
+    "vx scan < REQUEST      prints the selected rows, the skipped blocks and the columns read, as in: vx scan < examples/first.json\nvx explain < REQUEST   prints what a scan does with its filter and its projection, as in: vx explain < examples/explain.json\nvx show HEX            prints the expression that the bytes spell, as in: vx show 04726f6f740000\nvx show tree HEX       prints it as a tree, as in: vx show tree 04726f6f740000\nvx text QUERY          prints the bytes of the expression that a query names, as in: vx text 'x > 10i32'\nvx --help              prints this text\nvx --version           prints the version\nexit status: 0 written whole, 2 wrong arguments, 3 no request or no hex, 4 refused expressions or query, 5 overflow or bad cast,\n6 input not read, 7 output not written, 8 no memory\n";
 
 const VERSION: &str = "vx 0.1.0\n";
 
@@ -29,13 +30,15 @@ const VERSION: &str = "vx 0.1.0\n";
 /// The argument `scan` takes the input, at most 16,777,217 bytes of it, and writes the report of the scan that the
 /// request in it holds; `explain` takes it likewise and writes what this scan does with its filter and its projection.
 /// `show` with one word of hexadecimal digits behind it writes the expression that these bytes spell, and `show tree` with
-/// one writes it as a tree; `--help` and `--version` write their texts. These take nothing. The exit status is
+/// one writes it as a tree. `text` with a query behind it writes the bytes of the expression that the query names, two
+/// hexadecimal digits for each. `--help` and `--version` write their texts. These take nothing. The exit status is
 ///
 /// - 0 where the text was written whole;
 /// - 2 where the arguments have none of these forms;
 /// - 3 exactly where the input is no request, or the word to be shown is no hexadecimal text;
 /// - 4 exactly where the request's byte texts spell no two expressions, or these are not strictly typed for its table,
-///   the filter a boolean; or where the bytes to be shown spell no expression;
+///   the filter a boolean; where the bytes to be shown spell no expression; or where the query names no expression, or one
+///   that has no bytes;
 /// - 5 only where a phase of the scan breaks, and by a cause by which the first one that does so breaks, never for another
 ///   argument than `scan`;
 /// - 6 only where the source counted a fault;
@@ -49,7 +52,8 @@ const VERSION: &str = "vx 0.1.0\n";
 /// place, BadHex with `filter`, `projection` or `text`, and BadTable with the name of the table's refusal; BadWire, TooDeep,
 /// TooManyNodes, UnknownExpr, BadMetadata and WrongChildren, each with `filter`, `projection` or `text`, NotStruct,
 /// NullableSelect, UnknownField, DuplicateField and TypeMismatch, each with `filter` or `projection`, and FilterNotBool;
-/// Overflow and BadCast. What is shown is refused with `text`. The lines take no memory.
+/// Overflow and BadCast. What is shown is refused with `text`. A query is refused with TooLong, BadToken, TooManyTokens,
+/// BadQuery or BadValue, and NotSerializable where a type deeper than 64 stands in it. The lines take no memory.
 ///
 /// Afterwards `used` holds the store that was scanned where a report was made or a phase broke, also where the writing
 /// failed; its reads are those of the scan, up to and with those of the phase that broke. Else it is none.
@@ -71,6 +75,7 @@ pub fn run<I: Source, O: Sink>(
         Some(Form::Explain) => write_answer(output, &explain_input(alloc, input)),
         Some(Form::Show(hex)) => write_answer(output, &shown(alloc, hex)),
         Some(Form::ShowTree(hex)) => write_answer(output, &shown_as_tree(alloc, hex)),
+        Some(Form::Text(query)) => write_answer(output, &query_bytes(alloc, query)),
         Some(Form::Scan) => match scan_input(alloc, input, used) {
             Ok(ending) => write(output, ending.text(), ending.status()),
             Err(refusal) => write(output, refusal.line(), refusal.status()),

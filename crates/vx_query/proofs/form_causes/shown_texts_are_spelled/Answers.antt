@@ -1,4 +1,4 @@
-use Rattle.vx_query.proofs.WordLemmas.{was_shown, was_shown_as_tree, was_shown_whole, was_shown_as_tree_whole}
+use Rattle.vx_query.proofs.WordLemmas.{was_shown, was_shown_as_tree}
 use Rattle.vx_query.proofs.form_causes.shown_texts_are_spelled.Goals as goal
 
 pub returns-clause-line : goal.returns-clause-line
@@ -6,9 +6,3 @@ returns-clause-line c = was_shown
 
 pub returns-clause-tree : goal.returns-clause-tree
 returns-clause-tree c = was_shown_as_tree
-
-pub returns-clause-complete_line : goal.returns-clause-complete_line
-returns-clause-complete_line c = was_shown_whole
-
-pub returns-clause-complete_tree : goal.returns-clause-complete_tree
-returns-clause-complete_tree c = was_shown_as_tree_whole

@@ -1,5 +1,4 @@
-use Rattle.vx_query.proofs.CauseLemmas.{unformed}
-use Rattle.vx_query.proofs.FormLemmas.{misuses}
+use Rattle.vx_query.proofs.FormLemmas.{unformed, misuses}
 use Rattle.vx_query.proofs.form_causes.usage_exactly.Goals as goal
 
 pub returns-clause-only : goal.returns-clause-only

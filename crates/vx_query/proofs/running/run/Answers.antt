@@ -1,9 +1,9 @@
 use Rattle.std.proofs.Common.{◌∙◌, sym, ap, refl, map, option_map, Some, None}
 use Rattle.std.specs.String.{string_bytes}
-use Rattle.vx_query.specs.Running.{end_by, form_of, explain_form, show_form, show_tree_form, misused, helped, versioned}
+use Rattle.vx_query.specs.Running.{end_by, form_of, explain_form, show_form, show_tree_form, text_form, misused, helped, versioned}
 use Rattle.vx_scan.specs.StoreViews.{store_seen}
 use Rattle.vx_query.specs.RunViews.{form_view}
-use Rattle.vx_query.proofs.OutcomeLemmas.{run_of, run_answered, run_ended, word_shown, word_shown_as_tree}
+use Rattle.vx_query.proofs.OutcomeLemmas.{run_of, run_answered, run_ended, word_shown, word_shown_as_tree, query_answered}
 use Rattle.vx_query.proofs.running.run.Goals as goal
 
 pub returns-in-None : goal.returns-in-None
@@ -52,6 +52,15 @@ returns-in-Some-ShowTree g c =
     run_answered (form_of (map string_bytes c.args.arguments.now)) (Some (show_tree_form word)) (source c.args.input.now) (source c.args.input.now) (sink c.args.output.now)
     (sink c.write_answer-in-Some-ShowTree.new.output) c.write_answer-in-Some-ShowTree.result c.shown_as_tree.result (sym c.form_of.ensures ∙ ap (option_map form_view) (c.in-Some-ShowTree.is ∙ ap Some c.in-Some-ShowTree.field-0-is))
     (word_shown_as_tree word (source c.args.input.now) c.shown_as_tree.result c.shown_as_tree.ensures) c.write_answer-in-Some-ShowTree.ensures
+
+pub returns-in-Some-Text : goal.returns-in-Some-Text
+returns-in-Some-Text g c =
+    let source = end_by g.I.Source.left g.I.Source.faults in
+    let sink = end_by g.O.Sink.written g.O.Sink.faults in
+    let query = c.in-Some-Text.query.now in
+    run_answered (form_of (map string_bytes c.args.arguments.now)) (Some (text_form query)) (source c.args.input.now) (source c.args.input.now) (sink c.args.output.now)
+    (sink c.write_answer-in-Some-Text.new.output) c.write_answer-in-Some-Text.result c.query_bytes.result (sym c.form_of.ensures ∙ ap (option_map form_view) (c.in-Some-Text.is ∙ ap Some c.in-Some-Text.field-0-is))
+    (query_answered query (source c.args.input.now) c.query_bytes.result c.query_bytes.ensures) c.write_answer-in-Some-Text.ensures
 
 pub returns-in-Ok : goal.returns-in-Ok
 returns-in-Ok g c =

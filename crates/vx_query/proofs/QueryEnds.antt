@@ -1,0 +1,64 @@
+-- How a run ends whose arguments ask the bytes of a query.
+use Rattle.std.proofs.Common.{◌≡◌, ◌∙◌, sym, ap, refl, subst, ℕ, codes, Option, Some, None, Err, true≢false}
+use Rattle.std.proofs.lemmas.Option.{same_Some}
+use Rattle.vx_dtype.specs.Types.{Bytes}
+use Rattle.vx_expr.specs.Trees.{Tree}
+use Rattle.vx_io.specs.Ends.{Added}
+use Rattle.vx_scan.specs.Stores.{Seen}
+use Rattle.vx_text.specs.Reading.{reading_of}
+use Rattle.vx_text.specs.declared.errors.TextError.{TextError}
+use Rattle.vx_query.specs.Refusals.{text_refusal_name, refusal_line}
+use Rattle.vx_query.specs.Running.{End, Form, Names, IsShallow, HasBytes, IsOverlong, bytes_line, scan_form, explain_form, show_form, show_tree_form, text_form, help_form, version_form, asked_query, Outcome, misused, helped, versioned, out_of_memory, unread, refused, unscanned, broken, answered, explained, undecoded, unshown, shown, tree_shown, unnamed, unserialized, overlong, named, Writing, whole, cut, IsOutcome, IsWriting, IsRun, status_of, text_of, used_by}
+use Rattle.vx_query.specs.Causes.{HasRisen}
+use Rattle.vx_query.proofs.RequestEnds.{not_none}
+
+-- how their run ends: its text was cut off, there was no memory, or the query was told
+pub data QueryEnd (query : Bytes) (i i' o o' : End) (used : Option Seen) (status : ℕ) : Type 0 where
+  cut_off : status ≡ 7 → HasRisen o o' → QueryEnd query i i' o o' used status
+  without_memory : status ≡ 8 → QueryEnd query i i' o o' used status
+  no_query : (e : TextError) → status ≡ 4 → reading_of query ≡ Err e → Added o.bytes o'.bytes (refusal_line (text_refusal_name e))
+      → QueryEnd query i i' o o' used status
+  too_deep : (e : Tree) → status ≡ 4 → Names query e → ¬ (IsShallow e) → Added o.bytes o'.bytes (refusal_line (codes "NotSerializable"))
+      → QueryEnd query i i' o o' used status
+  too_long : (e : Tree) → status ≡ 4 → Names query e → IsShallow e → IsOverlong e → Added o.bytes o'.bytes (refusal_line (codes "TooLong"))
+      → QueryEnd query i i' o o' used status
+  bytes : (e : Tree) → status ≡ 0 → Names query e → HasBytes e → i' ≡ i → Added o.bytes o'.bytes (bytes_line e) → used ≡ None
+      → QueryEnd query i i' o o' used status
+
+-- such arguments are of no other form
+asks_other : (query : Bytes) (other : Option Form) → asked_query other ≡ None → ¬ (Some (text_form query) ≡ other)
+asks_other query other none same = not_none (ap asked_query same ∙ none)
+
+-- the query of a run is the one that is given
+same_query : (query other : Bytes) → Some query ≡ Some other → other ≡ query
+same_query query other h = same_Some _ _ (sym h)
+
+pub query_end : (query : Bytes) (i i' o o' : End) (used : Option Seen) (status : ℕ) → IsRun (Some (text_form query)) i i' o o' used status
+    → QueryEnd query i i' o o' used status
+query_end query i i' o o' used status run = by run.outcome run.writing run.comes run.written run.held
+  where
+    by : (outcome : Outcome) (writing : Writing) → IsOutcome (Some (text_form query)) i i' outcome
+        → IsWriting o o' (text_of outcome) (status_of outcome) status writing → used ≡ used_by outcome → QueryEnd query i i' o o' used status
+    by outcome cut comes written held = cut_off written.0 written.1.1
+    by misused whole comes written held = absurd (not_none comes.0)
+    by helped whole comes written held = absurd (asks_other query (Some help_form) refl comes.0)
+    by versioned whole comes written held = absurd (asks_other query (Some version_form) refl comes.0)
+    by out_of_memory whole comes written held = without_memory written.0
+    by unread whole comes written held = absurd (true≢false (sym comes.0))
+    by (refused input e) whole comes written held = absurd (true≢false (sym comes.0))
+    by (unscanned input e) whole comes written held = absurd (true≢false (sym comes.0))
+    by (broken cause input a f p) whole comes written held = absurd (asks_other query (Some scan_form) refl comes.0)
+    by (answered input a f p) whole comes written held = absurd (asks_other query (Some scan_form) refl comes.0)
+    by (explained input a f p) whole comes written held = absurd (asks_other query (Some explain_form) refl comes.0)
+    by undecoded whole comes written held = absurd (not_none (sym comes.0.1))
+    by (unshown e) whole comes written held = absurd (not_none (sym comes.0.1))
+    by (shown e) whole comes written held = absurd (asks_other query (Some (show_form comes.0.0)) refl comes.0.1)
+    by (tree_shown e) whole comes written held = absurd (asks_other query (Some (show_tree_form comes.0.0)) refl comes.0.1)
+    by (unnamed e) whole comes written held =
+        no_query e written.0 (subst (λ q. reading_of q ≡ Err e) (same_query query comes.0.0 comes.0.1) comes.0.2) written.1.0
+    by unserialized whole comes written held =
+        too_deep comes.0.1 written.0 (subst (λ q. Names q comes.0.1) (same_query query comes.0.0 comes.0.2) comes.0.3) comes.0.4 written.1.0
+    by overlong whole comes written held =
+        too_long comes.0.1 written.0 (subst (λ q. Names q comes.0.1) (same_query query comes.0.0 comes.0.2) comes.0.3) comes.0.4 comes.0.5 written.1.0
+    by (named e) whole comes written held =
+        bytes e written.0 (subst (λ q. Names q e) (same_query query comes.0.0 comes.0.1) comes.0.2) comes.0.3 comes.1 written.1.0 held

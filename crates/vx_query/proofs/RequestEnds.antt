@@ -1,0 +1,86 @@
+-- How a run ends whose arguments read a request.
+use Rattle.std.proofs.Common.{◌≡◌, ◌∙◌, sym, ap, refl, ℕ, true, false, Option, Some, None, Err, is_some, true≢false}
+use Rattle.vx_dtype.specs.Types.{Bytes}
+use Rattle.vx_expr.specs.Trees.{Tree}
+use Rattle.vx_semantics.specs.Breaks.{Cause}
+use Rattle.vx_io.specs.Ends.{Added}
+use Rattle.vx_scan.specs.Stores.{Seen}
+use Rattle.vx_scan.specs.declared.errors.ScanError.{ScanError}
+use Rattle.vx_explain.specs.Explanations.{explain_text}
+use Rattle.vx_request.specs.Requests.{RequestedScan, request_of}
+use Rattle.vx_request.specs.declared.errors.RequestError.{RequestError}
+use Rattle.vx_query.specs.Refusals.{request_refusal_name, scan_refusal_name, break_name, refusal_line}
+use Rattle.vx_query.specs.Running.{End, Form, HoldsScan, HoldsRefused, scan_breaks, scan_breaks_by, scan_report, scanned_store, broken_store, scan_form, explain_form, show_form, show_tree_form, text_form, help_form, version_form, reads_request, shown_word, asked_query, IsTaken, Outcome, misused, helped, versioned, out_of_memory, unread, refused, unscanned, broken, answered, explained, undecoded, unshown, shown, tree_shown, unnamed, unserialized, overlong, named, Writing, whole, cut, IsOutcome, IsWriting, IsRun, status_of, text_of, used_by}
+use Rattle.vx_query.specs.Causes.{HasRisen}
+
+pub not_none : {X : Type 0} {x : X} → Some x ≡ None → ⊥
+not_none e = true≢false (ap is_some e)
+
+-- how their run ends: its text was cut off, there was no memory, the input wasn't read, or what it held was told
+pub data RequestEnd (form : Option Form) (i i' o o' : End) (used : Option Seen) (status : ℕ) : Type 0 where
+  cut_off : status ≡ 7 → HasRisen o o' → RequestEnd form i i' o o' used status
+  without_memory : status ≡ 8 → used ≡ None → RequestEnd form i i' o o' used status
+  not_read : status ≡ 6 → HasRisen i i' → used ≡ None → RequestEnd form i i' o o' used status
+  no_request : (input : Bytes) (e : RequestError) → status ≡ 3 → IsTaken i i' input → request_of input ≡ Err e
+      → Added o.bytes o'.bytes (refusal_line (request_refusal_name e)) → used ≡ None → RequestEnd form i i' o o' used status
+  no_scan : (input : Bytes) (e : ScanError) → status ≡ 4 → IsTaken i i' input → HoldsRefused input e
+      → Added o.bytes o'.bytes (refusal_line (scan_refusal_name e)) → used ≡ None → RequestEnd form i i' o o' used status
+  breaks : (cause : Cause) (input : Bytes) (a : RequestedScan) (f p : Tree) → status ≡ 5 → form ≡ Some scan_form → IsTaken i i' input
+      → HoldsScan input a f p → scan_breaks_by cause a f p ≡ true → Added o.bytes o'.bytes (refusal_line (break_name cause))
+      → used ≡ Some (broken_store a f p) → RequestEnd form i i' o o' used status
+  reports : (input : Bytes) (a : RequestedScan) (f p : Tree) → status ≡ 0 → form ≡ Some scan_form → IsTaken i i' input → HoldsScan input a f p
+      → scan_breaks a f p ≡ false → Added o.bytes o'.bytes (scan_report a f p) → used ≡ Some (scanned_store a f p)
+      → RequestEnd form i i' o o' used status
+  explains : (input : Bytes) (a : RequestedScan) (f p : Tree) → status ≡ 0 → form ≡ Some explain_form → IsTaken i i' input → HoldsScan input a f p
+      → Added o.bytes o'.bytes (explain_text a.zones f p) → used ≡ None → RequestEnd form i i' o o' used status
+
+-- such arguments are of no other form, show no word, and ask no query
+reads_other : (form other : Option Form) → reads_request form ≡ true → reads_request other ≡ false → ¬ (form ≡ other)
+reads_other form other reads none same = true≢false (sym reads ∙ ap reads_request same ∙ none)
+
+pub shows_none : (form : Option Form) (word : Bytes) → reads_request form ≡ true → ¬ (shown_word form ≡ Some word)
+shows_none None word reads h = true≢false (sym reads)
+shows_none (Some scan_form) word reads h = not_none (sym h)
+shows_none (Some explain_form) word reads h = not_none (sym h)
+shows_none (Some (show_form other)) word reads h = true≢false (sym reads)
+shows_none (Some (show_tree_form other)) word reads h = true≢false (sym reads)
+shows_none (Some (text_form other)) word reads h = true≢false (sym reads)
+shows_none (Some help_form) word reads h = true≢false (sym reads)
+shows_none (Some version_form) word reads h = true≢false (sym reads)
+
+pub asks_none : (form : Option Form) (query : Bytes) → reads_request form ≡ true → ¬ (asked_query form ≡ Some query)
+asks_none None query reads h = true≢false (sym reads)
+asks_none (Some scan_form) query reads h = not_none (sym h)
+asks_none (Some explain_form) query reads h = not_none (sym h)
+asks_none (Some (show_form other)) query reads h = true≢false (sym reads)
+asks_none (Some (show_tree_form other)) query reads h = true≢false (sym reads)
+asks_none (Some (text_form other)) query reads h = true≢false (sym reads)
+asks_none (Some help_form) query reads h = true≢false (sym reads)
+asks_none (Some version_form) query reads h = true≢false (sym reads)
+
+pub request_end : (form : Option Form) (i i' o o' : End) (used : Option Seen) (status : ℕ) → reads_request form ≡ true
+    → IsRun form i i' o o' used status → RequestEnd form i i' o o' used status
+request_end form i i' o o' used status reads run = by run.outcome run.writing run.comes run.written run.held
+  where
+    by : (outcome : Outcome) (writing : Writing) → IsOutcome form i i' outcome → IsWriting o o' (text_of outcome) (status_of outcome) status writing
+        → used ≡ used_by outcome → RequestEnd form i i' o o' used status
+    by outcome cut comes written held = cut_off written.0 written.1.1
+    by misused whole comes written held = absurd (reads_other form None reads refl comes.0)
+    by helped whole comes written held = absurd (reads_other form (Some help_form) reads refl comes.0)
+    by versioned whole comes written held = absurd (reads_other form (Some version_form) reads refl comes.0)
+    by out_of_memory whole comes written held = without_memory written.0 held
+    by unread whole comes written held = not_read written.0 comes.1.1 held
+    by (refused input e) whole comes written held = no_request input e written.0 comes.1.0 comes.1.1 written.1.0 held
+    by (unscanned input e) whole comes written held = no_scan input e written.0 comes.1.0 comes.1.1 written.1.0 held
+    by (broken cause input a f p) whole comes written held =
+        breaks cause input a f p written.0 comes.0 comes.1.0 comes.1.1.0 comes.1.1.1 written.1.0 held
+    by (answered input a f p) whole comes written held = reports input a f p written.0 comes.0 comes.1.0 comes.1.1.0 comes.1.1.1 written.1.0 held
+    by (explained input a f p) whole comes written held = explains input a f p written.0 comes.0 comes.1.0 comes.1.1 written.1.0 held
+    by undecoded whole comes written held = absurd (shows_none form comes.0.0 reads comes.0.1)
+    by (unshown e) whole comes written held = absurd (shows_none form comes.0.0 reads comes.0.1)
+    by (shown e) whole comes written held = absurd (reads_other form (Some (show_form comes.0.0)) reads refl comes.0.1)
+    by (tree_shown e) whole comes written held = absurd (reads_other form (Some (show_tree_form comes.0.0)) reads refl comes.0.1)
+    by (unnamed e) whole comes written held = absurd (asks_none form comes.0.0 reads comes.0.1)
+    by unserialized whole comes written held = absurd (asks_none form comes.0.0 reads comes.0.2)
+    by overlong whole comes written held = absurd (asks_none form comes.0.0 reads comes.0.2)
+    by (named e) whole comes written held = absurd (asks_none form comes.0.0 reads comes.0.1)
