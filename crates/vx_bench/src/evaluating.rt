@@ -1,0 +1,104 @@
+// Evaluation beside the column calls that it needs.
+use crate::kernels::Constant::{Number, Text};
+use crate::kernels::{added, both, compared, item, ranged};
+use crate::opening::{Opened, fields};
+use crate::timing::{ROUNDS, print_since};
+use anyhow::{Result, bail};
+use std::alloc::Global;
+use std::time::Instant;
+use vx_column::ColumnRef;
+use vx_dtype::StrictComparison::{NonStrict, Strict};
+use vx_dtype::{BetweenOptions, CompareOperator};
+use vx_eval::{ExprEval, Scope};
+use vx_expr::ExprRef;
+
+/// Times the filter and the projection over the rows of the first block, whose columns are one of i64 and one of texts, and the column
+/// calls of `(($.x + 1i64) > 10i64) and ($.y = "a")` and of `(10i64 <= $.x < 50i64)`.
+pub(crate) fn time(rt: &HostRuntime, request: &Opened) -> Result<()> {
+    let Some([x, y]) = request.blocks.first().map(|block| block.as_slice()) else {
+        bail!("not two columns")
+    };
+    let scope = Scope::new(rows(rt.alloc(), request, x, y)?);
+    for _ in 0..ROUNDS {
+        time_evaluation(rt, "sum", &request.filter, &scope)?;
+        time_sum(rt, scope.root())?;
+        time_evaluation(rt, "range", &request.projection, &scope)?;
+        time_range(rt, scope.root())?;
+        time_item(rt, scope.root())?;
+    }
+    Ok(())
+}
+
+/// The rows of the first block.
+fn rows(alloc: Global, request: &Opened, x: &ColumnRef, y: &ColumnRef) -> Result<ColumnRef> {
+    let names = fields(&request.zones)?.names().clone()?;
+    let columns = vec![in alloc; x.clone()?, y.clone()?]?;
+    match ColumnRef::struct_(alloc, names, columns, x.len(), None) {
+        Ok(rows) => Ok(rows),
+        Err(_) => bail!("no rows"),
+    }
+}
+
+/// Times an expression over rows.
+fn time_evaluation(rt: &HostRuntime, name: &str, expr: &ExprRef, scope: &Scope) -> Result<()> {
+    let start = Instant::now(rt)?;
+    let _column = expr.evaluate(rt.alloc(), scope)?;
+    print_since(rt, name, &start)
+}
+
+/// Times the column calls of the first expression.
+fn time_sum(rt: &HostRuntime, rows: &ColumnRef) -> Result<()> {
+    let start = Instant::now(rt)?;
+    let _column = sum(rt.alloc(), rows)?;
+    print_since(rt, "sum_calls", &start)
+}
+
+/// `(($.x + 1i64) > 10i64) and ($.y = "a")`
+fn sum(alloc: Global, rows: &ColumnRef) -> Result<ColumnRef> {
+    both(alloc, x_is_above(alloc, rows)?, y_is_a(alloc, rows)?)
+}
+
+/// `(($.x + 1i64) > 10i64)`
+fn x_is_above(alloc: Global, rows: &ColumnRef) -> Result<ColumnRef> {
+    let sums = added(alloc, item(alloc, rows, "x")?, Number(1))?;
+    compared(alloc, sums, CompareOperator::Gt, Number(10))
+}
+
+/// `($.y = "a")`
+fn y_is_a(alloc: Global, rows: &ColumnRef) -> Result<ColumnRef> {
+    compared(
+        alloc,
+        item(alloc, rows, "y")?,
+        CompareOperator::Eq,
+        Text("a"),
+    )
+}
+
+/// Times the column calls of the second expression.
+fn time_range(rt: &HostRuntime, rows: &ColumnRef) -> Result<()> {
+    let start = Instant::now(rt)?;
+    let _column = range(rt.alloc(), rows)?;
+    print_since(rt, "range_calls", &start)
+}
+
+/// `(10i64 <= $.x < 50i64)`
+fn range(alloc: Global, rows: &ColumnRef) -> Result<ColumnRef> {
+    let options = BetweenOptions {
+        lower_strict: NonStrict,
+        upper_strict: Strict,
+    };
+    ranged(
+        alloc,
+        item(alloc, rows, "x")?,
+        Number(10),
+        Number(50),
+        options,
+    )
+}
+
+/// Times the taking of a column out of the rows, once.
+fn time_item(rt: &HostRuntime, rows: &ColumnRef) -> Result<()> {
+    let start = Instant::now(rt)?;
+    let _column = item(rt.alloc(), rows, "x")?;
+    print_since(rt, "item", &start)
+}

@@ -1,0 +1,36 @@
+//! Times calls of the library over the table of a request, beside the calls on columns that they need: `vx_bench WHAT FILE` prints a name
+//! and nanoseconds for each call, a line each, some rounds in turn.
+#![tactic(auto)]
+
+mod evaluating;
+mod kernels;
+mod opening;
+mod pruning;
+mod rewriting;
+mod timing;
+mod types;
+
+use anyhow::Result;
+use opening::open;
+use std::{env, fs};
+
+fn main(rt: HostRuntime) -> Result<()> {
+    let mut words = env::args(&rt)?.skip(1);
+    let (Some(what), Some(file)) = (words.next(), words.next()) else {
+        println!(rt; "usage: vx_bench evaluate|prune|rewrite REQUEST")?;
+        return Ok(());
+    };
+    let request = fs::read(&rt, file.as_str())?;
+    time(&rt, what.as_str(), request.as_slice())
+}
+
+/// Times what a word names, over the table of a request.
+fn time(rt: &HostRuntime, what: &str, request: &[u8]) -> Result<()> {
+    let opened = open(rt.alloc(), request)?;
+    match what {
+        "evaluate" => evaluating::time(rt, &opened),
+        "prune" => pruning::time(rt, &opened),
+        "rewrite" => rewriting::time(rt, &opened),
+        _ => Ok(()),
+    }
+}

@@ -1,0 +1,47 @@
+// What a request holds: a table and two expressions.
+use anyhow::{Result, bail};
+use std::alloc::Global;
+use vx_column::ColumnRef;
+use vx_dtype::{DType, StructFields};
+use vx_expr::ExprRef;
+use vx_request::decode_request;
+use vx_wire::{ExprRegistry, ExprRegistryExt, deserialize_expr_proto, read_tree};
+use vx_zones::ZoneMap;
+
+/// The table of a request, and its two expressions.
+#[derive(Drop)]
+pub(crate) struct Opened {
+    pub(crate) zones: ZoneMap,
+    pub(crate) blocks: Vec<Vec<ColumnRef>>,
+    pub(crate) filter: ExprRef,
+    pub(crate) projection: ExprRef,
+}
+
+/// What the bytes of a request hold.
+pub(crate) fn open(alloc: Global, bytes: &[u8]) -> Result<Opened> {
+    let Ok(request) = decode_request(alloc, bytes) else {
+        bail!("no request")
+    };
+    let filter = expression(alloc, request.filter.as_slice())?;
+    let projection = expression(alloc, request.projection.as_slice())?;
+    Ok(Opened {
+        zones: request.zones,
+        blocks: request.blocks,
+        filter,
+        projection,
+    })
+}
+
+/// The expression that bytes spell.
+fn expression(alloc: Global, bytes: &[u8]) -> Result<ExprRef> {
+    let tree = read_tree(alloc, bytes)?;
+    Ok(deserialize_expr_proto(alloc, &tree, &ExprRegistry::default())?)
+}
+
+/// The columns' names and types.
+pub(crate) fn fields(zones: &ZoneMap) -> Result<&StructFields> {
+    match zones.dtype() {
+        DType::Struct(fields, _) => Ok(fields),
+        _ => bail!("no columns"),
+    }
+}

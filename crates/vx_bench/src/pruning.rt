@@ -1,0 +1,152 @@
+// Pruning of many blocks beside the column calls that it needs.
+ghost use Rattle.std.specs.Prelude.{◌≡◌, Ok};
+ghost use Rattle.vx_dtype.specs.TypeViews.{type_view};
+ghost use Rattle.vx_semantics.specs.Tables.{row_type};
+ghost use Rattle.vx_semantics.specs.Typing.{typed_of};
+
+use crate::kernels::Constant::{Number, Text};
+use crate::kernels::{Constant, compared, either};
+use crate::opening::{Opened, fields};
+use crate::timing::{ROUNDS, print_since};
+use anyhow::{Result, bail};
+use std::alloc::Global;
+use std::time::Instant;
+use vx_block_pruning::ruled_out;
+use vx_column::ColumnRef;
+use vx_dtype::{CompareOperator, DType, Mem, Scalar, ScalarValue};
+use vx_eval::{ExprEval, slots_fit};
+use vx_expr::ExprRef;
+use vx_zones::{Scalars, ZoneMap, ZoneStat};
+
+/// How many blocks a block of the request stands for: no request has many.
+const COPIES: u32 = 1000;
+
+/// Times the filter's pruning of the blocks, whose statistics are the bounds of `x` and those of `y`, and the column calls of
+/// `(10i64 < $.x < 20i64) and ($.y = "a")`.
+pub(crate) fn time(rt: &HostRuntime, request: &Opened) -> Result<()> {
+    let zones = many(rt.alloc(), &request.zones)?;
+    let dtype = request.filter.typed(rt.alloc(), zones.dtype())?;
+    time_typed(rt, &zones, &request.filter, &dtype)
+}
+
+/// The same for a filter of this type.
+fn time_typed(rt: &HostRuntime, zones: &ZoneMap, filter: &ExprRef, dtype: &DType) -> Result<()>
+    requires { typed_of (row_type zones.now.columns) filter.now ≡ Ok (type_view dtype.now) }
+{
+    if !slots_fit(&[], filter) {
+        bail!("slots")
+    }
+    for _ in 0..ROUNDS {
+        let start = Instant::now(rt)?;
+        let _flags = ruled_out(rt.alloc(), zones, filter, &[])?;
+        print_since(rt, "prune", &start)?;
+        time_calls(rt, zones)?;
+    }
+    Ok(())
+}
+
+/// The zones of as many blocks as those of the request stand for.
+fn many(alloc: Global, zones: &ZoneMap) -> Result<ZoneMap> {
+    let lengths = many_lengths(alloc, zones.lengths())?;
+    if lengths.len() > 16_777_216 {
+        bail!("too many blocks")
+    }
+    let stats = many_stats(alloc, zones.stats())?;
+    match ZoneMap::try_new(alloc, fields(zones)?.clone()?, lengths, stats) {
+        Ok(zones) => Ok(zones),
+        Err(_) => bail!("no zones"),
+    }
+}
+
+/// The numbers of rows, again and again.
+fn many_lengths(alloc: Global, lengths: &[u32]) -> Mem<Vec<u32>> {
+    let mut made = Vec::new(alloc);
+    for _ in 0..COPIES {
+        made.extend_from_slice(lengths)?;
+    }
+    Ok(made)
+}
+
+/// The statistics, the values of each again and again.
+fn many_stats(alloc: Global, stats: &[ZoneStat]) -> Mem<Vec<ZoneStat>> {
+    let mut made = Vec::new(alloc);
+    for stat in stats {
+        made.push(ZoneStat {
+            path: stat.path.clone()?,
+            stat: stat.stat,
+            values: many_values(alloc, stat.values.as_slice())?,
+        })?;
+    }
+    Ok(made)
+}
+
+/// The values of a statistic, again and again.
+fn many_values(alloc: Global, values: &[Scalar]) -> Mem<Scalars> {
+    let mut made = Vec::new(alloc);
+    for _ in 0..COPIES {
+        for value in values {
+            made.push(value.clone()?)?;
+        }
+    }
+    Ok(Scalars::new(made))
+}
+
+/// Times the column calls: the statistics as columns, a comparison of each with a constant, and these joined.
+fn time_calls(rt: &HostRuntime, zones: &ZoneMap) -> Result<()> {
+    let start = Instant::now(rt)?;
+    let _column = outside(rt.alloc(), zones)?;
+    print_since(rt, "prune_calls", &start)
+}
+
+/// Where `x` isn't between 10 and 20, or `y` isn't `a`.
+fn outside(alloc: Global, zones: &ZoneMap) -> Result<ColumnRef> {
+    let [x_min, x_max, y_min, y_max] = zones.stats() else {
+        bail!("not four statistics")
+    };
+    let below = bound(alloc, x_max, CompareOperator::Lte, Number(10))?;
+    let above = bound(alloc, x_min, CompareOperator::Gte, Number(20))?;
+    let x = either(alloc, below, above)?;
+    either(alloc, x, other_text(alloc, y_min, y_max)?)
+}
+
+/// Where `y` isn't `a`.
+fn other_text(alloc: Global, least: &ZoneStat, greatest: &ZoneStat) -> Result<ColumnRef> {
+    let above = bound(alloc, least, CompareOperator::Gt, Text("a"))?;
+    either(
+        alloc,
+        above,
+        bound(alloc, greatest, CompareOperator::Lt, Text("a"))?,
+    )
+}
+
+/// How a statistic compares with a constant.
+fn bound(
+    alloc: Global,
+    stat: &ZoneStat,
+    operator: CompareOperator,
+    constant: Constant,
+) -> Result<ColumnRef> {
+    compared(alloc, column_of(alloc, stat)?, operator, constant)
+}
+
+/// The values of a statistic as a column.
+fn column_of(alloc: Global, stat: &ZoneStat) -> Result<ColumnRef> {
+    let scalars = stat.values.as_slice();
+    let Some(first) = scalars.first() else {
+        bail!("no blocks")
+    };
+    let values = values_of(alloc, scalars)?;
+    match ColumnRef::from_values(alloc, first.dtype().clone()?, values.as_slice()) {
+        Ok(column) => Ok(column),
+        Err(_) => bail!("no column"),
+    }
+}
+
+/// What scalars hold.
+fn values_of(alloc: Global, scalars: &[Scalar]) -> Mem<Vec<ScalarValue>> {
+    let mut values = Vec::with_capacity(alloc, scalars.len())?;
+    for scalar in scalars {
+        values.push(scalar.value().clone()?)?;
+    }
+    Ok(values)
+}

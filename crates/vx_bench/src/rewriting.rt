@@ -1,0 +1,40 @@
+// Rewriting of expressions.
+use crate::opening::{Opened, fields};
+use crate::timing::{ROUNDS, print_since};
+use anyhow::Result;
+use std::time::Instant;
+use vx_dtype::DType;
+use vx_expr::{DisplayAs, ExprRef};
+use vx_partition::{annotate_scope_access, partition};
+use vx_transform::simplify_typed;
+use vx_zones::ZoneMap;
+
+/// Times the filter's simplifying and its split into parts, and prints how long the texts of the filter and of the simplified one are.
+pub(crate) fn time(rt: &HostRuntime, request: &Opened) -> Result<()> {
+    let scope = request.zones.dtype();
+    print_length(rt, "given", &request.filter)?;
+    for _ in 0..ROUNDS {
+        let filter = request.filter.clone()?;
+        let start = Instant::now(rt)?;
+        let simple = simplify_typed(rt.alloc(), filter, scope)?;
+        print_since(rt, "simplify", &start)?;
+        print_length(rt, "simplified", &simple)?;
+        time_split(rt, simple, &request.zones)?;
+    }
+    Ok(())
+}
+
+/// Times the split of an expression by the columns that it touches.
+fn time_split(rt: &HostRuntime, expr: ExprRef, zones: &ZoneMap) -> Result<()> {
+    let access = annotate_scope_access(fields(zones)?);
+    let start = Instant::now(rt)?;
+    let _split = partition(rt.alloc(), expr, zones.dtype(), &access)?;
+    print_since(rt, "partition", &start)
+}
+
+/// Prints the length of an expression's text under a name.
+fn print_length(rt: &HostRuntime, name: &str, expr: &ExprRef) -> Result<()> {
+    let text = expr.compact(rt.alloc())?;
+    println!(rt; "{name} {}", text.len())?;
+    Ok(())
+}
