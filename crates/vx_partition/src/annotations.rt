@@ -1,5 +1,5 @@
 // The annotations of expressions, as a map keyed by equal expressions.
-ghost use Rattle.std.specs.Prelude.{◌≡◌, [], ◌++◌, IfOk, OnOk, option_map, unwrap_or};
+ghost use Rattle.std.specs.Prelude.{◌≡◌, [], ◌++◌, IfOk, OnOk, option_map, unwrap_or, is_some};
 ghost use Rattle.std.specs.List.{list_any};
 ghost use Rattle.vx_passes.specs.Annotating.{entry_of, joined_sets, with_annotations};
 ghost use Rattle.vx_partition.specs.Views.{entries_view, has_entry};
@@ -33,9 +33,10 @@ impl<A: Annotation> Annotations<A> {
         self.entries.contains_key(expr)
     }
 
-    /// The annotations of the entry of an expression; None or none of them where it has no entry.
+    /// The annotations of the entry of an expression; None where it has no entry.
     pub fn get(&self, expr: &ExprRef) -> Option<&[A]>
-        ensures { unwrap_or (option_map (λ held. held.now) result) [] ≡ entry_of expr.now (entries_view self.now) }
+        ensures held { unwrap_or (option_map (λ held. held.now) result) [] ≡ entry_of expr.now (entries_view self.now) }
+        ensures known { is_some result ≡ has_entry expr.now (entries_view self.now) }
     {
         match self.entries.get(expr) {
             Some(held) => Some(held.as_slice()),
