@@ -545,7 +545,7 @@ READ_AND_WRITTEN = [
     ("-0u8", "0u8"),
     ("lit(u8, 1)", "1u8"),
     ("lit ( u8 ? , 1 )", "lit(u8?, 1)"),
-    ("not " * 1000 + "$", "(not " * 1000 + "$" + ")" * 1000),
+    ("not " * 500 + "$", "(not " * 500 + "$" + ")" * 500),
     ("merge()", "merge()"),
     ("merge_null()", "merge_null()"),
     ("pack_null()", "pack_null()"),
