@@ -11,13 +11,16 @@ import os
 import subprocess
 import sys
 
-from wire import ROOT, TRUE, binary, cast, item, lit, merge, negated, node, pack, request, select, struct
+from wire import ROOT, TRUE, binary, cast, contains, item, like, lit, merge, negated, node, pack, request, select, struct
 
 HERE = os.path.dirname(os.path.dirname(os.path.abspath(__file__)))
 PROGRAM = os.path.join(HERE, "crates", "vx", "out", "vx")
 
 X = item("x")
 ABOVE_TEN = binary(X, ">", lit("i32", 10))
+QUOTED = like(item("a b"), lit("utf8", "it's%"), ignores_case=True)
+HELD = contains(lit({"list": "i8?", "nullable": False}, [1, None]), binary(X, "+", lit("i8", -1)))
+PACKED = merge(select(pack(("or", X)), "or"), select(item("q"), "b", exclude=True), nullable=True)
 X32 = [("x", "i32")]
 X8 = [("x", "i8")]
 TWO = [[[1, 12]], [[20]]]
@@ -53,8 +56,8 @@ def realistic():
         ids, names, prices, cities = zip(*block)
         addresses = [{"city": c, "zip": i} for c, i in zip(cities, ids)]
         blocks.append([list(ids), list(names), list(prices), [[] for _ in ids], addresses, [True for _ in ids]])
-    like = node("like", b"\0\0", item("name"), lit("utf8", "a%"))
-    dear = binary(binary(item("price"), ">=", lit("i64", 100)), "and", like)
+    begins_with_a = like(item("name"), lit("utf8", "a%"))
+    dear = binary(binary(item("price"), ">=", lit("i64", 100)), "and", begins_with_a)
     where = binary(dear, "and", binary(item("city", item("address")), "=", lit("utf8", "Oslo")))
     brief = select(merge(ROOT, item("address")), "id", "name", "city")
     stats = [(["price"], "max", [90, 250, 300, 400, 20, 500, 800, 1000])]
@@ -208,7 +211,14 @@ WORDS = [
     ("an explanation of a filter of numbers", ["explain"], bytes_of(X), "error: FilterNotBool", 4),
     ("a shown expression", ["show", ABOVE_TEN.hex()], b"", "($.x > 10i32)", 0),
     ("a shown tree", ["show", "tree", ABOVE_TEN.hex()], b"", TREE, 0),
+    ("a shown query", ["show", "query", ABOVE_TEN.hex()], b"", "($.x > 10i32)", 0),
+    ("a shown query of marks", ["show", "query", QUOTED.hex()], b"", """ilike($."a b", 'it''s%')""", 0),
+    ("a shown query of a list", ["show", "query", HELD.hex()], b"", "contains(lit(list(i8?), [1, null]), ($.x + -1i8))", 0),
+    ("a shown query of structs", ["show", "query", PACKED.hex()], b"", 'merge_null(pack("or": $.x){"or"}, $.q~{b})', 0),
     ("the word tree", ["show", "tree"], b"", "error: BadHex text", 3),
+    ("the word query", ["show", "query"], b"", "error: BadHex text", 3),
+    ("a shown query of no bytes", ["show", "query", ""], b"", "error: BadWire text", 4),
+    ("a shown query of a kind that isn't registered", ["show", "query", node("dynamic").hex()], b"", "error: UnknownExpr text", 4),
     ("three digits", ["show", "046"], b"", "error: BadHex text", 3),
     ("no digits", ["show", ""], b"", "error: BadWire text", 4),
     ("a word of a kind that isn't registered", ["show", node("dynamic").hex()], b"", "error: UnknownExpr text", 4),

@@ -1,1 +1,2 @@
 mod ExplainLemmas
+mod ShownLemmas

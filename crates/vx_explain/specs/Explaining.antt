@@ -13,6 +13,7 @@ use Rattle.vx_scan.specs.Texts.{SpellsTree, IsTextRefused, SpellBoth, AreRefused
 use Rattle.vx_scan.specs.declared.errors.Side.TheVariants.{Text}
 use Rattle.vx_scan.specs.declared.errors.ScanError.{ScanError}
 use Rattle.vx_scan.specs.declared.errors.ScanError.TheVariants as errors
+use Rattle.vx_text.specs.Writing.{query_text}
 use Rattle.vx_explain.specs.Explanations.{explain_text}
 
 -- the explanation of two texts over a table with these zones: they spell a filter and a projection, strictly typed over its rows, the filter a boolean
@@ -42,6 +43,10 @@ Explains holds zones filter_text projection_text (Err e) = IsUnexplained holds z
 -- the line of an expression: its compact text
 abbrev pub shown_line : Tree → Bytes
 shown_line e = compact_text e ++ codes "\n"
+
+-- the line of the query that names an expression
+abbrev pub query_line : Tree → Bytes
+query_line e = query_text e ++ codes "\n"
 
 -- the text of the expression that bytes spell, or why they spell none; want of memory may come at any time
 abbrev pub Shows : (Tree → Bytes) → (ExprEncoding → Bool) → Bytes → Result (String Global) ScanError → Type 0

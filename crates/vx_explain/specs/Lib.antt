@@ -6,6 +6,7 @@ pub use Rattle.vx_expr.specs.Trees
 pub use Rattle.vx_expr.specs.CompactTexts
 pub use Rattle.vx_semantics.specs.Tables
 pub use Rattle.vx_display.specs.Spaced
+pub use Rattle.vx_text.specs.Writing
 pub use Rattle.vx_zones.specs.ZoneViews
 pub use Rattle.vx_passes.specs.PruningTables
 pub use Rattle.vx_laws_columns.specs.Columns

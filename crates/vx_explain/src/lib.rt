@@ -6,4 +6,4 @@ mod pruning;
 mod showing;
 
 pub use explaining::explain;
-pub use showing::{show, show_tree};
+pub use showing::{show, show_query, show_tree};

@@ -1,7 +1,7 @@
 -- What the status of a run tells of the form of its arguments: none, which forms break, hold stores and take nothing; and of faults.
 use Rattle.std.proofs.Common.{◌≡◌, ◌∙◌, sym, ap, refl, ℕ, true, false, Option, Some, None, inl, inr, arith, true≢false}
 use Rattle.vx_scan.specs.Stores.{Seen}
-use Rattle.vx_query.specs.Running.{End, Form, scan_form, explain_form, reads_request, Outcome, misused, helped, versioned, out_of_memory, unread, refused, unscanned, broken, answered, explained, undecoded, unshown, shown, tree_shown, unnamed, unserialized, overlong, named, Writing, whole, cut, IsOutcome, IsWriting, IsRun, status_of, text_of, used_by}
+use Rattle.vx_query.specs.Running.{End, Form, scan_form, explain_form, reads_request, Outcome, misused, helped, versioned, out_of_memory, unread, refused, unscanned, broken, answered, explained, undecoded, unshown, shown, unnamed, unserialized, overlong, named, Writing, whole, cut, IsOutcome, IsWriting, IsRun, status_of, text_of, used_by}
 use Rattle.vx_query.specs.Causes.{HasRisen, IsMisuse, IsCut}
 use Rattle.vx_query.proofs.RequestEnds.{not_none}
 
@@ -24,8 +24,7 @@ unformed form i i' o o' used run = by run.outcome run.writing run.comes run.writ
     by (explained input a f p) whole comes written = absurd (omega (arith, written.0))
     by undecoded whole comes written = absurd (omega (arith, written.0))
     by (unshown e) whole comes written = absurd (omega (arith, written.0))
-    by (shown e) whole comes written = absurd (omega (arith, written.0))
-    by (tree_shown e) whole comes written = absurd (omega (arith, written.0))
+    by (shown showing e) whole comes written = absurd (omega (arith, written.0))
     by (unnamed e) whole comes written = absurd (omega (arith, written.0))
     by unserialized whole comes written = absurd (omega (arith, written.0))
     by overlong whole comes written = absurd (omega (arith, written.0))
@@ -55,8 +54,7 @@ misuses i i' o o' used status run quiet = by run.outcome run.writing run.comes r
     by (explained input a f p) whole comes written held = absurd (not_none (sym comes.0))
     by undecoded whole comes written held = absurd (not_none (sym comes.0.1))
     by (unshown e) whole comes written held = absurd (not_none (sym comes.0.1))
-    by (shown e) whole comes written held = absurd (not_none (sym comes.0.1))
-    by (tree_shown e) whole comes written held = absurd (not_none (sym comes.0.1))
+    by (shown showing e) whole comes written held = absurd (not_none (sym comes.0.1))
     by (unnamed e) whole comes written held = absurd (not_none (sym comes.0.1))
     by unserialized whole comes written held = absurd (not_none (sym comes.0.2))
     by overlong whole comes written held = absurd (not_none (sym comes.0.2))
@@ -83,8 +81,7 @@ broken_scans form i i' o o' used run = by run.outcome run.writing run.comes run.
     by (explained input a f p) whole comes written = absurd (omega (arith, written.0))
     by undecoded whole comes written = absurd (omega (arith, written.0))
     by (unshown e) whole comes written = absurd (omega (arith, written.0))
-    by (shown e) whole comes written = absurd (omega (arith, written.0))
-    by (tree_shown e) whole comes written = absurd (omega (arith, written.0))
+    by (shown showing e) whole comes written = absurd (omega (arith, written.0))
     by (unnamed e) whole comes written = absurd (omega (arith, written.0))
     by unserialized whole comes written = absurd (omega (arith, written.0))
     by overlong whole comes written = absurd (omega (arith, written.0))
@@ -110,8 +107,7 @@ scans_hold form i i' o o' used status other run = by run.outcome run.comes run.h
     by (explained input a f p) comes held = held
     by undecoded comes held = held
     by (unshown e) comes held = held
-    by (shown e) comes held = held
-    by (tree_shown e) comes held = held
+    by (shown showing e) comes held = held
     by (unnamed e) comes held = held
     by unserialized comes held = held
     by overlong comes held = held
@@ -137,8 +133,7 @@ others_take_nothing form i i' o o' used status none run = by run.outcome run.com
     by (explained input a f p) comes = absurd (differs (Some explain_form) refl comes.0)
     by undecoded comes = comes.1
     by (unshown e) comes = comes.1
-    by (shown e) comes = comes.1
-    by (tree_shown e) comes = comes.1
+    by (shown showing e) comes = comes.1
     by (unnamed e) comes = comes.1
     by unserialized comes = comes.1
     by overlong comes = comes.1
@@ -165,8 +160,7 @@ source_risen form i i' o o' used run = by run.outcome run.writing run.comes run.
     by (explained input a f p) whole comes written = absurd (omega (arith, written.0))
     by undecoded whole comes written = absurd (omega (arith, written.0))
     by (unshown e) whole comes written = absurd (omega (arith, written.0))
-    by (shown e) whole comes written = absurd (omega (arith, written.0))
-    by (tree_shown e) whole comes written = absurd (omega (arith, written.0))
+    by (shown showing e) whole comes written = absurd (omega (arith, written.0))
     by (unnamed e) whole comes written = absurd (omega (arith, written.0))
     by unserialized whole comes written = absurd (omega (arith, written.0))
     by overlong whole comes written = absurd (omega (arith, written.0))
@@ -191,8 +185,7 @@ sink_risen form i i' o o' used run = by run.outcome run.writing run.comes run.wr
     by (explained input a f p) whole comes written = absurd (omega (arith, written.0))
     by undecoded whole comes written = absurd (omega (arith, written.0))
     by (unshown e) whole comes written = absurd (omega (arith, written.0))
-    by (shown e) whole comes written = absurd (omega (arith, written.0))
-    by (tree_shown e) whole comes written = absurd (omega (arith, written.0))
+    by (shown showing e) whole comes written = absurd (omega (arith, written.0))
     by (unnamed e) whole comes written = absurd (omega (arith, written.0))
     by unserialized whole comes written = absurd (omega (arith, written.0))
     by overlong whole comes written = absurd (omega (arith, written.0))

@@ -8,13 +8,11 @@ use Rattle.vx_dtype.specs.Types.{Bytes}
 use Rattle.vx_semantics.specs.Breaks.{by_sum, by_cast}
 use Rattle.vx_io.specs.Counts.{one_more}
 use Rattle.vx_io.specs.Ends.{TookUpTo}
-use Rattle.vx_display.specs.TreeTexts.{tree_text_of}
-use Rattle.vx_explain.specs.Explaining.{shown_line}
 use Rattle.vx_scan.specs.Stores.{Seen}
 use Rattle.vx_request.specs.Requests.{most_bytes}
 use Rattle.vx_request.specs.declared.errors.RequestError.TheVariants as requests
 use Rattle.vx_query.specs.EndingViews.{ending_status, ending_text, EndsBy, IsAnswered}
-use Rattle.vx_query.specs.Running.{End, Form, scan_form, explain_form, show_form, show_tree_form, text_form, reads_request, shown_word, Outcome, out_of_memory, unread, refused, unscanned, broken, answered, explained, undecoded, unshown, shown, tree_shown, unnamed, unserialized, overlong, named, Writing, IsOutcome, IsTaken, IsPartTaken, IsWriting, IsRun, status_of, text_of, used_by}
+use Rattle.vx_query.specs.Running.{End, Form, Showing, shown_text, scan_form, explain_form, show_form, text_form, reads_request, shown_word, Outcome, out_of_memory, unread, refused, unscanned, broken, answered, explained, undecoded, unshown, shown, unnamed, unserialized, overlong, named, Writing, IsOutcome, IsTaken, IsPartTaken, IsWriting, IsRun, status_of, text_of, used_by}
 use Rattle.vx_query.specs.RefusalViews.{refusal_status, refusal_text, input_refusal, IsUnanswered, IsWordUnshown, IsQueryRefused}
 use Rattle.vx_query.specs.TextViews.{answer_status, answer_text, ExplainsInput, ShowsWord, AnswersQuery, IsAnsweredBy}
 use Rattle.vx_io.specs.declared.reading.InputError.{InputError}
@@ -106,19 +104,12 @@ explained_taken before after input (Ok text) part taken h = record {
 explained_taken before after input (Err r) part taken h =
     answered_refusal (Some explain_form) before after r (refused_taken (Some explain_form) refl before after input r part taken h)
 
-pub word_shown : (word : Bytes) (source : End) (answer : Result (String Global) Refusal) → ShowsWord shown_line word answer
-    → IsAnsweredBy (Some (show_form word)) source source answer
-word_shown word source (Ok text) h =
-    record { outcome = shown h.0; comes = ((word, refl, h.1), refl); status = refl; text = sym h.2; unheld = refl }
-word_shown word source (Err r) h =
-    answered_refusal (Some (show_form word)) source source r (word_refused (Some (show_form word)) word refl source r h)
-
-pub word_shown_as_tree : (word : Bytes) (source : End) (answer : Result (String Global) Refusal) → ShowsWord tree_text_of word answer
-    → IsAnsweredBy (Some (show_tree_form word)) source source answer
-word_shown_as_tree word source (Ok text) h =
-    record { outcome = tree_shown h.0; comes = ((word, refl, h.1), refl); status = refl; text = sym h.2; unheld = refl }
-word_shown_as_tree word source (Err r) h =
-    answered_refusal (Some (show_tree_form word)) source source r (word_refused (Some (show_tree_form word)) word refl source r h)
+pub word_shown : (showing : Showing) (word : Bytes) (source : End) (answer : Result (String Global) Refusal) → ShowsWord (shown_text showing) word answer
+    → IsAnsweredBy (Some (show_form showing word)) source source answer
+word_shown showing word source (Ok text) h =
+    record { outcome = shown showing h.0; comes = ((word, refl, h.1), refl); status = refl; text = sym h.2; unheld = refl }
+word_shown showing word source (Err r) h =
+    answered_refusal (Some (show_form showing word)) source source r (word_refused (Some (show_form showing word)) word refl source r h)
 
 -- a query that is answered
 pub query_answered : (query : Bytes) (source : End) (answer : Result (String Global) Refusal) → AnswersQuery query answer

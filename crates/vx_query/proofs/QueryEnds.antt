@@ -8,7 +8,7 @@ use Rattle.vx_scan.specs.Stores.{Seen}
 use Rattle.vx_text.specs.Reading.{reading_of}
 use Rattle.vx_text.specs.declared.errors.TextError.{TextError}
 use Rattle.vx_query.specs.Refusals.{text_refusal_name, refusal_line}
-use Rattle.vx_query.specs.Running.{End, Form, Names, IsShallow, HasBytes, IsOverlong, bytes_line, scan_form, explain_form, show_form, show_tree_form, text_form, help_form, version_form, asked_query, Outcome, misused, helped, versioned, out_of_memory, unread, refused, unscanned, broken, answered, explained, undecoded, unshown, shown, tree_shown, unnamed, unserialized, overlong, named, Writing, whole, cut, IsOutcome, IsWriting, IsRun, status_of, text_of, used_by}
+use Rattle.vx_query.specs.Running.{End, Form, Names, IsShallow, HasBytes, IsOverlong, bytes_line, scan_form, explain_form, show_form, text_form, help_form, version_form, asked_query, Outcome, misused, helped, versioned, out_of_memory, unread, refused, unscanned, broken, answered, explained, undecoded, unshown, shown, unnamed, unserialized, overlong, named, Writing, whole, cut, IsOutcome, IsWriting, IsRun, status_of, text_of, used_by}
 use Rattle.vx_query.specs.Causes.{HasRisen}
 use Rattle.vx_query.proofs.RequestEnds.{not_none}
 
@@ -52,8 +52,7 @@ query_end query i i' o o' used status run = by run.outcome run.writing run.comes
     by (explained input a f p) whole comes written held = absurd (asks_other query (Some explain_form) refl comes.0)
     by undecoded whole comes written held = absurd (not_none (sym comes.0.1))
     by (unshown e) whole comes written held = absurd (not_none (sym comes.0.1))
-    by (shown e) whole comes written held = absurd (asks_other query (Some (show_form comes.0.0)) refl comes.0.1)
-    by (tree_shown e) whole comes written held = absurd (asks_other query (Some (show_tree_form comes.0.0)) refl comes.0.1)
+    by (shown showing e) whole comes written held = absurd (asks_other query (Some (show_form showing comes.0.0)) refl comes.0.1)
     by (unnamed e) whole comes written held =
         no_query e written.0 (subst (λ q. reading_of q ≡ Err e) (same_query query comes.0.0 comes.0.1) comes.0.2) written.1.0
     by unserialized whole comes written held =

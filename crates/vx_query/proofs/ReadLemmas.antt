@@ -23,7 +23,7 @@ use Rattle.vx_scan.proofs.AskedLemmas.{reads_are_asked}
 use Rattle.vx_scan.proofs.BlockLemmas.{table_lengths}
 use Rattle.vx_request.specs.Requests.{RequestedScan, request_of}
 use Rattle.vx_query.specs.Shapes.{agree}
-use Rattle.vx_query.specs.Running.{End, Form, HoldsScan, scan_table, scan_reads, scanned_store, broken_store, Outcome, misused, helped, versioned, out_of_memory, unread, refused, unscanned, broken, answered, explained, undecoded, unshown, shown, tree_shown, unnamed, unserialized, overlong, named, IsOutcome, IsRun, used_by}
+use Rattle.vx_query.specs.Running.{End, Form, HoldsScan, scan_table, scan_reads, scanned_store, broken_store, Outcome, misused, helped, versioned, out_of_memory, unread, refused, unscanned, broken, answered, explained, undecoded, unshown, shown, unnamed, unserialized, overlong, named, IsOutcome, IsRun, used_by}
 use Rattle.vx_query.specs.Causes.{HasAskedReads}
 use Rattle.vx_query.proofs.CellLemmas.{and_left}
 use Rattle.vx_query.proofs.ShapeLemmas.{agree_in}
@@ -139,8 +139,7 @@ asked_alone kept form i i' o o' store status run = by run.outcome run.comes run.
     by (explained input a f p) comes held = absurd (not_none held)
     by undecoded comes held = absurd (not_none held)
     by (unshown e) comes held = absurd (not_none held)
-    by (shown e) comes held = absurd (not_none held)
-    by (tree_shown e) comes held = absurd (not_none held)
+    by (shown showing e) comes held = absurd (not_none held)
     by (unnamed e) comes held = absurd (not_none held)
     by unserialized comes held = absurd (not_none held)
     by overlong comes held = absurd (not_none held)

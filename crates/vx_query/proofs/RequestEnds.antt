@@ -10,7 +10,7 @@ use Rattle.vx_explain.specs.Explanations.{explain_text}
 use Rattle.vx_request.specs.Requests.{RequestedScan, request_of}
 use Rattle.vx_request.specs.declared.errors.RequestError.{RequestError}
 use Rattle.vx_query.specs.Refusals.{request_refusal_name, scan_refusal_name, break_name, refusal_line}
-use Rattle.vx_query.specs.Running.{End, Form, HoldsScan, HoldsRefused, scan_breaks, scan_breaks_by, scan_report, scanned_store, broken_store, scan_form, explain_form, show_form, show_tree_form, text_form, help_form, version_form, reads_request, shown_word, asked_query, IsTaken, Outcome, misused, helped, versioned, out_of_memory, unread, refused, unscanned, broken, answered, explained, undecoded, unshown, shown, tree_shown, unnamed, unserialized, overlong, named, Writing, whole, cut, IsOutcome, IsWriting, IsRun, status_of, text_of, used_by}
+use Rattle.vx_query.specs.Running.{End, Form, HoldsScan, HoldsRefused, scan_breaks, scan_breaks_by, scan_report, scanned_store, broken_store, scan_form, explain_form, show_form, text_form, help_form, version_form, reads_request, shown_word, asked_query, IsTaken, Outcome, misused, helped, versioned, out_of_memory, unread, refused, unscanned, broken, answered, explained, undecoded, unshown, shown, unnamed, unserialized, overlong, named, Writing, whole, cut, IsOutcome, IsWriting, IsRun, status_of, text_of, used_by}
 use Rattle.vx_query.specs.Causes.{HasRisen}
 
 pub not_none : {X : Type 0} {x : X} → Some x ≡ None → ⊥
@@ -42,8 +42,7 @@ pub shows_none : (form : Option Form) (word : Bytes) → reads_request form ≡ 
 shows_none None word reads h = true≢false (sym reads)
 shows_none (Some scan_form) word reads h = not_none (sym h)
 shows_none (Some explain_form) word reads h = not_none (sym h)
-shows_none (Some (show_form other)) word reads h = true≢false (sym reads)
-shows_none (Some (show_tree_form other)) word reads h = true≢false (sym reads)
+shows_none (Some (show_form showing other)) word reads h = true≢false (sym reads)
 shows_none (Some (text_form other)) word reads h = true≢false (sym reads)
 shows_none (Some help_form) word reads h = true≢false (sym reads)
 shows_none (Some version_form) word reads h = true≢false (sym reads)
@@ -52,8 +51,7 @@ pub asks_none : (form : Option Form) (query : Bytes) → reads_request form ≡ 
 asks_none None query reads h = true≢false (sym reads)
 asks_none (Some scan_form) query reads h = not_none (sym h)
 asks_none (Some explain_form) query reads h = not_none (sym h)
-asks_none (Some (show_form other)) query reads h = true≢false (sym reads)
-asks_none (Some (show_tree_form other)) query reads h = true≢false (sym reads)
+asks_none (Some (show_form showing other)) query reads h = true≢false (sym reads)
 asks_none (Some (text_form other)) query reads h = true≢false (sym reads)
 asks_none (Some help_form) query reads h = true≢false (sym reads)
 asks_none (Some version_form) query reads h = true≢false (sym reads)
@@ -78,8 +76,7 @@ request_end form i i' o o' used status reads run = by run.outcome run.writing ru
     by (explained input a f p) whole comes written held = explains input a f p written.0 comes.0 comes.1.0 comes.1.1 written.1.0 held
     by undecoded whole comes written held = absurd (shows_none form comes.0.0 reads comes.0.1)
     by (unshown e) whole comes written held = absurd (shows_none form comes.0.0 reads comes.0.1)
-    by (shown e) whole comes written held = absurd (reads_other form (Some (show_form comes.0.0)) reads refl comes.0.1)
-    by (tree_shown e) whole comes written held = absurd (reads_other form (Some (show_tree_form comes.0.0)) reads refl comes.0.1)
+    by (shown showing e) whole comes written held = absurd (reads_other form (Some (show_form showing comes.0.0)) reads refl comes.0.1)
     by (unnamed e) whole comes written held = absurd (asks_none form comes.0.0 reads comes.0.1)
     by unserialized whole comes written held = absurd (asks_none form comes.0.0 reads comes.0.2)
     by overlong whole comes written held = absurd (asks_none form comes.0.0 reads comes.0.2)

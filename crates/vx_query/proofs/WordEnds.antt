@@ -3,14 +3,12 @@ use Rattle.std.proofs.Common.{◌≡◌, ◌∙◌, sym, ap, refl, subst, ℕ, t
 use Rattle.std.proofs.lemmas.Option.{same_Some}
 use Rattle.vx_dtype.specs.Types.{Bytes}
 use Rattle.vx_expr.specs.Trees.{Tree}
-use Rattle.vx_display.specs.TreeTexts.{tree_text_of}
 use Rattle.vx_io.specs.Ends.{Added}
 use Rattle.vx_scan.specs.Stores.{Seen}
 use Rattle.vx_scan.specs.declared.errors.ScanError.{ScanError}
-use Rattle.vx_explain.specs.Explaining.{shown_line}
 use Rattle.vx_request.specs.Requests.{hex_bytes}
 use Rattle.vx_query.specs.Refusals.{scan_refusal_name, refusal_line}
-use Rattle.vx_query.specs.Running.{End, Form, WordSpells, WordIsRefused, scan_form, explain_form, show_form, show_tree_form, text_form, help_form, version_form, reads_request, shown_word, asked_query, Outcome, misused, helped, versioned, out_of_memory, unread, refused, unscanned, broken, answered, explained, undecoded, unshown, shown, tree_shown, unnamed, unserialized, overlong, named, Writing, whole, cut, IsOutcome, IsWriting, IsRun, status_of, text_of, used_by}
+use Rattle.vx_query.specs.Running.{End, Form, Showing, shown_text, WordSpells, WordIsRefused, scan_form, explain_form, show_form, text_form, help_form, version_form, reads_request, shown_word, asked_query, Outcome, misused, helped, versioned, out_of_memory, unread, refused, unscanned, broken, answered, explained, undecoded, unshown, shown, unnamed, unserialized, overlong, named, Writing, whole, cut, IsOutcome, IsWriting, IsRun, status_of, text_of, used_by}
 use Rattle.vx_query.specs.Causes.{HasRisen}
 use Rattle.vx_query.proofs.RequestEnds.{not_none, shows_none}
 
@@ -22,10 +20,8 @@ pub data WordEnd (form : Option Form) (word : Bytes) (i i' o o' : End) (used : O
       → WordEnd form word i i' o o' used status
   no_expression : (e : ScanError) → status ≡ 4 → WordIsRefused word e → Added o.bytes o'.bytes (refusal_line (scan_refusal_name e))
       → WordEnd form word i i' o o' used status
-  line : (e : Tree) → status ≡ 0 → form ≡ Some (show_form word) → WordSpells word e → i' ≡ i → Added o.bytes o'.bytes (shown_line e) → used ≡ None
-      → WordEnd form word i i' o o' used status
-  drawn : (e : Tree) → status ≡ 0 → form ≡ Some (show_tree_form word) → WordSpells word e → i' ≡ i → Added o.bytes o'.bytes (tree_text_of e) → used ≡ None
-      → WordEnd form word i i' o o' used status
+  told : (showing : Showing) (e : Tree) → status ≡ 0 → form ≡ Some (show_form showing word) → WordSpells word e → i' ≡ i
+      → Added o.bytes o'.bytes (shown_text showing e) → used ≡ None → WordEnd form word i i' o o' used status
 
 -- such arguments are of no other form, read no request, and ask no query
 shows_other : (form other : Option Form) (word : Bytes) → shown_word form ≡ Some word → shown_word other ≡ None → ¬ (form ≡ other)
@@ -35,8 +31,7 @@ shows_no_query : (form : Option Form) (word query : Bytes) → shown_word form �
 shows_no_query None word query shows h = not_none (sym shows)
 shows_no_query (Some scan_form) word query shows h = not_none (sym shows)
 shows_no_query (Some explain_form) word query shows h = not_none (sym shows)
-shows_no_query (Some (show_form other)) word query shows h = not_none (sym h)
-shows_no_query (Some (show_tree_form other)) word query shows h = not_none (sym h)
+shows_no_query (Some (show_form showing other)) word query shows h = not_none (sym h)
 shows_no_query (Some (text_form other)) word query shows h = not_none (sym shows)
 shows_no_query (Some help_form) word query shows h = not_none (sym shows)
 shows_no_query (Some version_form) word query shows h = not_none (sym shows)
@@ -69,12 +64,9 @@ word_end form word i i' o o' used status shows run = by run.outcome run.writing 
         no_digits written.0 (subst (λ w. hex_bytes w ≡ None) (same_word form word comes.0.0 shows comes.0.1) comes.0.2) written.1.0
     by (unshown e) whole comes written held =
         no_expression e written.0 (subst (λ w. WordIsRefused w e) (same_word form word comes.0.0 shows comes.0.1) comes.0.2) written.1.0
-    by (shown e) whole comes written held =
+    by (shown showing e) whole comes written held =
         let same = same_word form word comes.0.0 shows (ap shown_word comes.0.1) in
-        line e written.0 (subst (λ w. form ≡ Some (show_form w)) same comes.0.1) (subst (λ w. WordSpells w e) same comes.0.2) comes.1 written.1.0 held
-    by (tree_shown e) whole comes written held =
-        let same = same_word form word comes.0.0 shows (ap shown_word comes.0.1) in
-        drawn e written.0 (subst (λ w. form ≡ Some (show_tree_form w)) same comes.0.1) (subst (λ w. WordSpells w e) same comes.0.2) comes.1 written.1.0 held
+        told showing e written.0 (subst (λ w. form ≡ Some (show_form showing w)) same comes.0.1) (subst (λ w. WordSpells w e) same comes.0.2) comes.1 written.1.0 held
     by (unnamed e) whole comes written held = absurd (shows_no_query form word comes.0.0 shows comes.0.1)
     by unserialized whole comes written held = absurd (shows_no_query form word comes.0.0 shows comes.0.2)
     by overlong whole comes written held = absurd (shows_no_query form word comes.0.0 shows comes.0.2)

@@ -3,15 +3,22 @@ use Rattle.vx_scan.specs.StoreViews.{StoreState}
 use Rattle.vx_dtype.specs.Types.{Bytes}
 use Rattle.vx_request.specs.Requests.{RequestedScan}
 use Rattle.vx_query.specs.Running as running
+use Rattle.vx_query.specs.declared.forms.Showing.{Showing}
+use Rattle.vx_query.specs.declared.forms.Showing.TheVariants.{Line, Tree, Query}
 use Rattle.vx_query.specs.declared.forms.Form.{Form}
-use Rattle.vx_query.specs.declared.forms.Form.TheVariants.{Scan, Explain, Show, ShowTree, Text, Help, Version}
+use Rattle.vx_query.specs.declared.forms.Form.TheVariants.{Scan, Explain, Show, Text, Help, Version}
+
+-- how an expression is shown, as a value of the code says
+abbrev pub showing_view : Showing → running.Showing
+showing_view Line = running.as_line
+showing_view Tree = running.as_tree
+showing_view Query = running.as_query
 
 -- the form that a value of the code stands for
 abbrev pub form_view : Form → running.Form
 form_view Scan = running.scan_form
 form_view Explain = running.explain_form
-form_view (Show hex) = running.show_form hex.now
-form_view (ShowTree hex) = running.show_tree_form hex.now
+form_view (Show showing hex) = running.show_form (showing_view showing) hex.now
 form_view (Text query) = running.text_form query.now
 form_view Help = running.help_form
 form_view Version = running.version_form

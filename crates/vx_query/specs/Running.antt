@@ -16,7 +16,7 @@ use Rattle.vx_text.specs.declared.errors.TextError.{TextError}
 use Rattle.vx_display.specs.ValueTexts.{value_text}
 use Rattle.vx_display.specs.TreeTexts.{tree_text_of}
 use Rattle.vx_explain.specs.Explanations.{explain_text}
-use Rattle.vx_explain.specs.Explaining.{shown_line}
+use Rattle.vx_explain.specs.Explaining.{shown_line, query_line}
 use Rattle.vx_scan.specs.Blocks.{table_of}
 use Rattle.vx_io.specs.Counts.{one_more}
 use Rattle.vx_scan.specs.Scanning.{scan_type}
@@ -30,12 +30,23 @@ use Rattle.vx_request.specs.Requests.{RequestedScan, request_of, most_bytes, hex
 use Rattle.vx_request.specs.declared.errors.RequestError.{RequestError}
 use Rattle.vx_query.specs.Refusals.{request_refusal_name, scan_refusal_name, text_refusal_name, break_name, refusal_line}
 
+-- how an expression is shown: in a line, as a tree, or as the query that names it
+pub data Showing : Type 0 where
+  as_line : Showing
+  as_tree : Showing
+  as_query : Showing
+
+-- the text of an expression that is shown so
+abbrev pub shown_text : Showing → Tree → Bytes
+shown_text as_line = shown_line
+shown_text as_tree = tree_text_of
+shown_text as_query = query_line
+
 -- the forms of arguments
 pub data Form : Type 0 where
   scan_form : Form
   explain_form : Form
-  show_form : Bytes → Form
-  show_tree_form : Bytes → Form
+  show_form : Showing → Bytes → Form
   text_form : Bytes → Form
   help_form : Form
   version_form : Form
@@ -48,13 +59,14 @@ form_named argument =
     (cond (bytes_eq argument (codes "--help")) (Some help_form)
     (cond (bytes_eq argument (codes "--version")) (Some version_form) None)))
 
--- the form that arguments have; any one word may stand behind `show`, behind `show tree` and behind `text`
+-- the form that arguments have; any one word may stand behind `show`, `show tree`, `show query` and `text`
 abbrev pub form_of : List Bytes → Option Form
 form_of (argument ∷ []) = form_named argument
 form_of (first ∷ word ∷ []) =
-    cond (bytes_eq first (codes "show")) (Some (show_form word)) (cond (bytes_eq first (codes "text")) (Some (text_form word)) None)
+    cond (bytes_eq first (codes "show")) (Some (show_form as_line word)) (cond (bytes_eq first (codes "text")) (Some (text_form word)) None)
 form_of (first ∷ second ∷ word ∷ []) =
-    cond (bytes_eq first (codes "show") && bytes_eq second (codes "tree")) (Some (show_tree_form word)) None
+    cond (bytes_eq first (codes "show") && bytes_eq second (codes "tree")) (Some (show_form as_tree word))
+    (cond (bytes_eq first (codes "show") && bytes_eq second (codes "query")) (Some (show_form as_query word)) None)
 form_of _ = None
 
 -- whether arguments of this form read a request
@@ -65,8 +77,7 @@ reads_request _ = false
 
 -- the word of an expression that is to be shown, where the arguments have such a form
 abbrev pub shown_word : Option Form → Option Bytes
-shown_word (Some (show_form word)) = Some word
-shown_word (Some (show_tree_form word)) = Some word
+shown_word (Some (show_form showing word)) = Some word
 shown_word _ = None
 
 -- the query whose expression's bytes are to be written, where the arguments have that form
@@ -180,7 +191,7 @@ scan_breaks_by cause a f p = first_breaks_by cause (row_type a.zones.columns) []
 
 -- how the program comes to an end: arguments of no form, help, the version, no memory, an input that can't be read, one that is no request, one whose
 -- expressions are refused, one whose scan breaks by a sum or a cast, one that is answered by a report and one by an explanation; a word to be shown that
--- is no hexadecimal text, one whose bytes spell no expression, and one that is shown, in a line or as a tree; a query that names no expression, one of whose
+-- is no hexadecimal text, one whose bytes spell no expression, and one that is shown; a query that names no expression, one of whose
 -- expression there are no bytes, for a type that is too deep or a part that is too long, and one of whose expression the bytes are written
 pub data Outcome : Type 0 where
   misused : Outcome
@@ -195,8 +206,7 @@ pub data Outcome : Type 0 where
   explained : Bytes → RequestedScan → Tree → Tree → Outcome
   undecoded : Outcome
   unshown : ScanError → Outcome
-  shown : Tree → Outcome
-  tree_shown : Tree → Outcome
+  shown : Showing → Tree → Outcome
   unnamed : TextError → Outcome
   unserialized : Outcome
   overlong : Outcome
@@ -234,8 +244,7 @@ IsOutcome form before after (answered input a f p) =
 IsOutcome form before after (explained input a f p) = (form ≡ Some explain_form) × (IsTaken before after input × HoldsScan input a f p)
 IsOutcome form before after undecoded = ((word : Bytes) × (shown_word form ≡ Some word) × (hex_bytes word ≡ None)) × (after ≡ before)
 IsOutcome form before after (unshown e) = ((word : Bytes) × (shown_word form ≡ Some word) × WordIsRefused word e) × (after ≡ before)
-IsOutcome form before after (shown e) = ((word : Bytes) × (form ≡ Some (show_form word)) × WordSpells word e) × (after ≡ before)
-IsOutcome form before after (tree_shown e) = ((word : Bytes) × (form ≡ Some (show_tree_form word)) × WordSpells word e) × (after ≡ before)
+IsOutcome form before after (shown showing e) = ((word : Bytes) × (form ≡ Some (show_form showing word)) × WordSpells word e) × (after ≡ before)
 IsOutcome form before after (unnamed e) = ((query : Bytes) × (asked_query form ≡ Some query) × (reading_of query ≡ Err e)) × (after ≡ before)
 IsOutcome form before after unserialized =
     ((query : Bytes) × (e : Tree) × (asked_query form ≡ Some query) × Names query e × (¬ (IsShallow e))) × (after ≡ before)
@@ -254,11 +263,12 @@ help_text =
     ++ (codes "vx explain < REQUEST   prints what a scan does with its filter and its projection, as in: vx explain < examples/explain.json\n"
     ++ (codes "vx show HEX            prints the expression that the bytes spell, as in: vx show 04726f6f740000\n"
     ++ (codes "vx show tree HEX       prints it as a tree, as in: vx show tree 04726f6f740000\n"
+    ++ (codes "vx show query HEX      prints the query that names it, as in: vx show query 04726f6f740000\n"
     ++ (codes "vx text QUERY          prints the bytes of the expression that a query names, as in: vx text 'x > 10i32'\n"
     ++ (codes "vx --help              prints this text\n"
     ++ (codes "vx --version           prints the version\n"
     ++ (codes "exit status: 0 written whole, 2 wrong arguments, 3 no request or no hex, 4 refused expressions or query, 5 overflow or bad cast,\n"
-    ++ (codes "6 input not read, 7 output not written, 8 no memory\n"))))))))
+    ++ (codes "6 input not read, 7 output not written, 8 no memory\n")))))))))
 
 -- the exit status of an outcome
 abbrev pub status_of : Outcome → ℕ
@@ -274,8 +284,7 @@ status_of (answered input a f p) = 0
 status_of (explained input a f p) = 0
 status_of undecoded = 3
 status_of (unshown e) = 4
-status_of (shown e) = 0
-status_of (tree_shown e) = 0
+status_of (shown showing e) = 0
 status_of (unnamed e) = 4
 status_of unserialized = 4
 status_of overlong = 4
@@ -295,8 +304,7 @@ text_of (answered input a f p) = scan_report a f p
 text_of (explained input a f p) = explain_text a.zones f p
 text_of undecoded = refusal_line (codes "BadHex text")
 text_of (unshown e) = refusal_line (scan_refusal_name e)
-text_of (shown e) = shown_line e
-text_of (tree_shown e) = tree_text_of e
+text_of (shown showing e) = shown_text showing e
 text_of (unnamed e) = refusal_line (text_refusal_name e)
 text_of unserialized = refusal_line (codes "NotSerializable")
 text_of overlong = refusal_line (codes "TooLong")

@@ -4,18 +4,16 @@ ghost use Rattle.vx_dtype.specs.Types.{Bytes};
 ghost use Rattle.vx_expr.specs.Trees.{Tree};
 ghost use Rattle.vx_semantics.specs.Breaks.{Cause};
 ghost use Rattle.vx_semantics.specs.Honest.{IsHonest};
-ghost use Rattle.vx_display.specs.TreeTexts.{tree_text_of};
 ghost use Rattle.vx_io.specs.Ends.{Added};
 ghost use Rattle.vx_scan.specs.Stores.{Seen};
 ghost use Rattle.vx_explain.specs.Explanations.{explain_text};
-ghost use Rattle.vx_explain.specs.Explaining.{shown_line};
 ghost use Rattle.vx_query.specs.Causes.{HasRisen, IsReported, IsRefused, IsUnscanned, IsBroken, HasBroken, HasAskedReads, IsCut, TellsScan};
 ghost use Rattle.vx_query.specs.Causes.{told_breaks, told_breaks_by, whole_report};
 ghost use Rattle.vx_query.specs.Exactly.{Tells, RunsWell, EndsWith};
 ghost use Rattle.vx_query.specs.Refusals.{refusal_line, break_name};
 ghost use Rattle.vx_query.specs.WireLaws.{WireLaws};
 ghost use Rattle.vx_query.specs.Running.{End, Form, IsRun, reads_request, scan_table, scan_report, scanned_store, broken_store, bytes_line};
-ghost use Rattle.vx_query.specs.Running.{scan_form, explain_form, show_form, show_tree_form, text_form, WordSpells, Names, HasBytes};
+ghost use Rattle.vx_query.specs.Running.{Showing, scan_form, explain_form, show_form, text_form, shown_text, WordSpells, Names, HasBytes};
 
 use vx_laws_scan::{kept_numbers_are_kept_blocks, kept_rows_are_all};
 use vx_wire::{one_expression, one_tree};
@@ -75,7 +73,7 @@ pub fn reads_are_asked()
 
 /// Where there is memory, and no end counts a fault, a run of `scan` over a source that tells its bytes, which hold a scan no
 /// phase of which breaks, ends with 0 and the report of this scan; one of `explain` over bytes that hold a scan with 0 and its
-/// explanation; and one that shows a word whose bytes spell an expression with 0 and the expression's line, or its tree. One
+/// explanation; and one that shows a word whose bytes spell an expression with 0 and the expression's line, tree or query. One
 /// that asks the bytes of a query ends with 0 and the bytes of the expression that the query names, where this has any.
 pub fn answers_are_complete()
     ensures scan { (i i' o o' : End) (used : Option Seen) (status : ℕ) (told : TellsScan i) → told_breaks told ≡ false
@@ -83,10 +81,8 @@ pub fn answers_are_complete()
         → EndsWith 0 (scan_report told.asked told.filter told.projection) o o' status }
     ensures explain { (i i' o o' : End) (used : Option Seen) (status : ℕ) (told : TellsScan i) → RunsWell (Some explain_form) i i' o o' used status
         → ¬ (HasRisen i i') → EndsWith 0 (explain_text told.asked.zones told.filter told.projection) o o' status }
-    ensures show { (word : Bytes) (e : Tree) (i i' o o' : End) (used : Option Seen) (status : ℕ) → WordSpells word e
-        → RunsWell (Some (show_form word)) i i' o o' used status → EndsWith 0 (shown_line e) o o' status }
-    ensures show_tree { (word : Bytes) (e : Tree) (i i' o o' : End) (used : Option Seen) (status : ℕ) → WordSpells word e
-        → RunsWell (Some (show_tree_form word)) i i' o o' used status → EndsWith 0 (tree_text_of e) o o' status }
+    ensures show { (showing : Showing) (word : Bytes) (e : Tree) (i i' o o' : End) (used : Option Seen) (status : ℕ) → WordSpells word e
+        → RunsWell (Some (show_form showing word)) i i' o o' used status → EndsWith 0 (shown_text showing e) o o' status }
     ensures text { (query : Bytes) (e : Tree) (i i' o o' : End) (used : Option Seen) (status : ℕ) → Names query e → HasBytes e
         → RunsWell (Some (text_form query)) i i' o o' used status → EndsWith 0 (bytes_line e) o o' status }
 {

@@ -1,13 +1,11 @@
 // What the exit status of a run tells of the form of its arguments.
 ghost use Rattle.std.specs.Prelude.{◌≡◌, ℕ, false, Option, None, Some};
 ghost use Rattle.vx_dtype.specs.Types.{Bytes};
-ghost use Rattle.vx_display.specs.TreeTexts.{tree_text_of};
 ghost use Rattle.vx_io.specs.Ends.{Added};
 ghost use Rattle.vx_scan.specs.Stores.{Seen};
 ghost use Rattle.vx_explain.specs.Explanations.{explain_text};
-ghost use Rattle.vx_explain.specs.Explaining.{shown_line};
 ghost use Rattle.vx_query.specs.Causes.{HasRisen, IsExplained, IsShown, IsMisuse, TellsScan};
-ghost use Rattle.vx_query.specs.Running.{End, Form, IsRun, reads_request, scan_form, explain_form, show_form, show_tree_form};
+ghost use Rattle.vx_query.specs.Running.{End, Form, IsRun, Showing, reads_request, scan_form, explain_form, show_form, shown_text};
 
 use crate::causes::wire_laws;
 
@@ -40,10 +38,8 @@ pub fn explanations_are_of_the_request()
 }
 
 /// 0 of the argument `show` with a word means that the bytes of the word, two hexadecimal digits for each, spell an
-/// expression, whose line was written whole; and 0 of `show tree` that its tree was.
+/// expression, whose line was written whole; 0 of `show tree` that its tree was, and of `show query` the query that names it.
 pub fn shown_texts_are_spelled()
-    ensures line { (word : Bytes) (i i' o o' : End) (used : Option Seen) → IsRun (Some (show_form word)) i i' o o' used 0
-        → IsShown shown_line word i i' o o' used }
-    ensures tree { (word : Bytes) (i i' o o' : End) (used : Option Seen) → IsRun (Some (show_tree_form word)) i i' o o' used 0
-        → IsShown tree_text_of word i i' o o' used }
+    ensures { (showing : Showing) (word : Bytes) (i i' o o' : End) (used : Option Seen) → IsRun (Some (show_form showing word)) i i' o o' used 0
+        → IsShown (shown_text showing) word i i' o o' used }
 {}

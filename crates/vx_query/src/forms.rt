@@ -4,6 +4,17 @@ ghost use Rattle.std.specs.String.{string_bytes};
 ghost use Rattle.vx_query.specs.Running.{form_of};
 ghost use Rattle.vx_query.specs.RunViews.{form_view};
 
+/// How an expression is shown.
+#[derive(Clone, Copy)]
+pub(crate) enum Showing {
+    /// In a line.
+    Line,
+    /// As a tree.
+    Tree,
+    /// As the query that names it.
+    Query,
+}
+
 /// A form of arguments: what the program is to do.
 #[derive(Drop)]
 pub(crate) enum Form<'a> {
@@ -12,9 +23,7 @@ pub(crate) enum Form<'a> {
     /// Explains the scan of a request.
     Explain,
     /// Shows the expression that a word of hexadecimal digits spells.
-    Show(&'a str),
-    /// Shows it as a tree.
-    ShowTree(&'a str),
+    Show(Showing, &'a str),
     /// Tells the bytes of the expression that a query names.
     Text(&'a str),
     /// Tells the forms.
@@ -32,10 +41,15 @@ pub(crate) fn form_of(arguments: &[String]) -> Option<Form<'_>>
         [argument] if argument.as_str() == "explain" => Some(Form::Explain),
         [argument] if argument.as_str() == "--help" => Some(Form::Help),
         [argument] if argument.as_str() == "--version" => Some(Form::Version),
-        [first, hex] if first.as_str() == "show" => Some(Form::Show(hex.as_str())),
+        [first, hex] if first.as_str() == "show" => {
+            Some(Form::Show(Showing::Line, hex.as_str()))
+        }
         [first, query] if first.as_str() == "text" => Some(Form::Text(query.as_str())),
         [first, second, hex] if first.as_str() == "show" && second.as_str() == "tree" => {
-            Some(Form::ShowTree(hex.as_str()))
+            Some(Form::Show(Showing::Tree, hex.as_str()))
+        }
+        [first, second, hex] if first.as_str() == "show" && second.as_str() == "query" => {
+            Some(Form::Show(Showing::Query, hex.as_str()))
         }
         _ => None,
     }

@@ -12,7 +12,7 @@ use crate::endings::Ending;
 use crate::forms::{Form, form_of};
 use crate::queries::query_bytes;
 use crate::refusals::Refusal;
-use crate::texts::{explanation, shown, shown_as_tree};
+use crate::texts::{explanation, shown};
 use std::alloc::Global;
 use vx_io::{Sink, Source, read_up_to, write_whole};
 use vx_request::MOST_BYTES;
@@ -21,7 +21,7 @@ use vx_scan::MemoryStore;
 const USAGE: &str = "error: Usage\n";
 
 const HELP: &str =
-    "vx scan < REQUEST      prints the selected rows, the skipped blocks and the columns read, as in: vx scan < examples/first.json\nvx explain < REQUEST   prints what a scan does with its filter and its projection, as in: vx explain < examples/explain.json\nvx show HEX            prints the expression that the bytes spell, as in: vx show 04726f6f740000\nvx show tree HEX       prints it as a tree, as in: vx show tree 04726f6f740000\nvx text QUERY          prints the bytes of the expression that a query names, as in: vx text 'x > 10i32'\nvx --help              prints this text\nvx --version           prints the version\nexit status: 0 written whole, 2 wrong arguments, 3 no request or no hex, 4 refused expressions or query, 5 overflow or bad cast,\n6 input not read, 7 output not written, 8 no memory\n";
+    "vx scan < REQUEST      prints the selected rows, the skipped blocks and the columns read, as in: vx scan < examples/first.json\nvx explain < REQUEST   prints what a scan does with its filter and its projection, as in: vx explain < examples/explain.json\nvx show HEX            prints the expression that the bytes spell, as in: vx show 04726f6f740000\nvx show tree HEX       prints it as a tree, as in: vx show tree 04726f6f740000\nvx show query HEX      prints the query that names it, as in: vx show query 04726f6f740000\nvx text QUERY          prints the bytes of the expression that a query names, as in: vx text 'x > 10i32'\nvx --help              prints this text\nvx --version           prints the version\nexit status: 0 written whole, 2 wrong arguments, 3 no request or no hex, 4 refused expressions or query, 5 overflow or bad cast,\n6 input not read, 7 output not written, 8 no memory\n";
 
 const VERSION: &str = "vx 0.1.0\n";
 
@@ -29,8 +29,8 @@ const VERSION: &str = "vx 0.1.0\n";
 ///
 /// The argument `scan` takes the input, at most 16,777,217 bytes of it, and writes the report of the scan that the
 /// request in it holds; `explain` takes it likewise and writes what this scan does with its filter and its projection.
-/// `show` with one word of hexadecimal digits behind it writes the expression that these bytes spell, and `show tree` with
-/// one writes it as a tree. `text` with a query behind it writes the bytes of the expression that the query names, two
+/// `show` with one word of hexadecimal digits behind it writes the expression that these bytes spell, `show tree` with one
+/// writes it as a tree, and `show query` with one as the query that names it. `text` with a query behind it writes the bytes of the expression that the query names, two
 /// hexadecimal digits for each. `--help` and `--version` write their texts. These take nothing. The exit status is
 ///
 /// - 0 where the text was written whole;
@@ -73,8 +73,7 @@ pub fn run<I: Source, O: Sink>(
         Some(Form::Help) => write(output, HELP, 0),
         Some(Form::Version) => write(output, VERSION, 0),
         Some(Form::Explain) => write_answer(output, &explain_input(alloc, input)),
-        Some(Form::Show(hex)) => write_answer(output, &shown(alloc, hex)),
-        Some(Form::ShowTree(hex)) => write_answer(output, &shown_as_tree(alloc, hex)),
+        Some(Form::Show(showing, hex)) => write_answer(output, &shown(alloc, showing, hex)),
         Some(Form::Text(query)) => write_answer(output, &query_bytes(alloc, query)),
         Some(Form::Scan) => match scan_input(alloc, input, used) {
             Ok(ending) => write(output, ending.text(), ending.status()),

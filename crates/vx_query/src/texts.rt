@@ -1,15 +1,19 @@
 // Texts that answer an input or a word: explanations, and expressions that are shown.
 ghost use Rattle.std.specs.Prelude.{◌≡◌, Some, None, IfOk, IfErr};
 ghost use Rattle.vx_request.specs.Requests.{hex_bytes};
-ghost use Rattle.vx_display.specs.TreeTexts.{tree_text_of};
-ghost use Rattle.vx_explain.specs.Explaining.{shown_line};
+ghost use Rattle.vx_wire.specs.Registries.{registered};
+ghost use Rattle.vx_explain.specs.Explaining.{Shows};
 ghost use Rattle.vx_query.specs.RefusalViews.{IsWordUnshown};
+ghost use Rattle.vx_query.specs.Running.{shown_text};
+ghost use Rattle.vx_query.specs.RunViews.{showing_view};
 ghost use Rattle.vx_query.specs.TextViews.{ExplainsInput, ShowsWord};
 
+use crate::forms::Showing;
 use crate::refusals::Refusal;
 use std::alloc::Global;
-use vx_explain::{explain, show, show_tree};
+use vx_explain::{explain, show, show_query, show_tree};
 use vx_request::{decode_request, hex_bytes};
+use vx_scan::ScanError;
 use vx_wire::{ExprRegistry, ExprRegistryExt};
 
 /// The explanation of the scan that an input holds, or the one cause that there is none.
@@ -24,24 +28,31 @@ pub(crate) fn explanation(alloc: Global, input: &[u8]) -> Result<String, Refusal
     Ok(text)
 }
 
-/// The text of the expression that the bytes of a word of hexadecimal digits spell, or the one cause that there is none.
-pub(crate) fn shown(alloc: Global, hex: &str) -> Result<String, Refusal>
-    ensures { ShowsWord shown_line hex.now result }
+/// The text, shown so, of the expression that the bytes of a word of hexadecimal digits spell, or the one cause that there is
+/// none.
+pub(crate) fn shown(alloc: Global, showing: Showing, hex: &str) -> Result<String, Refusal>
+    ensures { ShowsWord (shown_text (showing_view showing)) hex.now result }
 {
     let bytes = word_bytes(alloc, hex)?;
     let registry = ExprRegistry::default();
-    let text = show(alloc, &registry, bytes.as_slice())?;
+    let text = shown_by(alloc, showing, &registry, bytes.as_slice())?;
     Ok(text)
 }
 
-/// The same as a tree.
-pub(crate) fn shown_as_tree(alloc: Global, hex: &str) -> Result<String, Refusal>
-    ensures { ShowsWord tree_text_of hex.now result }
+/// The text, shown so, of the expression that bytes spell.
+fn shown_by(
+    alloc: Global,
+    showing: Showing,
+    registry: &ExprRegistry,
+    bytes: &[u8],
+) -> Result<String, ScanError>
+    ensures { Shows (shown_text (showing_view showing)) (registered registry.now) bytes.now result }
 {
-    let bytes = word_bytes(alloc, hex)?;
-    let registry = ExprRegistry::default();
-    let text = show_tree(alloc, &registry, bytes.as_slice())?;
-    Ok(text)
+    match showing {
+        Showing::Line => show(alloc, registry, bytes),
+        Showing::Tree => show_tree(alloc, registry, bytes),
+        Showing::Query => show_query(alloc, registry, bytes),
+    }
 }
 
 /// The bytes that a word of hexadecimal digits stands for.

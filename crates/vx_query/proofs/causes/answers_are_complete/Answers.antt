@@ -1,5 +1,5 @@
 use Rattle.vx_query.proofs.CauseLemmas.{completed, explained_whole}
-use Rattle.vx_query.proofs.WordLemmas.{was_shown_whole, was_shown_as_tree_whole}
+use Rattle.vx_query.proofs.WordLemmas.{was_shown_whole}
 use Rattle.vx_query.proofs.QueryLemmas.{was_named_whole}
 use Rattle.vx_query.proofs.causes.answers_are_complete.Goals as goal
 
@@ -11,9 +11,6 @@ returns-clause-explain c = explained_whole c.wire_laws.ensures
 
 pub returns-clause-show : goal.returns-clause-show
 returns-clause-show c = was_shown_whole
-
-pub returns-clause-show_tree : goal.returns-clause-show_tree
-returns-clause-show_tree c = was_shown_as_tree_whole
 
 pub returns-clause-text : goal.returns-clause-text
 returns-clause-text c = was_named_whole

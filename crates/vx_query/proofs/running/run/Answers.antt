@@ -1,9 +1,9 @@
 use Rattle.std.proofs.Common.{◌∙◌, sym, ap, refl, map, option_map, Some, None}
 use Rattle.std.specs.String.{string_bytes}
-use Rattle.vx_query.specs.Running.{end_by, form_of, explain_form, show_form, show_tree_form, text_form, misused, helped, versioned}
+use Rattle.vx_query.specs.Running.{end_by, form_of, explain_form, show_form, text_form, misused, helped, versioned}
 use Rattle.vx_scan.specs.StoreViews.{store_seen}
-use Rattle.vx_query.specs.RunViews.{form_view}
-use Rattle.vx_query.proofs.OutcomeLemmas.{run_of, run_answered, run_ended, word_shown, word_shown_as_tree, query_answered}
+use Rattle.vx_query.specs.RunViews.{form_view, showing_view}
+use Rattle.vx_query.proofs.OutcomeLemmas.{run_of, run_answered, run_ended, word_shown, query_answered}
 use Rattle.vx_query.proofs.running.run.Goals as goal
 
 pub returns-in-None : goal.returns-in-None
@@ -40,18 +40,10 @@ returns-in-Some-Show g c =
     let source = end_by g.I.Source.left g.I.Source.faults in
     let sink = end_by g.O.Sink.written g.O.Sink.faults in
     let word = c.in-Some-Show.hex.now in
-    run_answered (form_of (map string_bytes c.args.arguments.now)) (Some (show_form word)) (source c.args.input.now) (source c.args.input.now) (sink c.args.output.now)
+    let showing = showing_view c.in-Some-Show.showing in
+    run_answered (form_of (map string_bytes c.args.arguments.now)) (Some (show_form showing word)) (source c.args.input.now) (source c.args.input.now) (sink c.args.output.now)
     (sink c.write_answer-in-Some-Show.new.output) c.write_answer-in-Some-Show.result c.shown.result (sym c.form_of.ensures ∙ ap (option_map form_view) (c.in-Some-Show.is ∙ ap Some c.in-Some-Show.field-0-is))
-    (word_shown word (source c.args.input.now) c.shown.result c.shown.ensures) c.write_answer-in-Some-Show.ensures
-
-pub returns-in-Some-ShowTree : goal.returns-in-Some-ShowTree
-returns-in-Some-ShowTree g c =
-    let source = end_by g.I.Source.left g.I.Source.faults in
-    let sink = end_by g.O.Sink.written g.O.Sink.faults in
-    let word = c.in-Some-ShowTree.hex.now in
-    run_answered (form_of (map string_bytes c.args.arguments.now)) (Some (show_tree_form word)) (source c.args.input.now) (source c.args.input.now) (sink c.args.output.now)
-    (sink c.write_answer-in-Some-ShowTree.new.output) c.write_answer-in-Some-ShowTree.result c.shown_as_tree.result (sym c.form_of.ensures ∙ ap (option_map form_view) (c.in-Some-ShowTree.is ∙ ap Some c.in-Some-ShowTree.field-0-is))
-    (word_shown_as_tree word (source c.args.input.now) c.shown_as_tree.result c.shown_as_tree.ensures) c.write_answer-in-Some-ShowTree.ensures
+    (word_shown showing word (source c.args.input.now) c.shown.result c.shown.ensures) c.write_answer-in-Some-Show.ensures
 
 pub returns-in-Some-Text : goal.returns-in-Some-Text
 returns-in-Some-Text g c =
