@@ -18,7 +18,8 @@ use Rattle.vx_query.specs.Refusals.{request_refusal_name, scan_refusal_name, bre
 use Rattle.vx_text.specs.Reading.{reading_of}
 use Rattle.vx_text.specs.declared.errors.TextError.TheVariants.{TooLong}
 use Rattle.vx_explain.specs.Explanations.{explain_text}
-use Rattle.vx_query.specs.Running.{End, Form, IsTaken, HoldsScan, HoldsRefused, WordSpells, Names, IsShallow, IsOverlong, HasBytes, bytes_line, Outcome, IsOutcome, text_of, scan_form, scan_table, scan_reads, scan_report, scan_breaks, scan_breaks_by, scanned_store, broken_store}
+use Rattle.vx_query.specs.Running.{End, Form, IsTaken, HoldsScan, HoldsRefused, WordSpells, Names, IsShallow, IsOverlong, HasBytes, bytes_line, Outcome}
+use Rattle.vx_query.specs.Running.{IsOutcome, text_of, scan_form, scan_table, scan_reads, scan_report, scan_breaks, scan_breaks_by, scanned_store, broken_store}
 
 -- an end counted a fault
 abbrev pub HasRisen : End → End → Type 0

@@ -15,7 +15,8 @@ use Rattle.vx_text.specs.declared.errors.TextError.TheVariants as texts
 use Rattle.vx_query.specs.Refusals.{request_refusal_name, scan_refusal_name, text_refusal_name, refusal_line}
 use Rattle.vx_query.specs.Running.{HoldsRefused, IsScanRefused, WordIsRefused, Names, IsShallow, IsOverlong}
 use Rattle.vx_query.specs.declared.refusals.Refusal.{Refusal}
-use Rattle.vx_query.specs.declared.refusals.Refusal.TheVariants.{NoMemory, ReadFault, InputTooLong, BadJson, BadRequest, BadHex, BadTable, BadHexText, Scan, Query, NotSerializable, LongPart}
+use Rattle.vx_query.specs.declared.refusals.Refusal.TheVariants.{NoMemory, ReadFault, InputTooLong, BadJson, BadRequest, BadHex, BadTable, BadHexText, Scan}
+use Rattle.vx_query.specs.declared.refusals.Refusal.TheVariants.{Query, NotSerializable, LongPart}
 
 -- the exit status of a refusal
 abbrev pub refusal_status : Refusal → ℕ

@@ -7,7 +7,8 @@ use Rattle.vx_request.specs.declared.errors.Place.TheVariants.{Top, Columns, Blo
 use Rattle.vx_request.specs.declared.errors.Side.{Side}
 use Rattle.vx_request.specs.declared.errors.Side.TheVariants as sides
 use Rattle.vx_request.specs.declared.errors.TableRefusal.{TableRefusal}
-use Rattle.vx_request.specs.declared.errors.TableRefusal.TheVariants.{DuplicateName, DeepType, BadStatPath, DuplicateStat, WrongStatCount, WrongStatType, WrongLength, WrongValue}
+use Rattle.vx_request.specs.declared.errors.TableRefusal.TheVariants.{DuplicateName, DeepType, BadStatPath, DuplicateStat, WrongStatCount, WrongStatType}
+use Rattle.vx_request.specs.declared.errors.TableRefusal.TheVariants.{WrongLength, WrongValue}
 use Rattle.vx_request.specs.declared.errors.RequestError.{RequestError}
 use Rattle.vx_scan.specs.declared.errors.Side.{Side as ScannedSide}
 use Rattle.vx_scan.specs.declared.errors.Side.TheVariants as scanned

@@ -14,7 +14,8 @@ use Rattle.vx_request.specs.declared.errors.Place.{Place}
 use Rattle.vx_request.specs.declared.errors.Side.{Side}
 use Rattle.vx_request.specs.declared.errors.Side.TheVariants.{Filter, Projection}
 use Rattle.vx_request.specs.declared.errors.TableRefusal.{TableRefusal}
-use Rattle.vx_request.specs.declared.errors.TableRefusal.TheVariants.{DuplicateName, DeepType, BadStatPath, DuplicateStat, WrongStatCount, WrongStatType, WrongLength, WrongValue}
+use Rattle.vx_request.specs.declared.errors.TableRefusal.TheVariants.{DuplicateName, DeepType, BadStatPath, DuplicateStat, WrongStatCount, WrongStatType}
+use Rattle.vx_request.specs.declared.errors.TableRefusal.TheVariants.{WrongLength, WrongValue}
 use Rattle.vx_request.specs.declared.errors.RequestError.{RequestError}
 use Rattle.vx_request.specs.declared.errors.RequestError.TheVariants.{NoMemory, InputTooLong, BadJson, BadRequest, BadHex, BadTable}
 

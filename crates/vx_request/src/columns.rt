@@ -94,7 +94,8 @@ pub(crate) fn blocks_of(
     dtypes: &[DType],
     blocks: &[Block<'_>],
 ) -> Mem<Option<Vec<Vec<ColumnRef>>>>
-    ensures { IfOk result (λ made. option_map (λ v. map columns_view v.items) made ≡ blocks_of (map type_view dtypes.now) (map (λ b. b.values) (map block_view blocks.now))) }
+    ensures { IfOk result (λ made. option_map (λ v. map columns_view v.items) made
+        ≡ blocks_of (map type_view dtypes.now) (map (λ b. b.values) (map block_view blocks.now))) }
 {
     let mut made = Vec::with_capacity(alloc, blocks.len())?;
     for block in blocks {

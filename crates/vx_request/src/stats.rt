@@ -143,7 +143,8 @@ fn type_of_statistic(
     columns: &StructFields,
     stat: &Statistic<'_>,
 ) -> Mem<Option<DType>>
-    ensures { IfOk result (λ found. option_map type_view found ≡ option_and_then (statistic_type (stat_view stat.now).stat) (leaf_type columns.now (stat_view stat.now).path)) }
+    ensures { IfOk result (λ found. option_map type_view found
+        ≡ option_and_then (statistic_type (stat_view stat.now).stat) (leaf_type columns.now (stat_view stat.now).path)) }
 {
     match leaf_type(alloc, columns, stat.path.as_slice())? {
         Some(leaf) => Ok(statistic_type(stat.stat, leaf)),
