@@ -10,12 +10,12 @@ use Rattle.std.proofs.lemmas.Bool.Decides.{nat_tests}
 use Rattle.std.proofs.lemmas.Grind.{flat_map-append}
 use Rattle.vx_dtype.specs.declared.PType.{PType}
 use Rattle.vx_dtype.specs.Types.{Bytes}
-use Rattle.vx_text.specs.declared.tokens.Sign.{Sign}
-use Rattle.vx_text.specs.declared.tokens.Sign.TheVariants as signs
-use Rattle.vx_text.specs.declared.tokens.Token.{Token}
-use Rattle.vx_text.specs.declared.tokens.Token.TheVariants.{Reserved, Word, Quoted, Quote, Number, Mark}
-use Rattle.vx_text.specs.Tokens.{◌>>=◌, is_blank, is_first, is_digit, is_inner, run_of, word_or, word_token, is_number, behind_mark, quoted_run, two_signs, one_sign, longer_sign, sign_at, word_behind, quoted_behind, token_at, behind_blank, next_token, tokens_within}
-use Rattle.vx_text.specs.Writing.{doubled, within_marks, is_word}
+use Rattle.vx_tokens.specs.declared.tokens.Sign.{Sign}
+use Rattle.vx_tokens.specs.declared.tokens.Sign.TheVariants as signs
+use Rattle.vx_tokens.specs.declared.tokens.Token.{Token}
+use Rattle.vx_tokens.specs.declared.tokens.Token.TheVariants.{Reserved, Word, Quoted, Quote, Number, Mark}
+use Rattle.vx_tokens.specs.Tokens.{◌>>=◌, is_blank, is_first, is_digit, is_inner, run_of, word_or, word_token, is_number, behind_mark, quoted_run, two_signs, one_sign, longer_sign, sign_at, word_behind, quoted_behind, token_at, behind_blank, next_token, tokens_within}
+use Rattle.vx_tokens.specs.Names.{doubled, within_marks, is_word}
 use Rattle.vx_laws_text.specs.Longest.{sign_text, suffix_text, SpellsNumber, SpellsToken, Stands}
 use Rattle.vx_laws_text.specs.Cuts.{StandsLongest, Cuts, no_bytes, blank_first, token_first, FoundAreCut, CutAreFound}
 use Rattle.vx_laws_text.proofs.Cutting.{Cut, Front, cut-end, cut-blank, cut-token, tokens_of-cut}

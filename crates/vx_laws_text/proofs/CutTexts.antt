@@ -19,13 +19,14 @@ use Rattle.vx_expr.specs.OperatorTexts.{operator_text}
 use Rattle.vx_expr.specs.Selections.{listed_names}
 use Rattle.vx_expr.specs.Trees.{Tree, root, literal, get_item, binary, not_of, is_null_of, like, between, cast}
 use Rattle.vx_expr.specs.Trees.{list_contains, pack, merge, select, dynamic, Trees, no_trees, tree}
-use Rattle.vx_text.specs.declared.tokens.Keyword.{Keyword}
-use Rattle.vx_text.specs.declared.tokens.Keyword.TheVariants as words
-use Rattle.vx_text.specs.declared.tokens.Sign.TheVariants as signs
-use Rattle.vx_text.specs.declared.tokens.Token.{Token}
-use Rattle.vx_text.specs.declared.tokens.Token.TheVariants.{Reserved, Word, Number, Mark}
-use Rattle.vx_text.specs.Tokens.{token_at, run_of, keyword_of, one_sign, integer_named}
-use Rattle.vx_text.specs.Writing.{is_word, is_bare, name_text, names_text, choice_text, type_text, labels_text, item_text, items_text, literal_text, like_word, range_word, between_word, pack_word, merge_word, query_text, listed_texts, named_texts}
+use Rattle.vx_tokens.specs.declared.tokens.Keyword.{Keyword}
+use Rattle.vx_tokens.specs.declared.tokens.Keyword.TheVariants as words
+use Rattle.vx_tokens.specs.declared.tokens.Sign.TheVariants as signs
+use Rattle.vx_tokens.specs.declared.tokens.Token.{Token}
+use Rattle.vx_tokens.specs.declared.tokens.Token.TheVariants.{Reserved, Word, Number, Mark}
+use Rattle.vx_tokens.specs.Tokens.{token_at, run_of, keyword_of, one_sign, integer_named}
+use Rattle.vx_tokens.specs.Names.{is_word, name_text, names_text}
+use Rattle.vx_text.specs.Writing.{is_bare, choice_text, type_text, labels_text, item_text, items_text, literal_text, like_word, range_word, between_word, pack_word, merge_word, query_text, listed_texts, named_texts}
 use Rattle.vx_laws_text.specs.WrittenTokens.{name_tokens, choice_tokens, nullability_tokens, type_tokens, label_tokens, number_tokens, truth_token, item_tokens, items_tokens, bare_tokens, literal_tokens, operator_token, like_keyword, range_keyword, pack_keyword, merge_keyword, query_tokens, listed_tokens, named_tokens}
 use Rattle.vx_laws_text.specs.Expressions.{AreTexts, IsType, AreFields}
 use Rattle.vx_laws_text.proofs.Cutting.{Cut, cut-end, cut-blank, cut-token, cut-parts}

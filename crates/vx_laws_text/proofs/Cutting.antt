@@ -3,8 +3,8 @@ use Rattle.std.proofs.Common.{◌≡◌, ℕ, zero, suc, ◌<◌, ◌≤◌, Boo
 use Rattle.std.specs.List.{list_all}
 use Rattle.std.proofs.lemmas.Bool.{and_parts}
 use Rattle.vx_dtype.specs.Types.{Bytes}
-use Rattle.vx_text.specs.declared.tokens.Token.{Token}
-use Rattle.vx_text.specs.Tokens.{◌>>=◌, is_blank, before, run_of, token_at, behind_blank, next_token, tokens_within, tokens_of}
+use Rattle.vx_tokens.specs.declared.tokens.Token.{Token}
+use Rattle.vx_tokens.specs.Tokens.{◌>>=◌, is_blank, before, run_of, token_at, behind_blank, next_token, tokens_within, tokens_of}
 
 -- the tokens of a text, however many characters at most are to be looked at
 pub record Cut (bytes : Bytes) (tokens : List Token) : Type 0 where

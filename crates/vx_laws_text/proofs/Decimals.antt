@@ -6,8 +6,8 @@ use Rattle.std.proofs.lemmas.Fmt.{decimal_by_steps}
 use Rattle.std.proofs.lemmas.List.Folds.{list_all-append}
 use Rattle.std.proofs.lemmas.Bool.Decides.{nat_tests}
 use Rattle.vx_dtype.specs.Types.{Bytes}
-use Rattle.vx_text.specs.Tokens.{◌>>=◌, is_digit, is_number}
-use Rattle.vx_text.specs.Readings.{digits_behind}
+use Rattle.vx_tokens.specs.Tokens.{◌>>=◌, is_digit, is_number}
+use Rattle.vx_tokens.specs.Numbers.{digits_behind}
 use Rattle.vx_laws_text.proofs.Cutting.{begins}
 use Rattle.vx_laws_text.proofs.Pieces.{if-true}
 

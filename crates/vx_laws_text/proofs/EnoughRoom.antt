@@ -1,6 +1,6 @@
 -- As much room as there are tokens is enough.
 use Rattle.std.proofs.Common.{ℕ, List, length, refl, arith}
-use Rattle.vx_text.specs.declared.tokens.Token.{Token}
+use Rattle.vx_tokens.specs.declared.tokens.Token.{Token}
 use Rattle.vx_text.specs.Readings.{and_argument}
 use Rattle.vx_text.specs.Grammar.{Read, and_then, name_at}
 use Rattle.vx_laws_text.specs.Fuel.{Shrinks, QueriesHaveRoom, TypesHaveRoom, ItemsHaveRoom, NamesHaveRoom, ArgumentsHaveRoom, ChainsHaveRoom, StepsHaveRoom}

@@ -2,13 +2,13 @@
 use Rattle.std.proofs.Common.{◌≡◌, ℕ, zero, suc, List, [], ◌∷◌, refl, ap, ◌∙◌, Some, None}
 use Rattle.vx_expr.specs.declared.operators.Operator.{Operator}
 use Rattle.vx_expr.specs.Trees.{Tree, binary, not_of}
-use Rattle.vx_text.specs.declared.tokens.Keyword.TheVariants as words
-use Rattle.vx_text.specs.declared.tokens.Sign.TheVariants as signs
-use Rattle.vx_text.specs.declared.tokens.Token.{Token}
-use Rattle.vx_text.specs.declared.tokens.Token.TheVariants.{Reserved, Mark}
+use Rattle.vx_tokens.specs.declared.tokens.Keyword.TheVariants as words
+use Rattle.vx_tokens.specs.declared.tokens.Sign.TheVariants as signs
+use Rattle.vx_tokens.specs.declared.tokens.Token.{Token}
+use Rattle.vx_tokens.specs.declared.tokens.Token.TheVariants.{Reserved, Mark}
 use Rattle.vx_text.specs.declared.operators.Level.{Level}
 use Rattle.vx_text.specs.declared.operators.Level.TheVariants as levels
-use Rattle.vx_text.specs.Tokens.{◌>>=◌}
+use Rattle.vx_tokens.specs.Tokens.{◌>>=◌}
 use Rattle.vx_text.specs.Readings.{Named, binary_of, negated}
 use Rattle.vx_text.specs.Grammar.{Read, most_tokens, operator_at, next_operand, chain, chained, step_at, next_step, steps, post_with, sum_with, compared, compare_with, nots_at, one_more, not_with, and_with, or_with}
 use Rattle.vx_laws_text.specs.WrittenTokens.{operator_token}

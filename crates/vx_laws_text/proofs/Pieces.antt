@@ -7,13 +7,13 @@ use Rattle.std.proofs.lemmas.Bool.{and_parts}
 use Rattle.std.proofs.lemmas.Bool.Decides.{nat_tests}
 use Rattle.vx_dtype.specs.declared.PType.{PType}
 use Rattle.vx_dtype.specs.Types.{Bytes}
-use Rattle.vx_text.specs.declared.tokens.Keyword.{Keyword}
-use Rattle.vx_text.specs.declared.tokens.Sign.{Sign}
-use Rattle.vx_text.specs.declared.tokens.Sign.TheVariants as signs
-use Rattle.vx_text.specs.declared.tokens.Token.{Token}
-use Rattle.vx_text.specs.declared.tokens.Token.TheVariants.{Reserved, Word, Quoted, Quote, Number, Mark}
-use Rattle.vx_text.specs.Tokens.{◌>>=◌, is_blank, is_first, is_digit, is_inner, before, keyword_of, word_or, word_token, suffix_of, is_number, number_within, number_behind, behind_mark, quoted_run, two_signs, one_sign, longer_sign, word_behind, quoted_behind, name_behind, text_behind, token_at}
-use Rattle.vx_text.specs.Writing.{doubled, within_marks, is_word, is_free, is_plain_word, name_text}
+use Rattle.vx_tokens.specs.declared.tokens.Keyword.{Keyword}
+use Rattle.vx_tokens.specs.declared.tokens.Sign.{Sign}
+use Rattle.vx_tokens.specs.declared.tokens.Sign.TheVariants as signs
+use Rattle.vx_tokens.specs.declared.tokens.Token.{Token}
+use Rattle.vx_tokens.specs.declared.tokens.Token.TheVariants.{Reserved, Word, Quoted, Quote, Number, Mark}
+use Rattle.vx_tokens.specs.Tokens.{◌>>=◌, is_blank, is_first, is_digit, is_inner, before, keyword_of, word_or, word_token, suffix_of, is_number, number_within, number_behind, behind_mark, quoted_run, two_signs, one_sign, longer_sign, word_behind, quoted_behind, name_behind, text_behind, token_at}
+use Rattle.vx_tokens.specs.Names.{doubled, within_marks, is_word, is_free, is_plain_word, name_text}
 use Rattle.vx_laws_text.specs.WrittenTokens.{name_token}
 use Rattle.vx_laws_text.proofs.Cutting.{Cut, Front, cut-token, begins, run_of-append}
 

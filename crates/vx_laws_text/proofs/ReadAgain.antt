@@ -2,7 +2,7 @@
 use Rattle.std.proofs.Common.{◌≡◌, ◌≤◌, [], length, ap, ◌∙◌, Some, arith, le-ltb}
 use Rattle.std.specs.Prelude.{nat_lt}
 use Rattle.vx_expr.specs.Trees.{Tree}
-use Rattle.vx_text.specs.Tokens.{◌>>=◌, tokens_of}
+use Rattle.vx_tokens.specs.Tokens.{◌>>=◌, tokens_of}
 use Rattle.vx_text.specs.Grammar.{most_tokens, whole, query_of}
 use Rattle.vx_text.specs.Reading.{most_bytes, named_or_refused, query_or_refused, reading_of}
 use Rattle.vx_text.specs.Writing.{query_text}

@@ -4,12 +4,13 @@ use Rattle.std.specs.Prelude.{option_map}
 use Rattle.vx_dtype.specs.declared.PType.{PType}
 use Rattle.vx_dtype.specs.Values.{Raw, raw_null, raw_bool, raw_int, raw_text, raw_list, raw_struct, Raws, no_raws, raw}
 use Rattle.vx_dtype.specs.RawViews.{raws_of}
-use Rattle.vx_text.specs.declared.tokens.Sign.{Sign}
-use Rattle.vx_text.specs.declared.tokens.Sign.TheVariants as signs
-use Rattle.vx_text.specs.declared.tokens.Token.{Token}
-use Rattle.vx_text.specs.declared.tokens.Token.TheVariants.{Mark}
-use Rattle.vx_text.specs.Tokens.{◌>>=◌}
-use Rattle.vx_text.specs.Readings.{and_one, signed, number_value}
+use Rattle.vx_tokens.specs.declared.tokens.Sign.{Sign}
+use Rattle.vx_tokens.specs.declared.tokens.Sign.TheVariants as signs
+use Rattle.vx_tokens.specs.declared.tokens.Token.{Token}
+use Rattle.vx_tokens.specs.declared.tokens.Token.TheVariants.{Mark}
+use Rattle.vx_tokens.specs.Tokens.{◌>>=◌}
+use Rattle.vx_tokens.specs.Numbers.{signed, number_value}
+use Rattle.vx_text.specs.Readings.{and_one}
 use Rattle.vx_text.specs.Grammar.{Read, after, more_parts, parts, list_item, struct_item, item_with, item_at, item_front}
 use Rattle.vx_laws_text.specs.WrittenTokens.{number_tokens, item_tokens, items_tokens}
 use Rattle.vx_laws_text.proofs.Sizes.{item_size, items_size}

@@ -2,13 +2,13 @@
 use Rattle.std.proofs.Common.{◌≡◌, ℕ, zero, suc, ◌≤◌, Bool, true, false, List, [], ◌∷◌, ◌++◌, refl, ap, ◌∙◌, append_assoc, Some, None, arith}
 use Rattle.std.specs.Prelude.{if◌then◌else◌}
 use Rattle.vx_dtype.specs.Types.{Bytes}
-use Rattle.vx_text.specs.declared.tokens.Sign.{Sign}
-use Rattle.vx_text.specs.declared.tokens.Sign.TheVariants as signs
-use Rattle.vx_text.specs.declared.tokens.Token.{Token}
-use Rattle.vx_text.specs.declared.tokens.Token.TheVariants.{Word, Quoted, Mark}
-use Rattle.vx_text.specs.Tokens.{◌>>=◌}
+use Rattle.vx_tokens.specs.declared.tokens.Sign.{Sign}
+use Rattle.vx_tokens.specs.declared.tokens.Sign.TheVariants as signs
+use Rattle.vx_tokens.specs.declared.tokens.Token.{Token}
+use Rattle.vx_tokens.specs.declared.tokens.Token.TheVariants.{Word, Quoted, Mark}
+use Rattle.vx_tokens.specs.Tokens.{◌>>=◌}
 use Rattle.vx_text.specs.Grammar.{Read, after, choose, closed, more_parts, parts, most_tokens, and_then, name_at, names_at, labelled}
-use Rattle.vx_text.specs.Writing.{is_plain_word}
+use Rattle.vx_tokens.specs.Names.{is_plain_word}
 use Rattle.vx_laws_text.specs.WrittenTokens.{name_token, name_tokens}
 use Rattle.vx_laws_text.proofs.Sizes.{names_size}
 

@@ -14,13 +14,14 @@ use Rattle.vx_expr.specs.declared.operators.Operator.{Operator}
 use Rattle.vx_expr.specs.declared.selections.FieldSelection.{FieldSelection}
 use Rattle.vx_expr.specs.Trees.{Tree, root, literal, get_item, binary, not_of, is_null_of, like, between, cast}
 use Rattle.vx_expr.specs.Trees.{list_contains, pack, merge, select, dynamic, Trees, no_trees, tree, trees_of, listed}
-use Rattle.vx_text.specs.declared.tokens.Keyword.{Keyword}
-use Rattle.vx_text.specs.declared.tokens.Keyword.TheVariants as words
-use Rattle.vx_text.specs.declared.tokens.Sign.TheVariants as signs
-use Rattle.vx_text.specs.declared.tokens.Token.{Token}
-use Rattle.vx_text.specs.declared.tokens.Token.TheVariants.{Reserved, Mark}
-use Rattle.vx_text.specs.Tokens.{◌>>=◌}
-use Rattle.vx_text.specs.Readings.{Named, Arguments, signed, constant_of, and_one, and_argument, call_of, with_name, pack_of}
+use Rattle.vx_tokens.specs.declared.tokens.Keyword.{Keyword}
+use Rattle.vx_tokens.specs.declared.tokens.Keyword.TheVariants as words
+use Rattle.vx_tokens.specs.declared.tokens.Sign.TheVariants as signs
+use Rattle.vx_tokens.specs.declared.tokens.Token.{Token}
+use Rattle.vx_tokens.specs.declared.tokens.Token.TheVariants.{Reserved, Mark}
+use Rattle.vx_tokens.specs.Tokens.{◌>>=◌}
+use Rattle.vx_tokens.specs.Numbers.{signed}
+use Rattle.vx_text.specs.Readings.{Named, Arguments, constant_of, and_one, and_argument, call_of, with_name, pack_of}
 use Rattle.vx_text.specs.Grammar.{Read, after, closed, more_parts, type_front, item_front, lit_behind, field_of, included, excluded, step_at, steps, plain_call, arguments_with, named, all_named_with, pack_call, cast_call, atom_with, post_with, nots_at, query_at}
 use Rattle.vx_text.specs.Writing.{is_bare}
 use Rattle.vx_laws_text.specs.WrittenTokens.{name_token, name_tokens, choice_tokens, type_tokens, number_tokens, number_type, item_tokens, bare_tokens, literal_tokens, operator_token, range_keyword, query_tokens, listed_tokens, named_tokens}

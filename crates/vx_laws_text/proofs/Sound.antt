@@ -3,12 +3,12 @@ use Rattle.std.proofs.Common.{◌≡◌, ℕ, zero, suc, Bool, true, false, List
 use Rattle.std.specs.Prelude.{if◌then◌else◌, ◌==◌}
 use Rattle.std.proofs.lemmas.Bool.Decides.{nat_tests}
 use Rattle.vx_dtype.specs.Types.{Bytes}
-use Rattle.vx_text.specs.declared.tokens.Sign.{Sign}
-use Rattle.vx_text.specs.declared.tokens.Sign.TheVariants as signs
-use Rattle.vx_text.specs.declared.tokens.Token.{Token}
-use Rattle.vx_text.specs.declared.tokens.Token.TheVariants.{Reserved, Word, Quoted, Quote, Number, Mark}
-use Rattle.vx_text.specs.Tokens.{◌>>=◌}
-use Rattle.vx_text.specs.Grammar.{Read, sign_number, is_sign, after, choose, closed, most_tokens, more_parts, parts, and_then, name_at, names_at, labelled}
+use Rattle.vx_tokens.specs.declared.tokens.Sign.{Sign}
+use Rattle.vx_tokens.specs.declared.tokens.Sign.TheVariants as signs
+use Rattle.vx_tokens.specs.declared.tokens.Token.{Token}
+use Rattle.vx_tokens.specs.declared.tokens.Token.TheVariants.{Reserved, Word, Quoted, Quote, Number, Mark}
+use Rattle.vx_tokens.specs.Tokens.{◌>>=◌, sign_number, is_sign}
+use Rattle.vx_text.specs.Grammar.{Read, after, choose, closed, most_tokens, more_parts, parts, and_then, name_at, names_at, labelled}
 use Rattle.vx_laws_text.specs.Productions.{gathered, IsName, word_name, quoted_name, AreNames, no_names, one_name, more_names}
 
 -- tokens at the front of others, that are a part and give something

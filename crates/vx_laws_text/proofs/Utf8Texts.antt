@@ -7,10 +7,10 @@ use Rattle.std.proofs.lemmas.Str.Ascii.{IsAscii-nil, IsAscii-cons}
 use Rattle.std.proofs.lemmas.Bool.{cases_lt}
 use Rattle.std.proofs.lemmas.Bool.Decides.{nat_tests}
 use Rattle.vx_dtype.specs.Types.{Bytes}
-use Rattle.vx_text.specs.declared.tokens.Sign.{Sign}
-use Rattle.vx_text.specs.declared.tokens.Token.{Token}
-use Rattle.vx_text.specs.declared.tokens.Token.TheVariants.{Quoted, Quote, Mark}
-use Rattle.vx_text.specs.Tokens.{◌>>=◌, is_blank, is_first, is_digit, is_inner, before, run_of, word_token, number_of, number_behind, quoted_run, two_signs, bracket_of, stop_of, operation_of, or_else, one_sign, longer_sign, sign_at, word_behind, quoted_behind, name_behind, text_behind, marked_at, token_at, next_token, tokens_within}
+use Rattle.vx_tokens.specs.declared.tokens.Sign.{Sign}
+use Rattle.vx_tokens.specs.declared.tokens.Token.{Token}
+use Rattle.vx_tokens.specs.declared.tokens.Token.TheVariants.{Quoted, Quote, Mark}
+use Rattle.vx_tokens.specs.Tokens.{◌>>=◌, is_blank, is_first, is_digit, is_inner, before, run_of, word_token, number_of, number_behind, quoted_run, two_signs, bracket_of, stop_of, operation_of, or_else, one_sign, longer_sign, sign_at, word_behind, quoted_behind, name_behind, text_behind, marked_at, token_at, next_token, tokens_within}
 use Rattle.vx_laws_text.specs.Unchecked.{unchecked_name, unchecked_text, unchecked_mark_at, unchecked_at, unchecked_next, unchecked_within, QuotedIsUtf8, RestIsUtf8, TestChangesNothing}
 use Rattle.vx_laws_text.proofs.Pieces.{if-true}
 

@@ -1,8 +1,8 @@
 -- The tokens of a text: at each place the longest one that stands there, but for characters that mean nothing.
 use Rattle.std.specs.Prelude.{◌≡◌, ℕ, ◌≤◌, true, List, [], ◌∷◌, length, Some}
 use Rattle.vx_dtype.specs.Types.{Bytes}
-use Rattle.vx_text.specs.declared.tokens.Token.{Token}
-use Rattle.vx_text.specs.Tokens.{is_blank, tokens_of}
+use Rattle.vx_tokens.specs.declared.tokens.Token.{Token}
+use Rattle.vx_tokens.specs.Tokens.{is_blank, tokens_of}
 use Rattle.vx_laws_text.specs.Longest.{Stands}
 
 -- a token stands at the front of a text, and no longer one does

@@ -1,8 +1,8 @@
 -- The numbers that bound recursions in the grammar change nothing: as many as there are tokens are enough.
 use Rattle.std.specs.Prelude.{◌≡◌, ℕ, ◌≤◌, List, [], length, Some, None}
 use Rattle.vx_dtype.specs.Types.{Bytes}
-use Rattle.vx_text.specs.declared.tokens.Sign.{Sign}
-use Rattle.vx_text.specs.declared.tokens.Token.{Token}
+use Rattle.vx_tokens.specs.declared.tokens.Sign.{Sign}
+use Rattle.vx_tokens.specs.declared.tokens.Token.{Token}
 use Rattle.vx_text.specs.declared.operators.Level.{Level}
 use Rattle.vx_text.specs.Readings.{Named, Arguments, and_argument}
 use Rattle.vx_text.specs.Grammar.{Read, most_tokens, and_then, name_at, more_parts, chain, steps, type_at, item_at, query_at}
@@ -13,14 +13,20 @@ Shrinks {A} part = (tokens : List Token) (x : A × List Token) → part tokens �
 
 -- room for as many queries one in another as there are tokens, or for more, makes no difference
 abbrev pub QueriesHaveRoom : Type 0
-QueriesHaveRoom = (tokens : List Token) (n m : ℕ) → length tokens ≤ most_tokens → length tokens ≤ n → length tokens ≤ m → query_at n tokens ≡ query_at m tokens
+QueriesHaveRoom =
+    (tokens : List Token) (n m : ℕ) → length tokens ≤ most_tokens → length tokens ≤ n → length tokens ≤ m
+    → query_at n tokens ≡ query_at m tokens
 
 -- the same of types and of items one in another
 abbrev pub TypesHaveRoom : Type 0
-TypesHaveRoom = (tokens : List Token) (n m : ℕ) → length tokens ≤ most_tokens → length tokens ≤ n → length tokens ≤ m → type_at n tokens ≡ type_at m tokens
+TypesHaveRoom =
+    (tokens : List Token) (n m : ℕ) → length tokens ≤ most_tokens → length tokens ≤ n → length tokens ≤ m
+    → type_at n tokens ≡ type_at m tokens
 
 abbrev pub ItemsHaveRoom : Type 0
-ItemsHaveRoom = (tokens : List Token) (n m : ℕ) → length tokens ≤ most_tokens → length tokens ≤ n → length tokens ≤ m → item_at n tokens ≡ item_at m tokens
+ItemsHaveRoom =
+    (tokens : List Token) (n m : ℕ) → length tokens ≤ most_tokens → length tokens ≤ n → length tokens ≤ m
+    → item_at n tokens ≡ item_at m tokens
 
 -- the same of names and of arguments one behind another, of operands in a chain, and of steps behind an expression
 abbrev pub NamesHaveRoom : Type 0

@@ -5,12 +5,12 @@ use Rattle.std.specs.Str.{is_utf8}
 use Rattle.vx_dtype.specs.declared.PType.{PType}
 use Rattle.vx_dtype.specs.Types.{Bytes}
 use Rattle.vx_dtype.specs.Texts.{ptype_text}
-use Rattle.vx_text.specs.declared.tokens.Sign.{Sign}
-use Rattle.vx_text.specs.declared.tokens.Sign.TheVariants as signs
-use Rattle.vx_text.specs.declared.tokens.Token.{Token}
-use Rattle.vx_text.specs.declared.tokens.Token.TheVariants.{Reserved, Word, Quoted, Quote, Number, Mark}
-use Rattle.vx_text.specs.Tokens.{is_digit, is_inner, is_number, keyword_of, token_at}
-use Rattle.vx_text.specs.Writing.{within_marks, is_word}
+use Rattle.vx_tokens.specs.declared.tokens.Sign.{Sign}
+use Rattle.vx_tokens.specs.declared.tokens.Sign.TheVariants as signs
+use Rattle.vx_tokens.specs.declared.tokens.Token.{Token}
+use Rattle.vx_tokens.specs.declared.tokens.Token.TheVariants.{Reserved, Word, Quoted, Quote, Number, Mark}
+use Rattle.vx_tokens.specs.Tokens.{is_digit, is_inner, is_number, keyword_of, token_at}
+use Rattle.vx_tokens.specs.Names.{within_marks, is_word}
 
 -- the characters of a sign
 abbrev pub sign_text : Sign → Bytes

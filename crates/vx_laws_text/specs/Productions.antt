@@ -7,14 +7,15 @@ use Rattle.vx_dtype.specs.TypeRules.{with_nullability}
 use Rattle.vx_dtype.specs.Values.{Raw, raw_null, raw_bool, raw_int, raw_text}
 use Rattle.vx_expr.specs.declared.operators.Operator.{Operator}
 use Rattle.vx_expr.specs.Trees.{Tree, root, not_of, cast}
-use Rattle.vx_text.specs.declared.tokens.Keyword.{Keyword}
-use Rattle.vx_text.specs.declared.tokens.Keyword.TheVariants as words
-use Rattle.vx_text.specs.declared.tokens.Sign.TheVariants as signs
-use Rattle.vx_text.specs.declared.tokens.Token.{Token}
-use Rattle.vx_text.specs.declared.tokens.Token.TheVariants.{Reserved, Word, Quoted, Quote, Number, Mark}
+use Rattle.vx_tokens.specs.declared.tokens.Keyword.{Keyword}
+use Rattle.vx_tokens.specs.declared.tokens.Keyword.TheVariants as words
+use Rattle.vx_tokens.specs.declared.tokens.Sign.TheVariants as signs
+use Rattle.vx_tokens.specs.declared.tokens.Token.{Token}
+use Rattle.vx_tokens.specs.declared.tokens.Token.TheVariants.{Reserved, Word, Quoted, Quote, Number, Mark}
 use Rattle.vx_text.specs.declared.operators.Level.{Level}
 use Rattle.vx_text.specs.declared.operators.Level.TheVariants as levels
-use Rattle.vx_text.specs.Readings.{Named, binary_of, integer_of, constant_of, number_literal, bool_literal}
+use Rattle.vx_tokens.specs.Numbers.{integer_of}
+use Rattle.vx_text.specs.Readings.{Named, binary_of, constant_of, number_literal, bool_literal}
 use Rattle.vx_text.specs.Readings.{text_literal, and_one, and_argument, call_of, with_name, pack_of}
 use Rattle.vx_text.specs.Grammar.{most_tokens, and_field, struct_type, plain_type, list_item, struct_item}
 use Rattle.vx_text.specs.Grammar.{field_of, included, excluded, column, token_operator, level_of, query_of}
@@ -46,7 +47,8 @@ pub data IsName : List Token → Bytes → Type 0 where
 pub data AreNames : List Token → List Bytes → Type 0 where
   no_names : AreNames [] []
   one_name : (ts : List Token) (f : Bytes) → IsName ts f → AreNames ts (f ∷ [])
-  more_names : (ts us : List Token) (f g : Bytes) (fs : List Bytes) → IsName ts f → AreNames us (g ∷ fs) → AreNames (ts ++ Mark signs.Comma ∷ us) (f ∷ g ∷ fs)
+  more_names : (ts us : List Token) (f g : Bytes) (fs : List Bytes) → IsName ts f → AreNames us (g ∷ fs)
+      → AreNames (ts ++ Mark signs.Comma ∷ us) (f ∷ g ∷ fs)
 
 mutual
   -- type = base [ "?" ]
@@ -63,7 +65,8 @@ mutual
   pub data AreFields : List Token → List (Bytes × Ty) → Type 0 where
     no_fields : AreFields [] []
     one_field : (ns ts : List Token) (f : Bytes) (t : Ty) → IsName ns f → IsType ts t → AreFields (ns ++ Mark signs.Colon ∷ ts) ((f, t) ∷ [])
-    more_fields : (ns ts us : List Token) (f : Bytes) (t : Ty) (g : Bytes × Ty) (fs : List (Bytes × Ty)) → IsName ns f → IsType ts t → AreFields us (g ∷ fs)
+    more_fields : (ns ts us : List Token) (f : Bytes) (t : Ty) (g : Bytes × Ty) (fs : List (Bytes × Ty))
+        → IsName ns f → IsType ts t → AreFields us (g ∷ fs)
         → AreFields ((ns ++ Mark signs.Colon ∷ ts) ++ Mark signs.Comma ∷ us) ((f, t) ∷ g ∷ fs)
 
 mutual
@@ -145,7 +148,8 @@ mutual
         → IsAtom (Reserved words.Pack ∷ in_round ts) (pack_of NonNullable (gathered and_one (Some []) es))
     pack_null_atom : (ts : List Token) (es : List (Option (Bytes × Tree))) → AreNamed ts es
         → IsAtom (Reserved words.PackNull ∷ in_round ts) (pack_of Nullable (gathered and_one (Some []) es))
-    call_atom : (k : Keyword) (ts : List Token) (es : List Named) (e : Named) → AreQueries ts es → call_of k (gathered and_argument (0, Some []) es) ≡ Some e
+    call_atom : (k : Keyword) (ts : List Token) (es : List Named) (e : Named) → AreQueries ts es
+        → call_of k (gathered and_argument (0, Some []) es) ≡ Some e
         → IsAtom (Reserved k ∷ in_round ts) e
 
   -- arguments: [ or { "," or } ]

@@ -1,11 +1,12 @@
 -- Tokens without the test of what stands between two marks: in a text that is UTF-8 the test refuses nothing.
-use Rattle.std.specs.Prelude.{◌≡◌, ℕ, zero, suc, ◌<◌, ◌==◌, true, List, [], ◌∷◌, ◌++◌, length, Option, Some, None, if◌then◌else◌}
+use Rattle.std.specs.Prelude.{◌≡◌, ℕ, zero, suc, ◌<◌, ◌==◌, true, List, [], ◌∷◌, ◌++◌, length, Option, Some, None}
+use Rattle.std.specs.Prelude.{if◌then◌else◌}
 use Rattle.std.specs.Str.{is_utf8}
 use Rattle.vx_dtype.specs.Types.{Bytes}
-use Rattle.vx_text.specs.declared.tokens.Token.{Token}
-use Rattle.vx_text.specs.declared.tokens.Token.TheVariants.{Quoted, Quote}
-use Rattle.vx_text.specs.Tokens.{◌>>=◌, is_first, is_digit, is_inner, run_of, word_behind}
-use Rattle.vx_text.specs.Tokens.{number_behind, sign_at, quoted_run, behind_blank, token_at, tokens_of}
+use Rattle.vx_tokens.specs.declared.tokens.Token.{Token}
+use Rattle.vx_tokens.specs.declared.tokens.Token.TheVariants.{Quoted, Quote}
+use Rattle.vx_tokens.specs.Tokens.{◌>>=◌, is_first, is_digit, is_inner, run_of, word_behind}
+use Rattle.vx_tokens.specs.Tokens.{number_behind, sign_at, quoted_run, behind_blank, token_at, tokens_of}
 
 -- the token between two marks, whatever stands there
 abbrev pub unchecked_name : Option (Bytes × Bytes) → Option (Token × Bytes)

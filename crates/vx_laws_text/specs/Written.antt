@@ -2,8 +2,8 @@
 use Rattle.std.specs.Prelude.{◌≡◌, ◌≤◌, true, List, [], length, Some, Ok}
 use Rattle.vx_dtype.specs.Types.{Bytes}
 use Rattle.vx_expr.specs.Trees.{Tree}
-use Rattle.vx_text.specs.declared.tokens.Token.{Token}
-use Rattle.vx_text.specs.Tokens.{tokens_of}
+use Rattle.vx_tokens.specs.declared.tokens.Token.{Token}
+use Rattle.vx_tokens.specs.Tokens.{tokens_of}
 use Rattle.vx_text.specs.Grammar.{most_tokens}
 use Rattle.vx_text.specs.Reading.{most_bytes, reading_of}
 use Rattle.vx_text.specs.Writing.{query_text, is_writable}

@@ -13,12 +13,13 @@ use Rattle.vx_expr.specs.declared.operators.Operator.{Operator}
 use Rattle.vx_expr.specs.declared.selections.FieldSelection.{FieldSelection}
 use Rattle.vx_expr.specs.Trees.{Tree, root, literal, get_item, binary, not_of, is_null_of, like, between, cast}
 use Rattle.vx_expr.specs.Trees.{list_contains, pack, merge, select, dynamic, Trees, no_trees, tree}
-use Rattle.vx_text.specs.declared.tokens.Keyword.{Keyword}
-use Rattle.vx_text.specs.declared.tokens.Keyword.TheVariants as words
-use Rattle.vx_text.specs.declared.tokens.Sign.TheVariants as signs
-use Rattle.vx_text.specs.declared.tokens.Token.{Token}
-use Rattle.vx_text.specs.declared.tokens.Token.TheVariants.{Reserved, Word, Quoted, Quote, Number, Mark}
-use Rattle.vx_text.specs.Writing.{is_plain_word, is_bare}
+use Rattle.vx_tokens.specs.declared.tokens.Keyword.{Keyword}
+use Rattle.vx_tokens.specs.declared.tokens.Keyword.TheVariants as words
+use Rattle.vx_tokens.specs.declared.tokens.Sign.TheVariants as signs
+use Rattle.vx_tokens.specs.declared.tokens.Token.{Token}
+use Rattle.vx_tokens.specs.declared.tokens.Token.TheVariants.{Reserved, Word, Quoted, Quote, Number, Mark}
+use Rattle.vx_tokens.specs.Names.{is_plain_word}
+use Rattle.vx_text.specs.Writing.{is_bare}
 
 -- a name: a word where it can be one
 unfoldable pub name_token : Bytes → Token
@@ -49,7 +50,8 @@ unfoldable mutual
   -- the types of fields, each behind its name
   pub label_tokens : List Token → Fields → List Token → List Token
   label_tokens separator no_fields rest = rest
-  label_tokens separator (field f t fs) rest = separator ++ (name_token f ∷ Mark signs.Colon ∷ type_tokens t (label_tokens (Mark signs.Comma ∷ []) fs rest))
+  label_tokens separator (field f t fs) rest =
+      separator ++ (name_token f ∷ Mark signs.Colon ∷ type_tokens t (label_tokens (Mark signs.Comma ∷ []) fs rest))
 
 -- a number, with the name of an integer type behind it or without
 abbrev pub number_tokens : ℤ → Option PType → List Token → List Token
@@ -131,7 +133,8 @@ unfoldable mutual
   query_tokens root rest = Mark signs.Dollar ∷ rest
   query_tokens (literal s) rest = literal_tokens s rest
   query_tokens (get_item f e) rest = query_tokens e (Mark signs.Dot ∷ name_token f ∷ rest)
-  query_tokens (binary l op r) rest = Mark signs.RoundOpen ∷ query_tokens l (operator_token op ∷ query_tokens r (Mark signs.RoundClose ∷ rest))
+  query_tokens (binary l op r) rest =
+      Mark signs.RoundOpen ∷ query_tokens l (operator_token op ∷ query_tokens r (Mark signs.RoundClose ∷ rest))
   query_tokens (not_of e) rest = Mark signs.RoundOpen ∷ Reserved words.Not ∷ query_tokens e (Mark signs.RoundClose ∷ rest)
   query_tokens (is_null_of e) rest = Reserved words.IsNull ∷ Mark signs.RoundOpen ∷ query_tokens e (Mark signs.RoundClose ∷ rest)
   query_tokens (like e p negated fold_case) rest =
@@ -139,7 +142,8 @@ unfoldable mutual
   query_tokens (between e lower upper options) rest =
       Reserved (between_keyword options) ∷ Mark signs.RoundOpen
       ∷ query_tokens e (Mark signs.Comma ∷ query_tokens lower (Mark signs.Comma ∷ query_tokens upper (Mark signs.RoundClose ∷ rest)))
-  query_tokens (cast e t) rest = Reserved words.Cast ∷ Mark signs.RoundOpen ∷ query_tokens e (Mark signs.Comma ∷ type_tokens t (Mark signs.RoundClose ∷ rest))
+  query_tokens (cast e t) rest =
+      Reserved words.Cast ∷ Mark signs.RoundOpen ∷ query_tokens e (Mark signs.Comma ∷ type_tokens t (Mark signs.RoundClose ∷ rest))
   query_tokens (list_contains l v) rest =
       Reserved words.Contains ∷ Mark signs.RoundOpen ∷ query_tokens l (Mark signs.Comma ∷ query_tokens v (Mark signs.RoundClose ∷ rest))
   query_tokens (pack names es n) rest = Reserved (pack_keyword n) ∷ Mark signs.RoundOpen ∷ named_tokens [] names es (Mark signs.RoundClose ∷ rest)

@@ -9,7 +9,8 @@ use Rattle.vx_dtype.specs.StructTypes.{field_types}
 use Rattle.vx_dtype.specs.Values.{Raw}
 use Rattle.vx_dtype.specs.RawViews.{raws_of}
 use Rattle.vx_dtype.proofs.FieldsFrom.{fields_from, fields_from-here, fields_from-past}
-use Rattle.vx_text.specs.Writing.{name_text, type_text, labels_text, item_text, items_text}
+use Rattle.vx_tokens.specs.Names.{name_text}
+use Rattle.vx_text.specs.Writing.{type_text, labels_text, item_text, items_text}
 
 pub labels_text_step : (before : Bytes) (fs : Fields) (i : ℕ) (f : Bytes) (t : Ty) → slice_get (field_names fs) i ≡ Some f → slice_get (field_types fs) i ≡ Some t
     → labels_text before (fields_from i fs) ≡ before ++ (name_text f ++ (codes ": " ++ (type_text t ++ labels_text (codes ", ") (fields_from (i + 1) fs))))

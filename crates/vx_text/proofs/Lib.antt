@@ -1,6 +1,4 @@
-pub mod RunLemmas
 pub mod ReadingLemmas
-pub mod MarkLemmas
 pub mod ConstantLemmas
 pub mod ChildLemmas
 pub mod WritingLemmas

@@ -1,9 +1,9 @@
 -- Steps of the definitions of what tokens name.
 use Rattle.std.proofs.Common.{◌≡◌, ℕ, suc, ◌-◌, List, Some, refl, ap, sym, ◌∙◌}
 use Rattle.vx_expr.specs.declared.operators.Operator.{Operator}
-use Rattle.vx_text.specs.declared.tokens.Token.{Token}
+use Rattle.vx_tokens.specs.declared.tokens.Token.{Token}
 use Rattle.vx_text.specs.declared.operators.Level.{Level}
-use Rattle.vx_text.specs.Tokens.{◌>>=◌}
+use Rattle.vx_tokens.specs.Tokens.{◌>>=◌}
 use Rattle.vx_text.specs.Readings.{Named, binary_of}
 use Rattle.vx_text.specs.Grammar.{Read, operator_at, chain, next_operand}
 

@@ -5,7 +5,8 @@ use Rattle.std.proofs.Math.ListN.{get_or}
 use Rattle.std.proofs.lemmas.List.{drop_more, drop_all}
 use Rattle.vx_dtype.specs.Types.{Bytes}
 use Rattle.vx_expr.specs.Trees.{Tree, Trees, no_trees, tree, trees_of}
-use Rattle.vx_text.specs.Writing.{name_text, query_text, listed_texts, named_texts}
+use Rattle.vx_tokens.specs.Names.{name_text}
+use Rattle.vx_text.specs.Writing.{query_text, listed_texts, named_texts}
 use Rattle.vx_text.proofs.ChildLemmas.{left_step}
 
 pub listed_texts_step : (before : Bytes) (es : List Tree) (i : ℕ) (e : Tree) → slice_get es i ≡ Some e

@@ -1,6 +1,7 @@
--- The grammar of queries, a definition for each of its rules. Each reads its rule at the front of tokens, and gives what it names and the tokens behind it; none
--- where the rule doesn't stand there.
-use Rattle.std.specs.Prelude.{ℕ, zero, suc, ◌+◌, ◌==◌, Bool, true, false, List, [], ◌∷◌, ◌++◌, Option, Some, None, option_map, if◌then◌else◌, codes}
+-- The grammar of queries, a definition for each of its rules. Each reads its rule at the front of tokens, and gives what it names and
+-- the tokens behind it; none where the rule doesn't stand there.
+use Rattle.std.specs.Prelude.{ℕ, zero, suc, ◌+◌, ◌==◌, Bool, true, false, List, [], ◌∷◌, ◌++◌, codes}
+use Rattle.std.specs.Prelude.{Option, Some, None, option_map, if◌then◌else◌}
 use Rattle.std.specs.Str.{bytes_eq}
 use Rattle.vx_dtype.specs.Types.{Bytes, Ty, bool_ty, int_ty, text_ty, list_ty, struct_ty}
 use Rattle.vx_dtype.specs.declared.PType.{PType}
@@ -13,54 +14,24 @@ use Rattle.vx_dtype.specs.Zipped.{zipped}
 use Rattle.vx_expr.specs.declared.operators.Operator.{Operator}
 use Rattle.vx_expr.specs.declared.selections.FieldSelection.{FieldSelection}
 use Rattle.vx_expr.specs.Trees.{Tree, root, get_item, select, cast}
-use Rattle.vx_text.specs.declared.tokens.Keyword.{Keyword}
-use Rattle.vx_text.specs.declared.tokens.Keyword.TheVariants as words
-use Rattle.vx_text.specs.declared.tokens.Sign.{Sign}
-use Rattle.vx_text.specs.declared.tokens.Sign.TheVariants as signs
-use Rattle.vx_text.specs.declared.tokens.Token.{Token}
-use Rattle.vx_text.specs.declared.tokens.Token.TheVariants.{Reserved, Word, Quoted, Quote, Number, Mark}
+use Rattle.vx_tokens.specs.declared.tokens.Keyword.{Keyword}
+use Rattle.vx_tokens.specs.declared.tokens.Keyword.TheVariants as words
+use Rattle.vx_tokens.specs.declared.tokens.Sign.{Sign}
+use Rattle.vx_tokens.specs.declared.tokens.Sign.TheVariants as signs
+use Rattle.vx_tokens.specs.declared.tokens.Token.{Token}
+use Rattle.vx_tokens.specs.declared.tokens.Token.TheVariants.{Reserved, Word, Quoted, Quote, Number, Mark}
 use Rattle.vx_text.specs.declared.operators.Level.{Level}
 use Rattle.vx_text.specs.declared.operators.Level.TheVariants as levels
 use Rattle.vx_text.specs.declared.steps.Step.{Step}
 use Rattle.vx_text.specs.declared.steps.Step.TheVariants as step_kinds
-use Rattle.vx_text.specs.Tokens.{◌>>=◌, integer_named}
-use Rattle.vx_text.specs.Readings.{Named, Arguments, binary_of, negated, integer_of, constant_of, number_literal, bool_literal, text_literal, and_one, and_argument, call_of, with_name, pack_of}
+use Rattle.vx_tokens.specs.Tokens.{◌>>=◌, integer_named, is_sign, is_not}
+use Rattle.vx_tokens.specs.Numbers.{integer_of}
+use Rattle.vx_text.specs.Readings.{Named, Arguments, binary_of, negated, constant_of, number_literal, bool_literal, text_literal}
+use Rattle.vx_text.specs.Readings.{and_one, and_argument, call_of, with_name, pack_of}
 
 -- what a rule gives: a meaning, and the tokens behind the rule
 abbrev pub Read : Type 0 → Type 0
 Read A = Option (A × List Token)
-
--- the number of a sign
-abbrev pub sign_number : Sign → ℕ
-sign_number signs.RoundOpen = 0
-sign_number signs.RoundClose = 1
-sign_number signs.SquareOpen = 2
-sign_number signs.SquareClose = 3
-sign_number signs.CurlyOpen = 4
-sign_number signs.CurlyClose = 5
-sign_number signs.Comma = 6
-sign_number signs.Colon = 7
-sign_number signs.Dot = 8
-sign_number signs.Dollar = 9
-sign_number signs.Question = 10
-sign_number signs.Tilde = 11
-sign_number signs.Plus = 12
-sign_number signs.Minus = 13
-sign_number signs.Eq = 14
-sign_number signs.NotEq = 15
-sign_number signs.Gt = 16
-sign_number signs.Gte = 17
-sign_number signs.Lt = 18
-sign_number signs.Lte = 19
-
--- whether a token is a sign
-abbrev pub is_sign : Sign → Token → Bool
-is_sign s (Mark t) = sign_number s == sign_number t
-is_sign s (Reserved k) = false
-is_sign s (Word f) = false
-is_sign s (Quoted f) = false
-is_sign s (Quote x) = false
-is_sign s (Number digits suffix) = false
 
 -- the tokens behind a sign at the front
 unfoldable pub after : Sign → List Token → Option (List Token)
@@ -215,7 +186,8 @@ item_front tokens = item_at most_tokens tokens
 -- "lit" "(" type "," item ")", behind its word
 unfoldable pub lit_behind : List Token → Read Named
 lit_behind tokens =
-    after signs.RoundOpen tokens >>= λ rest. type_front rest >>= λ t. after signs.Comma t.1 >>= λ more. item_front more >>= λ x. closed signs.RoundClose (constant_of t.0 x.0, x.1)
+    after signs.RoundOpen tokens >>= λ rest. type_front rest >>= λ t. after signs.Comma t.1 >>= λ more. item_front more >>= λ x.
+    closed signs.RoundClose (constant_of t.0 x.0, x.1)
 
 -- the operator of a token, and how tightly each one binds
 abbrev pub word_operator : Keyword → Option Operator
@@ -407,18 +379,6 @@ abbrev pub compare_with : (List Token → Read Named) → List Token → Read Na
 compare_with read tokens = sum_with read tokens >>= λ l. compared (sum_with read) l.0 l.1 (operator_at levels.Comparison l.1)
 
 -- not = "not" not | compare: a comparison behind so many `not`
-abbrev pub is_not_word : Keyword → Bool
-is_not_word words.Not = true
-is_not_word _ = false
-
-abbrev pub is_not : Token → Bool
-is_not (Reserved k) = is_not_word k
-is_not (Mark s) = false
-is_not (Word f) = false
-is_not (Quoted f) = false
-is_not (Quote s) = false
-is_not (Number digits suffix) = false
-
 abbrev pub one_more : ℕ × List Token → ℕ × List Token
 one_more n = (1 + n.0, n.1)
 
@@ -436,6 +396,13 @@ and_with read tokens = chained levels.Conjunction (not_with read) tokens
 -- or = and { "or" and }
 abbrev pub or_with : (List Token → Read Named) → List Token → Read Named
 or_with read tokens = chained levels.Disjunction (and_with read) tokens
+
+-- what stands on either side of an operator of a level
+abbrev pub operand_with : Level → (List Token → Read Named) → List Token → Read Named
+operand_with levels.Disjunction read tokens = and_with read tokens
+operand_with levels.Conjunction read tokens = not_with read tokens
+operand_with levels.Comparison read tokens = sum_with read tokens
+operand_with levels.Sum read tokens = post_with read tokens
 
 -- query = or, with so many queries one in another at most
 unfoldable pub query_at : ℕ → List Token → Read Named

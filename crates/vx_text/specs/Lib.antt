@@ -1,7 +1,9 @@
-pub mod Tokens
 pub mod Readings
 pub mod Grammar
 pub mod Reading
 pub mod Writing
 pub mod WritingParts
 pub mod TypeParts
+pub use Rattle.vx_tokens.specs.Tokens
+pub use Rattle.vx_tokens.specs.Numbers
+pub use Rattle.vx_tokens.specs.Names

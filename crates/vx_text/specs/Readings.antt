@@ -1,5 +1,6 @@
 -- What tokens name: an expression, or none where a number or an item isn't a value of its type.
-use Rattle.std.specs.Prelude.{ℕ, zero, suc, ◌+◌, ◌-◌, ◌*◌, ◌^◌, ◌==◌, nat_lt, ℤ, pos, negsuc, Bool, true, false, List, [], ◌∷◌, ◌++◌, map, Option, Some, None, option_map, if◌then◌else◌}
+use Rattle.std.specs.Prelude.{ℕ, zero, suc, ◌+◌, ◌==◌, Bool, true, false, List, [], ◌∷◌, ◌++◌, map, Option, Some, None}
+use Rattle.std.specs.Prelude.{option_map, if◌then◌else◌}
 use Rattle.vx_dtype.specs.declared.PType.{PType}
 use Rattle.vx_dtype.specs.declared.PType.TheVariants.{I64}
 use Rattle.vx_dtype.specs.declared.Nullability.{Nullability}
@@ -14,8 +15,9 @@ use Rattle.vx_dtype.specs.declared.BetweenOptions.{BetweenOptions}
 use Rattle.vx_expr.specs.declared.operators.Operator.{Operator}
 use Rattle.vx_expr.specs.Trees.{Tree, literal, binary, not_of, is_null_of, like, between, list_contains, pack, merge, trees_of}
 use Rattle.vx_expr.specs.Children.{one_of, two_of, three_of}
-use Rattle.vx_text.specs.declared.tokens.Keyword.{Keyword}
-use Rattle.vx_text.specs.declared.tokens.Keyword.TheVariants as words
+use Rattle.vx_tokens.specs.declared.tokens.Keyword.{Keyword}
+use Rattle.vx_tokens.specs.declared.tokens.Keyword.TheVariants as words
+use Rattle.vx_tokens.specs.Numbers.{integer_of}
 
 -- an expression, or none where a number or an item in it isn't a value of its type
 abbrev pub Named : Type 0
@@ -34,23 +36,6 @@ binary_of l op r = both (λ x y. binary x op y) l r
 unfoldable pub negated : ℕ → Named → Named
 negated zero e = e
 negated (suc n) e = negated n (option_map not_of e)
-
--- the number of decimal digits behind another one; none from 2 ^ 64 on, which no integer type has
-unfoldable pub digits_behind : ℕ → Bytes → Option ℕ
-digits_behind n [] = Some n
-digits_behind n (d ∷ digits) = if nat_lt (10 * n + (d - 48)) (2 ^ 64) then digits_behind (10 * n + (d - 48)) digits else None
-
-abbrev pub number_value : Bytes → Option ℕ
-number_value digits = digits_behind 0 digits
-
--- a number, with a sign before it or without
-abbrev pub signed : Bool → ℕ → ℤ
-signed true zero = pos zero
-signed true (suc n) = negsuc n
-signed false n = pos n
-
-abbrev pub integer_of : Bool → Bytes → Option ℤ
-integer_of negative digits = option_map (signed negative) (number_value digits)
 
 -- the constant, where the value is one of the type
 abbrev pub constant : Ty → Raw → Named

@@ -1,6 +1,5 @@
 -- The written text of an expression, one line for each kind.
-use Rattle.std.specs.Prelude.{◌≡◌, ℕ, ◌==◌, Bool, true, false, not, ◌&&◌, List, [], ◌∷◌, ◌++◌, Option, Some, None, Result, Ok, Err, if◌then◌else◌, codes}
-use Rattle.std.specs.List.{flat_map, list_all}
+use Rattle.std.specs.Prelude.{◌≡◌, Bool, true, false, not, ◌&&◌, List, [], ◌∷◌, ◌++◌, Result, Ok, Err, if◌then◌else◌, codes}
 use Rattle.std.specs.Fmt.{signed_decimal}
 use Rattle.vx_dtype.specs.declared.StrictComparison.{StrictComparison}
 use Rattle.vx_dtype.specs.declared.StrictComparison.TheVariants.{Strict, NonStrict}
@@ -16,38 +15,9 @@ use Rattle.vx_expr.specs.declared.selections.FieldSelection.{FieldSelection}
 use Rattle.vx_expr.specs.OperatorTexts.{operator_text}
 use Rattle.vx_expr.specs.Trees.{Tree, root, literal, get_item, binary, not_of, is_null_of, like, between, cast}
 use Rattle.vx_expr.specs.Trees.{list_contains, pack, merge, select, dynamic, Trees, no_trees, tree}
-use Rattle.vx_text.specs.declared.tokens.Keyword.{Keyword}
 use Rattle.vx_text.specs.declared.errors.TextError.{TextError}
 use Rattle.vx_text.specs.declared.errors.TextError.TheVariants as errors
-use Rattle.vx_text.specs.Tokens.{is_first, is_inner, keyword_of}
-
--- a text between two marks, each mark in it twice
-abbrev pub doubled : ℕ → ℕ → Bytes
-doubled mark b = if b == mark then mark ∷ mark ∷ [] else b ∷ []
-
-abbrev pub within_marks : ℕ → Bytes → Bytes
-within_marks mark s = mark ∷ [] ++ (flat_map (doubled mark) s ++ mark ∷ [])
-
--- whether a name can be a word: it has the characters of one, and isn't reserved
-abbrev pub is_word : Bytes → Bool
-is_word [] = false
-is_word (b ∷ s) = is_first b && list_all is_inner s
-
-abbrev pub is_free : Option Keyword → Bool
-is_free (Some k) = false
-is_free None = true
-
-abbrev pub is_plain_word : Bytes → Bool
-is_plain_word s = is_word s && is_free (keyword_of s)
-
--- a name: a word where it can be one, else between `"`
-unfoldable pub name_text : Bytes → Bytes
-name_text s = if is_plain_word s then s else within_marks 34 s
-
--- names, the first behind the separator, each other one behind `, `
-unfoldable pub names_text : Bytes → List Bytes → Bytes
-names_text separator [] = []
-names_text separator (f ∷ fs) = separator ++ (name_text f ++ names_text (codes ", ") fs)
+use Rattle.vx_tokens.specs.Names.{within_marks, name_text, names_text}
 
 -- a choice of fields: `{a, b}`, or `~{a, b}`
 abbrev pub choice_text : FieldSelection → Bytes

@@ -6,10 +6,9 @@ ghost use Rattle.vx_dtype.specs.RawViews.{raw_view, raws_of};
 ghost use Rattle.vx_dtype.specs.ScalarTexts.{in_brackets, in_braces, number_suffix};
 ghost use Rattle.vx_text.specs.Writing.{type_text, labels_text, item_text, items_text, is_bare, literal_text};
 
-use crate::characters::integer_name;
-use crate::marks::{write_name, write_within_marks};
 use std::fmt;
 use vx_dtype::{DType, Scalar, ScalarValue, StructFields};
+use vx_tokens::{integer_name, write_name, write_within_marks};
 
 /// Writes a type.
 #[cycle(types)]

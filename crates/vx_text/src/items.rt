@@ -1,16 +1,17 @@
 // Items: values without their type, as a query writes them.
 ghost use Rattle.std.specs.Prelude.{◌≡◌, ◌≤◌, ◌++◌, ◌∷◌, [], IfOk, Some, option_map, map};
 ghost use Rattle.vx_dtype.specs.RawViews.{raw_view};
-ghost use Rattle.vx_text.specs.declared.tokens.Sign.TheVariants as signs;
-ghost use Rattle.vx_text.specs.Readings.{and_one, digits_behind, number_value, signed, integer_of};
-ghost use Rattle.vx_text.specs.Grammar.{parts, more_parts, most_tokens, integer_item, negative_item, sign_item, word_item, item_with, item_at, item_front, list_item, struct_item};
+ghost use Rattle.vx_tokens.specs.declared.tokens.Sign.TheVariants as signs;
+ghost use Rattle.vx_tokens.specs.Numbers.{digits_behind, number_value, signed, integer_of};
+ghost use Rattle.vx_text.specs.Readings.{and_one};
+ghost use Rattle.vx_text.specs.Grammar.{parts, more_parts, most_tokens, integer_item, negative_item, sign_item, word_item, item_with, item_at};
+ghost use Rattle.vx_text.specs.Grammar.{item_front, list_item, struct_item};
 
-use crate::numbers::integer_of;
 use crate::parts::{MOST_TOKENS, after};
-use crate::tokens::{Keyword, Sign, Token};
 use std::alloc::Global;
 use std::rc::Rc;
 use vx_dtype::{Mem, PType, ScalarValue, Text};
+use vx_tokens::{Keyword, Sign, Token, integer_of};
 
 /// The number of these digits, which no type's name stands behind.
 fn integer_item<'a>(

@@ -1,21 +1,17 @@
 //! Queries as texts: texts to expressions, and back.
 #![tactic(auto)]
 
-mod characters;
 mod constants;
 mod errors;
 mod items;
 mod laws;
-mod lexing;
-mod marks;
+mod literals;
 mod naming;
-mod numbers;
 mod operators;
 mod parts;
 mod queries;
 mod reading;
 mod steps;
-mod tokens;
 mod types;
 mod writable;
 mod writing;

@@ -3,10 +3,10 @@ ghost use Rattle.std.specs.Prelude.{◌≡◌, ◌<◌, ◌^◌, ◌+◌, IfOk, 
 ghost use Rattle.vx_dtype.specs.TypeViews.{type_view};
 ghost use Rattle.vx_expr.specs.declared.selections.FieldSelection.{FieldSelection};
 ghost use Rattle.vx_expr.specs.Trees as trees;
-ghost use Rattle.vx_text.specs.Readings.{binary_of, negated, takes, call_tree, called_with, call_of, is_null_call, contains_call, like_call, between_call, and_one, with_name, pack_of};
+ghost use Rattle.vx_text.specs.Readings.{binary_of, negated, takes, call_tree, called_with, call_of, is_null_call, contains_call, like_call};
+ghost use Rattle.vx_text.specs.Readings.{between_call, and_one, with_name, pack_of};
 ghost use Rattle.vx_text.specs.Grammar.{field_of, included, excluded};
 
-use crate::tokens::Keyword;
 use std::alloc::Global;
 use vx_build::{between, get_item, is_null, list_contains, merge, not, pack};
 use vx_dtype::{
@@ -16,6 +16,7 @@ use vx_expr::{
     BinaryExpr, CastExpr, ExprRef, LikeExpr, Operator, SelectExpr, one_child, three_children,
     two_children,
 };
+use vx_tokens::Keyword;
 
 /// Two operands under an operator.
 #[tactic(auto, unfolding(crate::specs::Readings::binary_of))]

@@ -2,8 +2,8 @@
 ghost use Rattle.std.specs.Prelude.{◌≡◌, option_map};
 ghost use Rattle.vx_text.specs.Grammar.{word_operator, sign_operator, token_operator, level_of, level_number, operator_at};
 
-use crate::tokens::{Keyword, Sign, Token};
 use vx_expr::Operator;
+use vx_tokens::{Keyword, Sign, Token};
 
 /// How tightly an operator binds, the loosest first.
 #[derive(Clone, Copy)]

@@ -1,11 +1,11 @@
 // Names, and the signs between parts.
 ghost use Rattle.std.specs.Prelude.{◌≡◌, [], IfOk, option_map, map, suc};
-ghost use Rattle.vx_text.specs.declared.tokens.Sign.TheVariants as signs;
+ghost use Rattle.vx_tokens.specs.declared.tokens.Sign.TheVariants as signs;
 ghost use Rattle.vx_text.specs.Grammar.{after, name_at, names_at, more_parts, and_then, most_tokens};
 
-use crate::tokens::{Sign, Token};
 use std::alloc::Global;
 use vx_dtype::{FieldName, Mem, Text};
+use vx_tokens::{Sign, Token};
 
 /// The most tokens that a query has, and so the most parts of any kind one behind another, or one in another.
 pub(crate) const MOST_TOKENS: usize = 4096;
@@ -51,7 +51,8 @@ fn more_names(
     mut names: Vec<FieldName>,
     tokens: &[Token],
 ) -> Mem<Option<(Vec<FieldName>, &[Token])>>
-    ensures { IfOk result (λ found. option_map (λ x. (x.0.items, x.1.now)) found ≡ more_parts name_at and_then signs.CurlyClose more names.items tokens.now) }
+    ensures { IfOk result (λ found. option_map (λ x. (x.0.items, x.1.now)) found
+        ≡ more_parts name_at and_then signs.CurlyClose more names.items tokens.now) }
 {
     if more == 0 {
         return Ok(None);

@@ -1,24 +1,25 @@
 // Queries, rule by rule of their grammar.
 ghost use Rattle.std.specs.Prelude.{◌≡◌, ◌≤◌, ◌+◌, [], Some, IfOk, option_map, map, length};
 ghost use Rattle.vx_dtype.specs.declared.Nullability.{Nullability};
-ghost use Rattle.vx_text.specs.declared.tokens.Sign.TheVariants as signs;
-ghost use Rattle.vx_text.specs.declared.operators.Level.TheVariants as levels;
+ghost use Rattle.vx_tokens.specs.declared.tokens.Sign.TheVariants as signs;
 ghost use Rattle.vx_text.specs.Readings.{and_one, and_argument, number_literal, call_of, pack_of};
-ghost use Rattle.vx_text.specs.Grammar.{most_tokens, more_parts, parts, named, labelled, chain, arguments_with, all_named_with, lit_behind, column, steps, steps_behind, negative_number, nots_at};
-ghost use Rattle.vx_text.specs.Grammar.{plain_call, pack_call, cast_call, word_atom, sign_atom, atom_with, post_with, sum_with, compare_with, not_with, and_with, or_with, query_at, query_of};
+ghost use Rattle.vx_text.specs.Grammar.{most_tokens, more_parts, parts, named, labelled, chain, arguments_with, all_named_with, lit_behind, column};
+ghost use Rattle.vx_text.specs.Grammar.{steps, steps_behind, negative_number, nots_at};
+ghost use Rattle.vx_text.specs.Grammar.{plain_call, pack_call, cast_call, word_atom, sign_atom, atom_with, post_with, operand_with, chained};
+ghost use Rattle.vx_text.specs.Grammar.{compare_with, not_with, query_at, query_of};
 
 use crate::items::item_front;
+use crate::literals::{bool_literal, constant_of, number_literal, text_literal};
 use crate::naming::{and_named, and_one, binary_of, call_of, cast_of, negated, pack_of};
-use crate::numbers::{bool_literal, constant_of, number_literal, text_literal};
 use crate::operators::{Level, operator_front};
 use crate::parts::{MOST_TOKENS, after, name_front};
 use crate::steps::steps_front;
-use crate::tokens::{Keyword, Sign, Token};
 use crate::types::type_front;
 use std::alloc::Global;
 use vx_build::{col, root};
 use vx_dtype::{FieldName, Mem, Nullability, Text};
 use vx_expr::ExprRef;
+use vx_tokens::{Keyword, Sign, Token};
 
 /// The constant behind `lit`, and the tokens behind it.
 #[tactic(auto, unfolding(crate::specs::Grammar::lit_behind))]
@@ -93,30 +94,34 @@ fn query_front(
     if deep == 0 {
         return Ok(None);
     }
-    or_front(alloc, deep - 1, tokens)
+    chained_front(alloc, Level::Disjunction, deep - 1, tokens)
 }
 
-/// or = and { "or" and }
+/// Operands of a level with its operators between them, and the tokens behind them: or = and { "or" and }, and = not { "and" not },
+/// sum = post { ("+" | "-") post }
 #[cycle(query)]
 #[tactic(auto)]
-fn or_front(
+fn chained_front(
     alloc: Global,
+    level: Level,
     deep: usize,
     tokens: &[Token],
 ) -> Mem<Option<(Option<ExprRef>, &[Token])>>
-    ensures { IfOk result (λ found. option_map (λ x. (x.0, x.1.now)) found ≡ or_with (query_at deep) tokens.now) }
+    ensures { IfOk result (λ found. option_map (λ x. (x.0, x.1.now)) found
+        ≡ chained level (operand_with level (query_at deep)) tokens.now) }
 {
-    let Some((left, rest)) = and_front(alloc, deep, tokens)? else {
+    let Some((left, rest)) = operand_front(alloc, level, deep, tokens)? else {
         return Ok(None);
     };
-    or_chain(alloc, deep, MOST_TOKENS, left, rest)
+    chain_front(alloc, level, deep, MOST_TOKENS, left, rest)
 }
 
-/// { "or" and }, behind a left operand
+/// { operator operand }, behind a left operand
 #[cycle(query)]
 #[tactic(auto, unfolding(crate::specs::Grammar::chain))]
-fn or_chain<'a>(
+fn chain_front<'a>(
     alloc: Global,
+    level: Level,
     deep: usize,
     more: usize,
     left: Option<ExprRef>,
@@ -124,62 +129,37 @@ fn or_chain<'a>(
 ) -> Mem<Option<(Option<ExprRef>, &'a [Token])>>
     requires { more ≤ 4096 }
     ensures { IfOk result (λ found. option_map (λ x. (x.0, x.1.now)) found
-        ≡ chain levels.Disjunction (and_with (query_at deep)) more left tokens.now) }
+        ≡ chain level (operand_with level (query_at deep)) more left tokens.now) }
 {
     if more == 0 {
         return Ok(Some((left, tokens)));
     }
-    let Some((operator, rest)) = operator_front(Level::Disjunction, tokens) else {
+    let Some((operator, rest)) = operator_front(level, tokens) else {
         return Ok(Some((left, tokens)));
     };
-    let Some((right, rest)) = and_front(alloc, deep, rest)? else {
+    let Some((right, rest)) = operand_front(alloc, level, deep, rest)? else {
         return Ok(None);
     };
     let left = binary_of(alloc, left, operator, right)?;
-    or_chain(alloc, deep, more - 1, left, rest)
+    chain_front(alloc, level, deep, more - 1, left, rest)
 }
 
-/// and = not { "and" not }
+/// What stands on either side of an operator of this level, and the tokens behind it.
 #[cycle(query)]
-#[tactic(auto)]
-fn and_front(
+fn operand_front(
     alloc: Global,
+    level: Level,
     deep: usize,
     tokens: &[Token],
 ) -> Mem<Option<(Option<ExprRef>, &[Token])>>
-    ensures { IfOk result (λ found. option_map (λ x. (x.0, x.1.now)) found ≡ and_with (query_at deep) tokens.now) }
+    ensures { IfOk result (λ found. option_map (λ x. (x.0, x.1.now)) found ≡ operand_with level (query_at deep) tokens.now) }
 {
-    let Some((left, rest)) = not_front(alloc, deep, tokens)? else {
-        return Ok(None);
-    };
-    and_chain(alloc, deep, MOST_TOKENS, left, rest)
-}
-
-/// { "and" not }, behind a left operand
-#[cycle(query)]
-#[tactic(auto, unfolding(crate::specs::Grammar::chain))]
-fn and_chain<'a>(
-    alloc: Global,
-    deep: usize,
-    more: usize,
-    left: Option<ExprRef>,
-    tokens: &'a [Token],
-) -> Mem<Option<(Option<ExprRef>, &'a [Token])>>
-    requires { more ≤ 4096 }
-    ensures { IfOk result (λ found. option_map (λ x. (x.0, x.1.now)) found
-        ≡ chain levels.Conjunction (not_with (query_at deep)) more left tokens.now) }
-{
-    if more == 0 {
-        return Ok(Some((left, tokens)));
+    match level {
+        Level::Disjunction => chained_front(alloc, Level::Conjunction, deep, tokens),
+        Level::Conjunction => not_front(alloc, deep, tokens),
+        Level::Comparison => chained_front(alloc, Level::Sum, deep, tokens),
+        Level::Sum => post_front(alloc, deep, tokens),
     }
-    let Some((operator, rest)) = operator_front(Level::Conjunction, tokens) else {
-        return Ok(Some((left, tokens)));
-    };
-    let Some((right, rest)) = not_front(alloc, deep, rest)? else {
-        return Ok(None);
-    };
-    let left = binary_of(alloc, left, operator, right)?;
-    and_chain(alloc, deep, more - 1, left, rest)
 }
 
 /// not = "not" not | compare
@@ -207,59 +187,16 @@ fn compare_front(
 ) -> Mem<Option<(Option<ExprRef>, &[Token])>>
     ensures { IfOk result (λ found. option_map (λ x. (x.0, x.1.now)) found ≡ compare_with (query_at deep) tokens.now) }
 {
-    let Some((left, rest)) = sum_front(alloc, deep, tokens)? else {
+    let Some((left, rest)) = operand_front(alloc, Level::Comparison, deep, tokens)? else {
         return Ok(None);
     };
     let Some((operator, after)) = operator_front(Level::Comparison, rest) else {
         return Ok(Some((left, rest)));
     };
-    let Some((right, rest)) = sum_front(alloc, deep, after)? else {
+    let Some((right, rest)) = operand_front(alloc, Level::Comparison, deep, after)? else {
         return Ok(None);
     };
     Ok(Some((binary_of(alloc, left, operator, right)?, rest)))
-}
-
-/// sum = post { ("+" | "-") post }
-#[cycle(query)]
-#[tactic(auto)]
-fn sum_front(
-    alloc: Global,
-    deep: usize,
-    tokens: &[Token],
-) -> Mem<Option<(Option<ExprRef>, &[Token])>>
-    ensures { IfOk result (λ found. option_map (λ x. (x.0, x.1.now)) found ≡ sum_with (query_at deep) tokens.now) }
-{
-    let Some((left, rest)) = post_front(alloc, deep, tokens)? else {
-        return Ok(None);
-    };
-    sum_chain(alloc, deep, MOST_TOKENS, left, rest)
-}
-
-/// { ("+" | "-") post }, behind a left operand
-#[cycle(query)]
-#[tactic(auto, unfolding(crate::specs::Grammar::chain))]
-fn sum_chain<'a>(
-    alloc: Global,
-    deep: usize,
-    more: usize,
-    left: Option<ExprRef>,
-    tokens: &'a [Token],
-) -> Mem<Option<(Option<ExprRef>, &'a [Token])>>
-    requires { more ≤ 4096 }
-    ensures { IfOk result (λ found. option_map (λ x. (x.0, x.1.now)) found
-        ≡ chain levels.Sum (post_with (query_at deep)) more left tokens.now) }
-{
-    if more == 0 {
-        return Ok(Some((left, tokens)));
-    }
-    let Some((operator, rest)) = operator_front(Level::Sum, tokens) else {
-        return Ok(Some((left, tokens)));
-    };
-    let Some((right, rest)) = post_front(alloc, deep, rest)? else {
-        return Ok(None);
-    };
-    let left = binary_of(alloc, left, operator, right)?;
-    sum_chain(alloc, deep, more - 1, left, rest)
 }
 
 /// post = atom { "." name | "{" names "}" | "~" "{" names "}" }

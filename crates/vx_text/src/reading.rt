@@ -3,11 +3,11 @@ ghost use Rattle.std.specs.Prelude.{◌≡◌, Some};
 ghost use Rattle.vx_text.specs.Reading.{IsRead};
 
 use crate::errors::TextError;
-use crate::lexing::tokens_of;
 use crate::parts::MOST_TOKENS;
 use crate::queries::query_of;
 use std::alloc::Global;
 use vx_expr::ExprRef;
+use vx_tokens::tokens_of;
 
 /// The most bytes that a text may have.
 pub const MOST_BYTES: usize = 1_048_576;

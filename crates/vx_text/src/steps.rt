@@ -4,10 +4,10 @@ ghost use Rattle.vx_text.specs.Grammar.{dot_step, include_step, exclude_step, st
 
 use crate::naming::{excluded, field_of, included};
 use crate::parts::{after, name_front, names_front};
-use crate::tokens::{Sign, Token};
 use std::alloc::Global;
 use vx_dtype::Mem;
 use vx_expr::ExprRef;
+use vx_tokens::{Sign, Token};
 
 /// A step into an expression: a field, some of the fields, or all but some.
 #[derive(Clone, Copy)]

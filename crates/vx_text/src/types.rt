@@ -3,15 +3,15 @@ ghost use Rattle.std.specs.Prelude.{◌≡◌, ◌≤◌, length, [], IfOk, IfSo
 ghost use Rattle.vx_dtype.specs.TypeViews.{type_view};
 ghost use Rattle.vx_dtype.specs.Zipped.{zipped};
 ghost use Rattle.vx_text.specs.TypeParts.{field_list};
-ghost use Rattle.vx_text.specs.declared.tokens.Sign.TheVariants as signs;
-ghost use Rattle.vx_text.specs.Grammar.{after, name_at, parts, more_parts, labelled, and_field, most_tokens, plain_type, struct_type, list_with, struct_with, word_base, sign_base, base_with, marked, type_with, type_at, type_front};
+ghost use Rattle.vx_tokens.specs.declared.tokens.Sign.TheVariants as signs;
+ghost use Rattle.vx_text.specs.Grammar.{after, name_at, parts, more_parts, labelled, and_field, most_tokens, plain_type, struct_type, list_with};
+ghost use Rattle.vx_text.specs.Grammar.{struct_with, word_base, sign_base, base_with, marked, type_with, type_at, type_front};
 
-use crate::characters::integer_named;
 use crate::parts::{MOST_TOKENS, after, name_front};
-use crate::tokens::{Sign, Token};
 use std::alloc::Global;
 use std::rc::Rc;
 use vx_dtype::{DType, ElementType, FieldName, FieldNames, Mem, Nullability, StructFields, Text};
+use vx_tokens::{Sign, Token, integer_named};
 
 /// The type that no type stands in, of this name.
 fn plain_type(word: &str) -> Option<DType>

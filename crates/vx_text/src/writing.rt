@@ -6,17 +6,19 @@ ghost use Rattle.std.specs.Result.{result_map_both};
 ghost use Rattle.vx_dtype.specs.TypeViews.{type_view};
 ghost use Rattle.vx_expr.specs.Trees.{trees_of, children_of};
 ghost use Rattle.vx_expr.specs.Nodes.{binary_tree, item_tree, not_tree, select_tree};
-ghost use Rattle.vx_text.specs.Writing.{like_word, between_word, pack_word, merge_word, query_text, listed_texts, named_texts, IsWritten};
+ghost use Rattle.vx_text.specs.Writing.{choice_text, like_word, between_word, pack_word, merge_word, query_text, listed_texts, named_texts, IsWritten};
 ghost use Rattle.vx_text.specs.WritingParts.{call_text, cast_text, pack_text};
 
 use crate::constants::{write_literal, write_type};
 use crate::errors::TextError;
-use crate::marks::{write_choice, write_name};
 use crate::writable::is_writable;
 use std::alloc::Global;
 use std::fmt;
 use vx_dtype::{BetweenOptions, DType, FieldName, FieldNames, Nullability, StrictComparison};
-use vx_expr::{BinaryExpr, Expr, ExprRef, GetItemExpr, NotExpr, SelectExpr, VortexExpr};
+use vx_expr::{
+    BinaryExpr, Expr, ExprRef, FieldSelection, GetItemExpr, NotExpr, SelectExpr, VortexExpr,
+};
+use vx_tokens::{write_name, write_names};
 
 /// The text of an expression, which is read as the same expression where it isn't too long.
 ///
@@ -83,6 +85,27 @@ fn merge_word(nullability: Nullability) -> &'static str
     match nullability {
         Nullability::NonNullable => "merge",
         Nullability::Nullable => "merge_null",
+    }
+}
+
+/// Writes a choice of fields: `{a, b}`, or `~{a, b}`.
+pub(crate) fn write_choice<W: fmt::Write>(
+    selection: &FieldSelection,
+    f: &mut fmt::Formatter<W>,
+) -> fmt::Result
+    ensures { WritesOnOk W.write_str_gives f.old result (choice_text selection.now) f.new }
+{
+    match selection {
+        FieldSelection::Include(names) => {
+            f.write_str("{")?;
+            write_names(names.as_slice(), f)?;
+            f.write_str("}")
+        }
+        FieldSelection::Exclude(names) => {
+            f.write_str("~{")?;
+            write_names(names.as_slice(), f)?;
+            f.write_str("}")
+        }
     }
 }
 

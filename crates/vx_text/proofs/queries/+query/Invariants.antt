@@ -1,32 +1,32 @@
-use Rattle.std.proofs.Common.{◌+◌, ◌*◌}
+use Rattle.std.proofs.Common.{ℕ, ◌+◌, ◌*◌}
+use Rattle.vx_text.specs.declared.operators.Level.{Level}
+use Rattle.vx_text.specs.declared.operators.Level.TheVariants as levels
 use Rattle.vx_text.proofs.queries.+query.Given as goal
 
 abbrev pub decreases-query_front : goal.decreases-query_front
 decreases-query_front l = 1048576 * l.deep
 
-abbrev pub decreases-or_front : goal.decreases-or_front
-decreases-or_front l = 1048576 * l.deep + 900000
+-- the tighter an operator binds, the lower its operands
+abbrev of_level : Level → ℕ
+of_level levels.Disjunction = 800000
+of_level levels.Conjunction = 600000
+of_level levels.Comparison = 500000
+of_level levels.Sum = 400000
 
-abbrev pub decreases-or_chain : goal.decreases-or_chain
-decreases-or_chain l = 1048576 * l.deep + 800000 + l.more
+abbrev pub decreases-chained_front : goal.decreases-chained_front
+decreases-chained_front l = 1048576 * l.deep + of_level l.level + 20000
 
-abbrev pub decreases-and_front : goal.decreases-and_front
-decreases-and_front l = 1048576 * l.deep + 700000
+abbrev pub decreases-chain_front : goal.decreases-chain_front
+decreases-chain_front l = 1048576 * l.deep + of_level l.level + 10000 + l.more
 
-abbrev pub decreases-and_chain : goal.decreases-and_chain
-decreases-and_chain l = 1048576 * l.deep + 600000 + l.more
+abbrev pub decreases-operand_front : goal.decreases-operand_front
+decreases-operand_front l = 1048576 * l.deep + of_level l.level
 
 abbrev pub decreases-not_front : goal.decreases-not_front
 decreases-not_front l = 1048576 * l.deep + 550000
 
 abbrev pub decreases-compare_front : goal.decreases-compare_front
 decreases-compare_front l = 1048576 * l.deep + 540000
-
-abbrev pub decreases-sum_front : goal.decreases-sum_front
-decreases-sum_front l = 1048576 * l.deep + 500000
-
-abbrev pub decreases-sum_chain : goal.decreases-sum_chain
-decreases-sum_chain l = 1048576 * l.deep + 400000 + l.more
 
 abbrev pub decreases-post_front : goal.decreases-post_front
 decreases-post_front l = 1048576 * l.deep + 350000

@@ -1,0 +1,14 @@
+//! The tokens of queries: a text is cut into them, and names, and texts between marks, are written as them.
+#![tactic(auto)]
+
+mod characters;
+mod lexing;
+mod marks;
+mod numbers;
+mod tokens;
+
+pub use characters::{integer_name, integer_named};
+pub use lexing::tokens_of;
+pub use marks::{write_name, write_names, write_within_marks};
+pub use numbers::integer_of;
+pub use tokens::{Keyword, Sign, Token};
