@@ -35,7 +35,6 @@ pub fn show_tree(alloc: Global, registry: &ExprRegistry, bytes: &[u8]) -> Result
 
 /// The query that names the expression which bytes spell, in a line. Refuses as [`show`] does: no bytes spell a dynamic
 /// comparison, so each expression that bytes spell has a query.
-#[tactic(auto, using(crate::proofs::ShownLemmas::spelled_is_writable))]
 pub fn show_query(
     alloc: Global,
     registry: &ExprRegistry,
