@@ -35,11 +35,7 @@ pub fn show_tree(alloc: Global, registry: &ExprRegistry, bytes: &[u8]) -> Result
 
 /// The query that names the expression which bytes spell, in a line. Refuses as [`show`] does: no bytes spell a dynamic
 /// comparison, so each expression that bytes spell has a query.
-pub fn show_query(
-    alloc: Global,
-    registry: &ExprRegistry,
-    bytes: &[u8],
-) -> Result<String, ScanError>
+pub fn show_query(alloc: Global, registry: &ExprRegistry, bytes: &[u8]) -> Result<String, ScanError>
     ensures { Shows query_line (registered registry.now) bytes.now result }
 {
     let expr = decode_expr(alloc, registry, bytes, Side::Text)?;
