@@ -1,5 +1,8 @@
 pub mod RebuildLemmas
 mod TypeLemmas
+mod PlaceLemmas
+mod BoundLemmas
+mod WaitLemmas
 mod PairLemmas
 mod MergeLemmas
 mod ChangeLemmas

@@ -1,4 +1,4 @@
--- Pairing a conjunct with a later one, place by place, and how many conjuncts are left then.
+-- Conjuncts that are taken in one after another are paired as in order, and how many are left of them.
 use Rattle.std.proofs.Common.{◌≡◌, ℕ, zero, suc, ◌+◌, ◌<◌, ◌≤◌, List, [], ◌∷◌, ◌++◌, length, take, drop, Option, Some, None, option_map, refl, sym, ap, ◌∙◌, append_assoc, arith}
 use Rattle.std.specs.Prelude.{unwrap_or}
 use Rattle.std.specs.Option.{OnSome}
@@ -10,46 +10,8 @@ use Rattle.vx_expr.specs.Trees.{Tree, binary}
 use Rattle.vx_build.specs.Collectors.{joined_after, joined_left}
 use Rattle.vx_build.proofs.CollectorLemmas.{joined_after_last}
 use Rattle.vx_passes.specs.Ranges.{Paired, range_of, behind, paired_or, paired, placed, with_ranges}
-use Rattle.vx_transform.specs.Pairs.{range_found, others_of}
-
--- a pair with these conjuncts before the others
-abbrev pub put_before : List Tree → Option Paired → Option Paired
-put_before ds pair = option_map (λ p. record { range = p.range; others = ds ++ p.others }) pair
-
-pub none_before : (pair : Option Paired) → pair ≡ put_before [] pair
-none_before None = refl
-none_before (Some p) = refl
-
-one_before : (ds : List Tree) (d : Tree) (pair : Option Paired) → put_before ds (option_map (behind d) pair) ≡ put_before (ds ++ d ∷ []) pair
-one_before ds d None = refl
-one_before ds d (Some p) = ap (λ es. Some (record { range = p.range; others = es })) (sym (append_assoc ds (d ∷ []) p.others))
-
-module _ (c : Tree) (cs : List Tree) (i : ℕ) (so_far : paired c cs ≡ put_before (take i cs) (paired c (drop i cs))) where
-  module _ (d : Tree) (within : i < length cs) (is : d ≡ get_or cs i d) where
-    left_here : drop i cs ≡ d ∷ drop (i + 1) cs
-    left_here = drop_more cs i d within ∙ ap (λ e. e ∷ drop (i + 1) cs) (sym is)
-
-    taken_here : take (i + 1) cs ≡ take i cs ++ d ∷ []
-    taken_here = take_more cs i d within ∙ ap (λ e. take i cs ++ e ∷ []) (sym is)
-
-    here : (o : Option Tree) → range_of c d ≡ o → paired c cs ≡ put_before (take i cs) (paired_or o (drop (i + 1) cs) (option_map (behind d) (paired c (drop (i + 1) cs))))
-    here o e =
-        so_far ∙ ap (λ ds. put_before (take i cs) (paired c ds)) left_here
-        ∙ ap (λ p. put_before (take i cs) (paired_or p (drop (i + 1) cs) (option_map (behind d) (paired c (drop (i + 1) cs))))) e
-
-    -- a conjunct without a range is passed over
-    pub passed_over : range_of c d ≡ None → paired c cs ≡ put_before (take (i + 1) cs) (paired c (drop (i + 1) cs))
-    passed_over e =
-        here None e ∙ one_before (take i cs) d (paired c (drop (i + 1) cs))
-        ∙ ap (λ ds. put_before ds (paired c (drop (i + 1) cs))) (sym taken_here)
-
-    -- the first with one is the pair's
-    pub found_here : (range : Tree) → range_of c d ≡ Some range → paired c cs ≡ Some (record { range = range; others = take i cs ++ drop (i + 1) cs })
-    found_here range e = here (Some range) e
-
-  -- past the last conjunct there is no pair
-  pub none_found : length cs ≤ i → paired c cs ≡ None
-  none_found past = so_far ∙ ap (λ ds. put_before (take i cs) (paired c ds)) (drop_all i cs past)
+use Rattle.vx_transform.specs.Pairs.{range_found, others_of, put_or, taken_in, all_taken_in}
+use Rattle.vx_transform.proofs.BoundLemmas.{range_makes_none}
 
 -- ---- how many are left
 
@@ -69,43 +31,49 @@ placed_by : (rest : List Tree → List Tree) (c : Tree) (cs : List Tree) (pair :
 placed_by rest c cs None = refl
 placed_by rest c cs (Some p) = refl
 
--- the number of conjuncts at least doesn't matter
-enough : (m n : ℕ) (cs : List Tree) → length cs ≤ m → length cs ≤ n → with_ranges m cs ≡ with_ranges n cs
-enough zero zero cs h k = refl
-enough zero (suc n) [] h k = refl
-enough zero (suc n) (c ∷ cs) h k = absurd (omega (arith, h))
-enough (suc m) zero [] h k = refl
-enough (suc m) zero (c ∷ cs) h k = absurd (omega (arith, k))
-enough (suc m) (suc n) [] h k = refl
-enough (suc m) (suc n) (c ∷ cs) h k =
+-- ---- conjuncts that are taken in one after another
+
+-- a range stands before what is made of the others
+range_first : (x : Tree) → ((e : Tree) → range_of x e ≡ None) → (made ds : List Tree) → all_taken_in (x ∷ made) ds ≡ x ∷ all_taken_in made ds
+range_first x none made [] = refl
+range_first x none made (d ∷ ds) =
+    ap (λ (o : Option Tree). all_taken_in (put_or o x made (taken_in made d)) ds) (none d) ∙ range_first x none (taken_in made d) ds
+
+pair_behind : (c d : Tree) (made ds : List Tree) (pair : Option Paired)
+    → placed (all_taken_in (taken_in made d)) c ds pair ≡ placed (all_taken_in made) c (d ∷ ds) (option_map (behind d) pair)
+pair_behind c d made ds None = refl
+pair_behind c d made ds (Some p) = refl
+
+-- a conjunct, or its range with the first later one that makes one with it, before what is made of the others
+first_taken : (c : Tree) (made cs : List Tree) → all_taken_in (c ∷ made) cs ≡ placed (all_taken_in made) c cs (paired c cs)
+first_taken c made [] = refl
+first_taken c made (d ∷ ds) = by-range (range_of c d) refl (first_taken c (taken_in made d) ds)
+  where
+    by-range : (o : Option Tree) → range_of c d ≡ o → all_taken_in (c ∷ taken_in made d) ds ≡ placed (all_taken_in (taken_in made d)) c ds (paired c ds)
+        → all_taken_in (put_or o c made (taken_in made d)) ds ≡ placed (all_taken_in made) c (d ∷ ds) (paired_or o ds (option_map (behind d) (paired c ds)))
+    by-range (Some x) e rest = range_first x (range_makes_none c d x e) made ds
+    by-range None e rest = rest ∙ pair_behind c d made ds (paired c ds)
+
+-- taken in one after another, the conjuncts are paired in order
+pub all_taken : (n : ℕ) (cs : List Tree) → length cs ≤ n → all_taken_in [] cs ≡ with_ranges n cs
+all_taken zero [] h = refl
+all_taken zero (c ∷ cs) h = absurd (omega (arith, h))
+all_taken (suc n) [] h = refl
+all_taken (suc n) (c ∷ cs) h =
     let pair = paired c cs in
-    let le = others_le c cs in
-    placed_by (with_ranges m) c cs pair
-    ∙ ap (λ ds. unwrap_or (range_found pair) c ∷ ds) (enough m n (others_of cs pair) (omega (arith, h, le)) (omega (arith, k, le)))
+    first_taken c [] cs ∙ placed_by (all_taken_in []) c cs pair
+    ∙ ap (λ ds. unwrap_or (range_found pair) c ∷ ds) (all_taken n (others_of cs pair) (omega (arith, h, others_le c cs)))
     ∙ sym (placed_by (with_ranges n) c cs pair)
 
--- the first conjunct or its range, before what the others become
-pub first_placed : (c : Tree) (cs left : List Tree) (range : Option Tree) → left ≡ others_of cs (paired c cs) → range ≡ range_found (paired c cs)
-    → with_ranges (length (c ∷ cs)) (c ∷ cs) ≡ unwrap_or range c ∷ with_ranges (length left) left
-first_placed c cs left range is_left is_range =
-    let pair = paired c cs in
-    placed_by (with_ranges (length cs)) c cs pair
-    ∙ ap (λ ds. unwrap_or (range_found pair) c ∷ ds) (enough (length cs) (length (others_of cs pair)) (others_of cs pair) (others_le c cs) (omega arith))
-    ∙ ap (λ ds. unwrap_or (range_found pair) c ∷ with_ranges (length ds) ds) (sym is_left)
-    ∙ ap (λ r. unwrap_or r c ∷ with_ranges (length left) left) (sym is_range)
+pub all_taken_whole : (cs : List Tree) → all_taken_in [] cs ≡ with_ranges (length cs) cs
+all_taken_whole cs = all_taken (length cs) cs (omega arith)
 
-pub next_placed : (all made made_with : List Tree) (c : Tree) (cs left : List Tree) (range : Option Tree) → all ≡ made ++ with_ranges (length (c ∷ cs)) (c ∷ cs)
-    → made_with ≡ made ++ unwrap_or range c ∷ [] → left ≡ others_of cs (paired c cs) → range ≡ range_found (paired c cs)
-    → all ≡ made_with ++ with_ranges (length left) left
-next_placed all made made_with c cs left range so_far is_with is_left is_range =
-    so_far ∙ ap (λ ds. made ++ ds) (first_placed c cs left range is_left is_range)
-    ∙ sym (append_assoc made (unwrap_or range c ∷ []) (with_ranges (length left) left))
-    ∙ ap (λ ds. ds ++ with_ranges (length left) left) (sym is_with)
-
--- what holds where there is a value
-pub on_some : {X : Type 0} (o : Option X) (x : X) (P : Type 0) → OnSome o P → o ≡ Some x → P
-on_some None x P h e = absurd (none-some x e)
-on_some (Some y) x P h e = h
+-- a list that is its own rest is empty
+pub own_rest : (xs ys : List Tree) → xs ≡ ys → ys ≡ drop 1 xs → xs ≡ []
+own_rest [] ys h k = refl
+own_rest (x ∷ xs) ys h k =
+    let same : suc (length xs) ≡ length xs = ap length (h ∙ k) in
+    absurd (omega (arith, same))
 
 -- ---- where no range is made
 

@@ -1,6 +1,14 @@
 -- For the checker: no public clause cites this.
--- How the parts of the passes are seen: readings of comparisons, structs that go into a merge, and what is asked of a struct's type.
+-- How the parts of the passes are seen: readings of comparisons, the bounds that wait for others, structs that go into a merge,
+-- and what is asked of a struct's type.
+use Rattle.std.specs.Prelude.{ℕ, List, [], Option, option_map, unwrap_or}
+use Rattle.std.specs.HashMap.{get}
+use Rattle.vx_expr.specs.Equal.{tree_eq}
+use Rattle.vx_expr.specs.Trees.{Tree}
 use Rattle.vx_transform.specs.declared.readings.Reading.{Reading as CodeReading}
+use Rattle.vx_transform.specs.declared.waiting.Places.{Places}
+use Rattle.vx_transform.specs.declared.waiting.Waiting.{Waiting}
+use Rattle.vx_transform.specs.Pairs.{WaitsAt}
 use Rattle.vx_transform.specs.declared.givings.Giving.{Giving as CodeGiving}
 use Rattle.vx_passes.specs.Ranges.{Reading}
 use Rattle.vx_passes.specs.Merging.{Giving}
@@ -11,9 +19,13 @@ use Rattle.vx_laws_walking.specs.Walking.{StructHead}
 abbrev pub reading_view : CodeReading → Reading
 reading_view r = record { operand = r.operand.now; operator = r.operator; other = r.other.now }
 
--- two of them
-abbrev pub readings_view : CodeReading × CodeReading → Reading × Reading
-readings_view p = (reading_view p.0, reading_view p.1)
+-- the places that are kept of an operand
+abbrev pub places_at : Places → Tree → List ℕ
+places_at p e = unwrap_or (option_map (λ q. q.items) (get tree_eq p.by_operand e)) []
+
+-- what is kept are the places of the bounds among those made
+abbrev pub Waits : Waiting → List Tree → Type 0
+Waits w made = WaitsAt (places_at w.below) (places_at w.above) made
 
 -- a struct that goes into a merge
 abbrev pub giving_view : CodeGiving → Giving

@@ -16,6 +16,7 @@ mod replacing;
 mod selects;
 mod simplifying;
 mod types;
+mod waiting;
 mod walking;
 
 pub use children::with_these;

@@ -1,29 +1,54 @@
 // The conjuncts of an expression, paired into ranges.
-ghost use Rattle.std.specs.Prelude.{◌≡◌, true, [], ◌∷◌, Some, length, IfOk};
+ghost use Rattle.std.specs.Prelude.{◌≡◌, ◌<◌, true, [], ◌∷◌, Some, length, slice_get, set, IfOk, OnOk};
 ghost use Rattle.vx_expr.specs.declared.Operator.{Operator};
 ghost use Rattle.vx_expr.specs.Conjuncts.{conjuncts_of};
+ghost use Rattle.vx_expr.specs.Trees.{Tree};
 ghost use Rattle.vx_build.specs.Collectors.{joined_left};
-ghost use Rattle.vx_passes.specs.Ranges.{paired, with_ranges};
-ghost use Rattle.vx_transform.specs.Pairs.{range_found, others_of};
+ghost use Rattle.vx_passes.specs.Ranges.{range_of, with_ranges};
+ghost use Rattle.vx_transform.specs.CodeViews.{Waits};
+ghost use Rattle.vx_transform.specs.Pairs.{taken_in};
 
-use crate::readings::range_of;
+use crate::readings::{bound_of, range_of};
+use crate::waiting::Waiting;
 use std::alloc::Global;
 use std::collections::VecDeque;
 use vx_dtype::Mem;
 use vx_expr::{Expr, ExprRef, Operator};
 
-/// The range of a conjunct and the first later one with which it makes a range, which is taken out of the later ones.
-fn pair(alloc: Global, first: &ExprRef, later: &mut VecDeque<ExprRef>) -> Mem<Option<ExprRef>>
-    ensures range { IfOk result (λ range. range ≡ range_found (paired first.now later.old.items)) }
-    ensures others { IfOk result (λ range. later.new.items ≡ others_of later.old.items (paired first.now later.old.items)) }
+/// Puts the range of the conjunct at a place and a later one in that place.
+fn put_range(alloc: Global, made: &mut Vec<ExprRef>, place: usize, later: &ExprRef) -> Mem<()>
+    requires { place < length made.old.items }
+    ensures { (c range : Tree) → slice_get made.old.items place ≡ Some c → range_of c later.now ≡ Some range →
+        OnOk result (made.new.items ≡ set made.old.items place range) }
 {
-    for i in 0..later.len() {
-        if let Some(range) = range_of(alloc, first, &later[i])? {
-            later.remove(i);
-            return Ok(Some(range));
-        }
+    if let Some(range) = range_of(alloc, &made[place], later)? {
+        made[place] = range;
     }
-    Ok(None)
+    Ok(())
+}
+
+/// Takes in a conjunct: its range with the first one that waits for it stands in the place of that one; else it stands behind all, and
+/// waits where it is a bound.
+fn take_in(
+    alloc: Global,
+    conjunct: ExprRef,
+    made: &mut Vec<ExprRef>,
+    waiting: &mut Waiting,
+) -> Mem<()>
+    requires { Waits waiting.old made.old.items }
+    ensures made { OnOk result (made.new.items ≡ taken_in made.old.items conjunct) }
+    ensures waits { OnOk result (Waits waiting.new made.new.items) }
+{
+    let Some(bound) = bound_of(&conjunct) else {
+        made.push(conjunct)?;
+        return Ok(());
+    };
+    if let Some(place) = waiting.take_first(&bound) {
+        return put_range(alloc, made, place, &conjunct);
+    }
+    waiting.add(alloc, &bound, made.len())?;
+    made.push(conjunct)?;
+    Ok(())
 }
 
 /// The conjuncts in order, each paired with the first later one that makes a range with it.
@@ -32,10 +57,10 @@ pub(crate) fn with_ranges(alloc: Global, conjuncts: Vec<ExprRef>) -> Mem<Vec<Exp
     ensures without { IfOk result (λ made. length made.items ≡ length conjuncts.items → made.items ≡ conjuncts.items) }
 {
     let mut made = Vec::with_capacity(alloc, conjuncts.len())?;
+    let mut waiting = Waiting::new(alloc);
     let mut left = VecDeque::from(conjuncts);
-    while let Some(first) = left.pop_front() {
-        let range = pair(alloc, &first, &mut left)?;
-        made.push(range.unwrap_or(first))?;
+    while let Some(conjunct) = left.pop_front() {
+        take_in(alloc, conjunct, &mut made, &mut waiting)?;
     }
     Ok(made)
 }

@@ -1,11 +1,9 @@
 // Comparisons of a field access with a constant, and the range that two of them make.
-ghost use Rattle.std.specs.Prelude.{◌≡◌, option_map, is_some, IfOk};
-ghost use Rattle.std.specs.List.{find};
-ghost use Rattle.vx_expr.specs.Children.{literal_of};
+ghost use Rattle.std.specs.Prelude.{◌≡◌, option_map, IfOk};
 ghost use Rattle.vx_expr.specs.Nodes.{binary_left, binary_operator, binary_right};
-ghost use Rattle.vx_passes.specs.Ranges.{from_left, from_right, share_access, bound_below, bound_above, range_between, range_of_readings, range_of};
-ghost use Rattle.vx_transform.specs.CodeViews.{reading_view, readings_view};
-ghost use Rattle.vx_transform.specs.Pairs.{four_ways};
+ghost use Rattle.vx_passes.specs.Ranges.{from_left, from_right, bound_below, bound_above, range_between, range_of};
+ghost use Rattle.vx_transform.specs.CodeViews.{reading_view};
+ghost use Rattle.vx_transform.specs.Pairs.{is_bound, bound_of, is_from_below, range_of_bounds};
 
 use std::alloc::Global;
 use vx_dtype::{BetweenOptions, Mem, StrictComparison};
@@ -42,39 +40,44 @@ impl<'a> Reading<'a> {
         }
     }
 
-    /// Whether the other operand is a constant.
-    fn is_with_constant(&self) -> bool
-        ensures { result ≡ is_some (literal_of (reading_view self.now).other) }
+    /// Whether it is a bound: of a field access by a constant, from below or from above.
+    fn is_bound(&self) -> bool
+        ensures { result ≡ is_bound (reading_view self.now) }
     {
-        matches!(self.other.expr(), Expr::Literal(_))
+        let is_sided = bound_below(self.operator).is_some() || bound_above(self.operator).is_some();
+        let is_constant = matches!(self.other.expr(), Expr::Literal(_));
+        GetItemExpr::is(self.operand) && is_constant && is_sided
+    }
+
+    /// The operand that is bounded.
+    pub(crate) fn operand(&self) -> &ExprRef
+        ensures { result.now ≡ (reading_view self.now).operand }
+    {
+        self.operand
+    }
+
+    /// Whether the bound is from below.
+    pub(crate) fn is_from_below(&self) -> bool
+        ensures { result ≡ is_from_below (reading_view self.now) }
+    {
+        bound_below(self.operator).is_some()
     }
 }
 
-/// Whether two readings are of one field access.
-fn share_access(one: &Reading<'_>, other: &Reading<'_>) -> bool
-    ensures { result ≡ share_access (reading_view one.now, reading_view other.now) }
+/// The bound that a conjunct is, read with the field access on the left; None of a conjunct that is no bound.
+pub(crate) fn bound_of(conjunct: &ExprRef) -> Option<Reading<'_>>
+    ensures { option_map reading_view result ≡ bound_of conjunct.now }
 {
-    GetItemExpr::is(one.operand) && one.operand == other.operand
-}
-
-/// The first of the four ways in which two comparisons are of one field access.
-fn shared_access<'a>(
-    first: &'a BinaryExpr,
-    later: &'a BinaryExpr,
-) -> Option<(Reading<'a>, Reading<'a>)>
-    ensures { option_map readings_view result ≡ find share_access (four_ways first.now later.now) }
-{
-    if share_access(&Reading::from_left(first), &Reading::from_left(later)) {
-        return Some((Reading::from_left(first), Reading::from_left(later)));
+    let Expr::Binary(node) = conjunct.expr() else {
+        return None;
+    };
+    let left = Reading::from_left(node);
+    if left.is_bound() {
+        return Some(left);
     }
-    if share_access(&Reading::from_left(first), &Reading::from_right(later)) {
-        return Some((Reading::from_left(first), Reading::from_right(later)));
-    }
-    if share_access(&Reading::from_right(first), &Reading::from_left(later)) {
-        return Some((Reading::from_right(first), Reading::from_left(later)));
-    }
-    if share_access(&Reading::from_right(first), &Reading::from_right(later)) {
-        return Some((Reading::from_right(first), Reading::from_right(later)));
+    let right = Reading::from_right(node);
+    if right.is_bound() {
+        return Some(right);
     }
     None
 }
@@ -121,11 +124,11 @@ fn range_between(alloc: Global, from: &Reading<'_>, to: &Reading<'_>) -> Mem<Opt
     Ok(Some(BetweenExpr::new_expr(alloc, value, lower, upper, options)?))
 }
 
-/// The range of two readings with constants: either may give the lower bound.
-fn range_of_readings(alloc: Global, one: &Reading<'_>, other: &Reading<'_>) -> Mem<Option<ExprRef>>
-    ensures { IfOk result (λ range. range ≡ range_of_readings (reading_view one.now, reading_view other.now)) }
+/// The range of two bounds of one operand: either may give the lower bound.
+fn range_of_bounds(alloc: Global, one: &Reading<'_>, other: &Reading<'_>) -> Mem<Option<ExprRef>>
+    ensures { IfOk result (λ range. range ≡ range_of_bounds (reading_view one.now) (reading_view other.now)) }
 {
-    if !one.is_with_constant() || !other.is_with_constant() {
+    if one.operand != other.operand {
         return Ok(None);
     }
     match range_between(alloc, one, other)? {
@@ -135,20 +138,15 @@ fn range_of_readings(alloc: Global, one: &Reading<'_>, other: &Reading<'_>) -> M
 }
 
 /// The range that two conjuncts make, and None where they make none.
+#[tactic(auto, using(crate::proofs::BoundLemmas::range_by_bounds))]
 pub(crate) fn range_of(alloc: Global, first: &ExprRef, later: &ExprRef) -> Mem<Option<ExprRef>>
     ensures { IfOk result (λ range. range ≡ range_of first.now later.now) }
 {
-    let Expr::Binary(first) = first.expr() else {
+    let Some(one) = bound_of(first) else {
         return Ok(None);
     };
-    let Expr::Binary(later) = later.expr() else {
+    let Some(other) = bound_of(later) else {
         return Ok(None);
     };
-    if first.lhs() == first.rhs() || later.lhs() == later.rhs() {
-        return Ok(None);
-    }
-    let Some((one, other)) = shared_access(first, later) else {
-        return Ok(None);
-    };
-    range_of_readings(alloc, &one, &other)
+    range_of_bounds(alloc, &one, &other)
 }

@@ -7,6 +7,7 @@ mod loose_rules;
 mod loose_typing;
 mod merges;
 mod rules;
+mod scopes;
 mod selections;
 mod slots;
 mod strict_typing;

@@ -14,7 +14,7 @@ use vx_dtype::{DType, FieldName, FieldNames, Nullability, Scalar, StructFields};
 use vx_expr::Operator;
 
 /// A type whose structs, at any depth, have no name twice.
-pub(crate) fn distinct_type(alloc: Global, dtype: &DType) -> Result<DType, TypeError>
+fn distinct_type(alloc: Global, dtype: &DType) -> Result<DType, TypeError>
     ensures { AnswersType (distinct_type (type_view dtype.now)) result }
 {
     if !dtype.has_distinct_names(alloc)? {

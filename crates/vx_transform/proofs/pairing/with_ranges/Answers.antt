@@ -1,25 +1,31 @@
-use Rattle.std.proofs.Common.{◌≡◌, ◌≤◌, ◌++◌, [], ◌∷◌, suc, length, ap, sym, ◌∙◌, arith, rules}
+use Rattle.std.proofs.Common.{◌≡◌, [], ◌∷◌, suc, length, ap, sym, ◌∙◌, arith}
 use Rattle.vx_passes.specs.Ranges.{with_ranges}
-use Rattle.vx_transform.proofs.PairLemmas.{others_le, next_placed, ranges_stand}
+use Rattle.vx_transform.specs.Pairs.{all_taken_in}
+use Rattle.vx_transform.proofs.PairLemmas.{all_taken_whole, own_rest, ranges_stand}
 use Rattle.vx_transform.proofs.pairing.with_ranges.Goals as goal
 
-pub loop-first-smaller : goal.loop-first-smaller
-loop-first-smaller c =
-    let ds = c.pop_front.new.self.items in
-    let le : length c.pair.new.later.items ≤ length ds = rw c.in_ok-range.ensures.others (others_le c.in-Some.first ds) in
-    let one : length c.loop-first.left.items ≡ suc (length ds) = ap length c.in-Some.ensures.items in
-    omega (arith, le, one)
+pub loop-conjunct-smaller : goal.loop-conjunct-smaller
+loop-conjunct-smaller c =
+    let one : length c.loop-conjunct.left.items ≡ suc (length c.pop_front.new.self.items) = ap length c.in-Some.ensures.items in
+    omega (arith, one)
 
-pub loop-first-preserved : goal.loop-first-preserved
-loop-first-preserved c =
-    let made = c.loop-first.made.items in
-    let all = with_ranges (length c.args.conjuncts.items) c.args.conjuncts.items in
-    let so_far = c.loop-first.invariant ∙ ap (λ ds. made ++ with_ranges (length ds) ds) c.in-Some.ensures.items in
-    let pushed = c.in_ok-push.ensures.items ∙ ap (λ d. made ++ d ∷ []) c.unwrap_or.ensures in
-    next_placed all made c.push.new.self.items c.in-Some.first c.pop_front.new.self.items c.pair.new.later.items c.in_ok-range.range so_far pushed c.in_ok-range.ensures.others c.in_ok-range.ensures.range
+pub loop-conjunct-preserved : goal.loop-conjunct-preserved
+loop-conjunct-preserved c =
+    let left = c.pop_front.new.self.items in
+    let so_far = c.loop-conjunct.invariant.0 ∙ ap (all_taken_in c.loop-conjunct.made.items) c.in-Some.ensures.items in
+    (so_far ∙ ap (λ made. all_taken_in made left) (sym c.in_ok-take_in.ensures.made), c.in_ok-take_in.ensures.waits)
+
+pub returns-clause-ranges : goal.returns-clause-ranges
+returns-clause-ranges c =
+    let cs = c.args.conjuncts.items in
+    let left : c.loop-conjunct.left.items ≡ [] =
+    own_rest c.loop-conjunct.left.items c.pop_front.new.self.items c.in_default.ensures.items c.in_default.ensures.rest in
+    sym (c.loop-conjunct.invariant.0 ∙ ap (all_taken_in c.loop-conjunct.made.items) left) ∙ all_taken_whole cs
 
 pub returns-clause-without : goal.returns-clause-without
 returns-clause-without c =
     let cs = c.args.conjuncts.items in
-    let made : c.loop-first.made.items ≡ with_ranges (length cs) cs = search rules in
+    let left : c.loop-conjunct.left.items ≡ [] =
+    own_rest c.loop-conjunct.left.items c.pop_front.new.self.items c.in_default.ensures.items c.in_default.ensures.rest in
+    let made : c.loop-conjunct.made.items ≡ with_ranges (length cs) cs = sym (c.loop-conjunct.invariant.0 ∙ ap (all_taken_in c.loop-conjunct.made.items) left) ∙ all_taken_whole cs in
     λ h. made ∙ ranges_stand (length cs) cs (sym (ap length made) ∙ h)

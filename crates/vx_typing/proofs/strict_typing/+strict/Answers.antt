@@ -7,14 +7,14 @@ use Rattle.vx_semantics.specs.Typing.{typed_of, all_typed}
 use Rattle.vx_typing.proofs.TypeLists.{child_lower, goes_on, stops_by, ends}
 use Rattle.vx_typing.proofs.strict_typing.+strict.Goals as goal
 
-pub strict_list-typed-requires : goal.strict_list-typed-requires
-strict_list-typed-requires t c =
+pub strict_list-typed_over-requires : goal.strict_list-typed_over-requires
+strict_list-typed_over-requires t c =
     (omega (arith, child_lower c.args.expr.now c.child_at.result.now c.loop-i.i c.child_at.ensures, c.decreases), tt)
 
 pub strict_list-loop-i-preserved : goal.strict_list-loop-i-preserved
 unfolding typed_of
 strict_list-loop-i-preserved t c =
-    let ty = type_view c.args.scope.now in
+    let ty = c.args.scope.now in
     let l = c.loop-i in
     let pushed = ap (map type_view) c.in_ok-push.ensures.items ∙ map-append type_view l.types.items (c.in_ok-dtype.dtype ∷ []) in
     goes_on (typed_of ty) (λ cs. all_typed ty (trees_of cs)) refl (λ d ds. refl) (children_of c.args.expr.now) l.i (map type_view l.types.items) l.invariant
@@ -23,7 +23,7 @@ strict_list-loop-i-preserved t c =
 pub strict_list-returns-in_err-dtype : goal.strict_list-returns-in_err-dtype
 unfolding typed_of
 strict_list-returns-in_err-dtype t c =
-    let ty = type_view c.args.scope.now in
+    let ty = c.args.scope.now in
     let l = c.loop-i in
     let p = err_from_is_err_and c.from_residual.result c.from_residual.ensures.1 in
     rw (p.1, p.2)
@@ -33,7 +33,7 @@ strict_list-returns-in_err-dtype t c =
 pub strict_list-returns : goal.strict_list-returns
 unfolding typed_of
 strict_list-returns t c =
-    let ty = type_view c.args.scope.now in
+    let ty = c.args.scope.now in
     let l = c.loop-i in
     ends (typed_of ty) (λ cs. all_typed ty (trees_of cs)) refl (λ d ds. refl) (children_of c.args.expr.now) l.i (map type_view l.types.items) l.invariant
     (omega (arith, c.loop-i-test.false, c.children_count-i-end.ensures))

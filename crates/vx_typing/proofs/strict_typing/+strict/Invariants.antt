@@ -8,8 +8,8 @@ use Rattle.vx_typing.proofs.TypeLists.{before}
 use Rattle.vx_typing.proofs.strict_typing.+strict.Given as goal
 
 -- twice the height of an expression and one, between that of its highest child and its own for the parts of a node
-abbrev pub decreases-typed : goal.decreases-typed
-decreases-typed l = 2 * height l.expr.now + 1
+abbrev pub decreases-typed_over : goal.decreases-typed_over
+decreases-typed_over l = 2 * height l.expr.now + 1
 
 abbrev pub decreases-strict_binary : goal.decreases-strict_binary
 decreases-strict_binary l = 2 * max (height (binary_left l.node.now)) (height (binary_right l.node.now)) + 2
@@ -29,4 +29,4 @@ decreases-strict_list l = 2 * height l.expr.now
 -- what was collected, and what is left
 abbrev pub invariant-strict_list-loop-i : goal.invariant-strict_list-loop-i
 invariant-strict_list-loop-i l =
-    all_typed (type_view l.scope) (trees_of (children_of l.expr)) ≡ before (map type_view l.types.items) (all_typed (type_view l.scope) (trees_of (drop l.i (children_of l.expr))))
+    all_typed l.scope (trees_of (children_of l.expr)) ≡ before (map type_view l.types.items) (all_typed l.scope (trees_of (drop l.i (children_of l.expr))))
