@@ -1,18 +1,17 @@
 -- Casts between what the code holds and the values at rows.
-use Rattle.std.proofs.Common.{◌≡◌, refl, ◌∙◌, sym, ℕ, zero, suc, ◌<◌, Bool, true, false, cond, Option, Some, None, List, [], ◌∷◌, map, length, get_or, arith, subst}
+use Rattle.std.proofs.Common.{◌≡◌, refl, ℕ, zero, suc, ◌<◌, Bool, true, false, cond, Option, Some, None, List, [], ◌∷◌, map, length, get_or, arith, subst}
 use Rattle.std.specs.Prelude.{ℤ}
 use Rattle.vx_dtype.specs.declared.Nullability.{Nullability}
 use Rattle.vx_dtype.specs.declared.Nullability.TheVariants.{NonNullable, Nullable}
 use Rattle.vx_dtype.specs.declared.PType.{PType}
-use Rattle.vx_dtype.specs.declared.values.ScalarValue.{ScalarValue}
-use Rattle.vx_dtype.specs.Types.{Ty, bool_ty, int_ty, text_ty}
+use Rattle.vx_dtype.specs.Types.{Ty, bool_ty, int_ty, text_ty, list_ty, struct_ty}
 use Rattle.vx_dtype.specs.TypeRules.{no_name_twice}
 use Rattle.vx_dtype.specs.Values.{Raw, raw_null, raw_bool, raw_int, raw_text, valued, Val, int_val, fault}
 use Rattle.vx_dtype.specs.Fits.{fits, in_range}
 use Rattle.vx_dtype.specs.Casts.{takes_cast, cast3}
 use Rattle.vx_column.specs.RawParts.{raw_cast}
-use Rattle.vx_column.specs.Columns.{seen, seen_rows}
 use Rattle.vx_column.specs.Answers.{no_faults}
+use Rattle.vx_column.specs.Cells.{keeps_values}
 use Rattle.vx_column.proofs.SumLemmas.{fault_first, fault_behind}
 
 -- a raw value of the type that stands for the cast of a value; none where the cast is a fault
@@ -53,7 +52,15 @@ cast_names (text_ty n) (text_ty m) a = refl
 cast_names _ _ a = absurd cc
 
 -- a row whose cast is a fault
-pub cast_fault_at : (s t : Ty) (xs : List ScalarValue) (i : ℕ) (x : ScalarValue) → i < length xs → x ≡ get_or xs i x → cast3 t (seen s x) ≡ fault → no_faults (map (cast3 t) (seen_rows s xs)) ≡ false
-cast_fault_at s t [] i x h p e = absurd (omega arith)
-cast_fault_at s t (a ∷ xs) zero x h p e = fault_first (cast3 t (seen s a)) (map (cast3 t) (seen_rows s xs)) ((λ j. cast3 t (seen s (sym p j))) ∙ e)
-cast_fault_at s t (a ∷ xs) (suc i) x h p e = fault_behind (cast3 t (seen s a)) (map (cast3 t) (seen_rows s xs)) (cast_fault_at s t xs i x (omega arith) p e)
+pub cast_fault_at : (t : Ty) (vs : List Val) (i : ℕ) (d : Val) → i < length vs → cast3 t (get_or vs i d) ≡ fault → no_faults (map (cast3 t) vs) ≡ false
+cast_fault_at t [] i d h e = absurd (omega arith)
+cast_fault_at t (v ∷ vs) zero d h e = fault_first (cast3 t v) (map (cast3 t) vs) e
+cast_fault_at t (v ∷ vs) (suc i) d h e = fault_behind (cast3 t v) (map (cast3 t) vs) (cast_fault_at t vs i d (omega arith) e)
+
+-- the source of a cast keeps values
+pub source_kept : (s t : Ty) → takes_cast s t ≡ true → keeps_values s ≡ true
+source_kept (bool_ty n) t a = refl
+source_kept (int_ty p n) t a = refl
+source_kept (text_ty n) t a = refl
+source_kept (list_ty e n) t a = refl
+source_kept (struct_ty fs n) t a = absurd cc

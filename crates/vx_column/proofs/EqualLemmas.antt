@@ -1,21 +1,13 @@
 -- Equality and hash between what the code holds and the values at rows.
-use Rattle.std.proofs.Common.{◌≡◌, ℕ, refl, ap, ◌∙◌, sym, Bool, true, false, ◌&&◌, List, [], ◌∷◌, ◌++◌, map, length, suc}
-use Rattle.std.specs.List.{flat_map, fold}
-use Rattle.std.proofs.lemmas.Grind.{fold-append}
+use Rattle.std.proofs.Common.{◌≡◌, refl, ap, ◌∙◌, sym, Bool, true, false, ◌++◌}
 use Rattle.std.specs.Prelude.{Decides}
 use Rattle.std.specs.Hash as fed
-use Rattle.std.specs.Cmp.Lexicographic.{pointwise}
-use Rattle.std.proofs.lemmas.Slice.Eq.{slice_eq-Decides}
 use Rattle.vx_dtype.specs.Types.{Ty, bool_ty, int_ty, text_ty, list_ty, struct_ty, Fields, no_fields, field}
 use Rattle.vx_dtype.specs.Values.{Raw, raw_null, raw_bool, raw_int, raw_text, raw_list, raw_struct, Raws, no_raws, raw, valued, all_valued, members_valued, null_val, struct_val}
 use Rattle.vx_dtype.specs.Fits.{fits, all_fit, fields_fit}
-use Rattle.vx_dtype.specs.Equal.{raw_eq}
-use Rattle.vx_dtype.specs.EqualLaws.{raw_decides}
-use Rattle.vx_dtype.specs.Feeds.{raw_feed, raws_feed, ty_feed}
-use Rattle.vx_dtype.specs.RawViews.{raw_view}
-use Rattle.vx_dtype.specs.declared.values.ScalarValue.{ScalarValue}
-use Rattle.vx_column.specs.Columns.{Column, column, values_fit, seen_rows}
-use Rattle.vx_column.specs.ColumnEqual.{column_feed, val_feed, vals_feed, members_feed}
+use Rattle.vx_dtype.specs.Feeds.{raw_feed, raws_feed}
+use Rattle.vx_column.specs.Columns.{Column}
+use Rattle.vx_column.specs.ColumnEqual.{val_feed, vals_feed, members_feed}
 use Rattle.vx_dtype.proofs.ValuedLemmas.{valued-struct}
 use Rattle.vx_column.proofs.FitLemmas.{both_of}
 
@@ -67,18 +59,6 @@ mutual
       λ i. raw (valued-same t x y h.0 k.0 here i) (members_valued-same fs xs ys h.1 k.1 rest i)
   members_valued-same _ _ _ a b e = cc
 
--- so are rows of them
-pub seen_rows-same : (t : Ty) (xs ys : List ScalarValue) → values_fit t xs ≡ true → values_fit t ys ≡ true → seen_rows t xs ≡ seen_rows t ys → map raw_view xs ≡ map raw_view ys
-seen_rows-same t [] [] a b e = refl
-seen_rows-same t [] (y ∷ ys) a b e = absurd cc
-seen_rows-same t (x ∷ xs) [] a b e = absurd cc
-seen_rows-same t (x ∷ xs) (y ∷ ys) a b e =
-    let h = both_of (fits (raw_view x) t) (values_fit t xs) a in
-    let k = both_of (fits (raw_view y) t) (values_fit t ys) b in
-    let here : valued (raw_view x) t ≡ valued (raw_view y) t = cc in
-    let rest : seen_rows t xs ≡ seen_rows t ys = cc in
-    λ i. valued-same t (raw_view x) (raw_view y) h.0 k.0 here i ∷ seen_rows-same t xs ys h.1 k.1 rest i
-
 mutual
   unfolding fits valued raw_feed val_feed
 
@@ -105,38 +85,6 @@ mutual
       λ i. fed.u8 1 ++ val_feed-valued t x h.0 i ++ members_feed-valued fs xs h.1 i
   members_feed-valued _ _ a = cc
 
--- as many rows as values
-length_seen : (t : Ty) (xs : List ScalarValue) → length (seen_rows t xs) ≡ length xs
-length_seen t [] = refl
-length_seen t (x ∷ xs) = ap (λ n. suc n) (length_seen t xs)
-
--- what a hash takes in of rows
-pub feed_flat : (t : Ty) (xs : List ScalarValue) → values_fit t xs ≡ true → flat_map val_feed (seen_rows t xs) ≡ flat_map (λ x. raw_feed (raw_view x)) xs
-feed_flat t [] a = refl
-feed_flat t (x ∷ xs) a =
-    let h = both_of _ _ a in
-    λ i. val_feed-valued t (raw_view x) h.0 i ++ feed_flat t xs h.1 i
-
-pub feed_rows : (t : Ty) (xs : List ScalarValue) → values_fit t xs ≡ true → fed.slice val_feed (seen_rows t xs) ≡ fed.slice (λ x. raw_feed (raw_view x)) xs
-feed_rows t xs a = λ i. fed.usize (length_seen t xs i) ++ feed_flat t xs a i
-
--- the test on what the code holds, place by place
-pub pointwise_view : (xs ys : List ScalarValue) → pointwise (λ x y. raw_eq (raw_view x) (raw_view y)) xs ys ≡ pointwise raw_eq (map raw_view xs) (map raw_view ys)
-pointwise_view [] [] = refl
-pointwise_view [] (y ∷ ys) = refl
-pointwise_view (x ∷ xs) [] = refl
-pointwise_view (x ∷ xs) (y ∷ ys) = ap (λ b. raw_eq (raw_view x) (raw_view y) && b) (pointwise_view xs ys)
-
--- columns of one type are the same where what the code holds is
-pub rows_answer : (c d : Column) (xs ys : List ScalarValue) (b : Bool) → c.ty ≡ d.ty → seen_rows c.ty xs ≡ c.rows → seen_rows d.ty ys ≡ d.rows → values_fit c.ty xs ≡ true → values_fit d.ty ys ≡ true → b ≡ pointwise (λ x y. raw_eq (raw_view x) (raw_view y)) xs ys → Decides b (c ≡ d)
-rows_answer c d xs ys b t p q f g e =
-    let raws = slice_eq-Decides raw_decides (map raw_view xs) (map raw_view ys) b (e ∙ pointwise_view xs ys) in
-    let fit : values_fit c.ty ys ≡ true = ap (λ u. values_fit u ys) t ∙ g in
-    let seen : seen_rows c.ty ys ≡ d.rows = ap (λ u. seen_rows u ys) t ∙ q in (
-      λ h. (λ i. column (t i) ((sym p ∙ ap (λ zs. map (λ z. valued z c.ty) zs) (raws.0 h) ∙ seen) i)),
-      λ h. raws.1 (seen_rows-same c.ty xs ys f fit (p ∙ ap (λ k. k.rows) h ∙ sym seen)),
-    )
-
 -- columns of two types are not the same
 pub types_answer : (c d : Column) (b : Bool) → Decides b (c.ty ≡ d.ty) → b ≡ false → Decides b (c ≡ d)
 types_answer c d b h e = (λ k. absurd cc, λ k. h.1 (ap (λ z. z.ty) k))
@@ -146,11 +94,3 @@ pub decide_same : (P : Type 0) (b c : Bool) → Decides b P → Decides c P → 
 decide_same P true c h k = sym (k.1 (h.0 refl))
 decide_same P false true h k = h.1 (k.0 refl)
 decide_same P false false h k = refl
-
--- a hash that has taken in a column's type and then what the code holds has taken in the column
-pub hash_answer : {B : Type 0} (write : B → List ℕ → B) (s a b : B) (c : Column) (t : Ty) (xs : List ScalarValue) → t ≡ c.ty → seen_rows c.ty xs ≡ c.rows → values_fit c.ty xs ≡ true → a ≡ fold write s (ty_feed t) → b ≡ fold write a (fed.slice (λ x. raw_feed (raw_view x)) xs) → b ≡ fold write s (column_feed c)
-hash_answer write s a b c t xs p q f e d =
-    let rows : fed.slice (λ x. raw_feed (raw_view x)) xs ≡ fed.slice val_feed c.rows = sym (feed_rows c.ty xs f) ∙ ap (fed.slice val_feed) q in
-    let told : b ≡ fold write (fold write s (ty_feed t)) (fed.slice (λ x. raw_feed (raw_view x)) xs) = d ∙ ap (λ z. fold write z (fed.slice (λ x. raw_feed (raw_view x)) xs)) e in
-    let joined : b ≡ fold write s (ty_feed t ++ fed.slice (λ x. raw_feed (raw_view x)) xs) = told ∙ sym (fold-append write s (ty_feed t) (fed.slice (λ x. raw_feed (raw_view x)) xs)) in
-    joined ∙ (λ i. fold write s (ty_feed (p i) ++ rows i))

@@ -10,3 +10,7 @@ mod EqualLemmas
 mod StructLemmas
 mod ProjectionLemmas
 mod PatternLemmas
+mod CellLemmas
+mod KeptLemmas
+mod ColumnFields
+mod SameLemmas

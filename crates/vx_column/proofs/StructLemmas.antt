@@ -15,10 +15,10 @@ use Rattle.vx_dtype.specs.TypeViews.{type_view}
 use Rattle.vx_dtype.specs.declared.types.DType.{DType}
 use Rattle.std.proofs.lemmas.List.{map_more, map-append}
 use Rattle.vx_dtype.proofs.ValuedLemmas.{valued-struct}
-use Rattle.vx_column.specs.Columns.{Column, values_fit, seen, seen_rows, row_at}
+use Rattle.vx_column.specs.Columns.{Column, seen, seen_rows}
 use Rattle.vx_column.specs.StructColumns.{column_types, all_have_rows, truths_number, nullability_by, is_valid_row, row_members, StandsAt}
 use Rattle.vx_column.proofs.FitLemmas.{both_of, of_both}
-use Rattle.vx_column.proofs.RowLemmas.{fits_at, seen_rows_append}
+use Rattle.vx_column.proofs.RowLemmas.{seen_rows_append}
 
 -- a row that isn't valid is one of a nullable type
 pub nullable_by : (valid : Option (List Bool)) (i : ℕ) → is_valid_row valid i ≡ false → is_nullable (nullability_by valid) ≡ true
@@ -55,10 +55,6 @@ all_zip_suc R (x ∷ xs) (z ∷ ys) (suc i) d y k h r = (h.0, all_zip_suc R xs y
 
 pub all_zip_more : {A B : Type 0} (R : A → B → Type 0) (xs : List A) (ys : List B) (i : ℕ) (d : A) (y : B) → i < length xs → AllZip R (take i xs) ys → R (get_or xs i d) y → AllZip R (take (i + 1) xs) (ys ++ y ∷ [])
 all_zip_more R xs ys i d y k h r = rw add-one (all_zip_suc R xs ys i d y k h r)
-
--- a clone of the value at a row of what a column holds stands for the column's value there
-pub stands_at : (c : Column) (xs : List ScalarValue) (i : ℕ) (x y : ScalarValue) → values_fit c.ty xs ≡ true → i < length xs → x ≡ get_or xs i x → raw_view y ≡ raw_view x → seen c.ty (get_or xs i x) ≡ row_at c i → StandsAt i c y
-stands_at c xs i x y f h p e q = (ap (λ r. fits r c.ty) e ∙ fits_at c.ty xs i x f h p, ap (λ r. valued r c.ty) e ∙ ap (seen c.ty) p ∙ q)
 
 -- where columns have this many rows, each has a row before
 pub all_rows_at : (n : ℕ) (cs : List Column) (i : ℕ) → all_have_rows n cs ≡ true → i < n → All (λ c. i < length c.rows) cs

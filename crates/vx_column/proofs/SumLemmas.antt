@@ -8,7 +8,7 @@ use Rattle.vx_dtype.specs.TypeRules.{alike, same_ptype, nullability_of, with_nul
 use Rattle.vx_dtype.specs.declared.Nullability.{Nullability}
 use Rattle.vx_dtype.specs.Values.{Val, null_val, bool_val, int_val, text_val, list_val, struct_val, fault}
 use Rattle.vx_dtype.specs.Fits.{val_fits}
-use Rattle.vx_column.specs.Columns.{Column, column, rows_fit, values_fit, seen, seen_rows, zip_rows}
+use Rattle.vx_column.specs.Columns.{Column, column, rows_fit, values_fit, seen_rows, zip_rows}
 use Rattle.vx_column.specs.Answers.{no_faults, unless_faulty}
 use Rattle.vx_column.specs.declared.errors.ColumnError.{ColumnError}
 use Rattle.vx_column.proofs.FitLemmas.{both_of, rows_fit_seen}
@@ -28,11 +28,11 @@ fault_behind (struct_val ms) vs e = e
 fault_behind fault vs e = refl
 
 -- a fault that a rule makes of two values at a row
-pub fault_at : (rule : Val → Val → Val) (t u : Ty) (xs ys : List ScalarValue) (i : ℕ) (x y : ScalarValue) → i < length xs → i < length ys → x ≡ get_or xs i x → y ≡ get_or ys i y → rule (seen t x) (seen u y) ≡ fault → no_faults (zip_rows rule (seen_rows t xs) (seen_rows u ys)) ≡ false
-fault_at rule t u [] ys i x y h k p q e = absurd (omega arith)
-fault_at rule t u (a ∷ xs) [] i x y h k p q e = absurd (omega arith)
-fault_at rule t u (a ∷ xs) (b ∷ ys) zero x y h k p q e = fault_first _ _ ((λ j. rule (seen t (sym p j)) (seen u (sym q j))) ∙ e)
-fault_at rule t u (a ∷ xs) (b ∷ ys) (suc i) x y h k p q e = fault_behind (rule (seen t a) (seen u b)) (zip_rows rule (seen_rows t xs) (seen_rows u ys)) (fault_at rule t u xs ys i x y (omega arith) (omega arith) p q e)
+pub fault_at : (rule : Val → Val → Val) (xs ys : List Val) (i : ℕ) (d : Val) → i < length xs → length xs ≡ length ys → rule (get_or xs i d) (get_or ys i d) ≡ fault → no_faults (zip_rows rule xs ys) ≡ false
+fault_at rule [] ys i d h k e = absurd (omega arith)
+fault_at rule (x ∷ xs) [] i d h k e = absurd (omega (arith, k))
+fault_at rule (x ∷ xs) (y ∷ ys) zero d h k e = fault_first _ _ e
+fault_at rule (x ∷ xs) (y ∷ ys) (suc i) d h k e = fault_behind (rule x y) (zip_rows rule xs ys) (fault_at rule xs ys i d (omega arith) (omega (arith, k)) e)
 
 -- rows that are of a type hold no fault
 pub no_faults_fit : (t : Ty) (vs : List Val) → rows_fit t vs ≡ true → no_faults vs ≡ true
@@ -77,11 +77,8 @@ faultless e t xs c h d =
     let none : no_faults (seen_rows t xs) ≡ true = no_faults_fit t _ (rows_fit_seen t xs h) in
     rw (d, none) refl
 
-pub total_answer : (e : ColumnError) (rule : Val → Val → Val) (p : PType) (lt rt : Ty) (n m : Nullability) (lv rv xs : List ScalarValue) (lr rr : List Val) (c : Column) → lt ≡ int_ty p n → rt ≡ int_ty p m → seen_rows lt lv ≡ lr → seen_rows rt rv ≡ rr → values_fit (int_ty p (union n m)) xs ≡ true → seen_rows (int_ty p (union n m)) xs ≡ zip_rows rule (seen_rows (int_ty p n) lv) (seen_rows (int_ty p m) rv) → c ≡ column (int_ty p (union n m)) (seen_rows (int_ty p (union n m)) xs) → Ok c ≡ unless_faulty e (column (with_nullability lt (union n m)) (zip_rows rule lr rr))
-total_answer e rule p lt rt n m lv rv xs lr rr c a b f g h k d =
-    let lrows : seen_rows (int_ty p n) lv ≡ lr = ap (λ t. seen_rows t lv) (sym a) ∙ f in
-    let rrows : seen_rows (int_ty p m) rv ≡ rr = ap (λ t. seen_rows t rv) (sym b) ∙ g in
-    let rows : seen_rows (int_ty p (union n m)) xs ≡ zip_rows rule lr rr = k ∙ (λ i. zip_rows rule (lrows i) (rrows i)) in
+pub total_answer : (e : ColumnError) (rule : Val → Val → Val) (p : PType) (lt : Ty) (n m : Nullability) (xs : List ScalarValue) (lr rr : List Val) (c : Column) → lt ≡ int_ty p n → values_fit (int_ty p (union n m)) xs ≡ true → seen_rows (int_ty p (union n m)) xs ≡ zip_rows rule lr rr → c ≡ column (int_ty p (union n m)) (seen_rows (int_ty p (union n m)) xs) → Ok c ≡ unless_faulty e (column (with_nullability lt (union n m)) (zip_rows rule lr rr))
+total_answer e rule p lt n m xs lr rr c a h rows d =
     let wide : with_nullability lt (union n m) ≡ int_ty p (union n m) = ap (λ t. with_nullability t (union n m)) a in
     let same : c ≡ column (with_nullability lt (union n m)) (zip_rows rule lr rr) = d ∙ (λ i. column (sym wide i) (rows i)) in
     faultless e (int_ty p (union n m)) xs c h d ∙ ap (unless_faulty e) same

@@ -7,3 +7,5 @@ pub mod ColumnEqual
 pub mod ColumnEqualLaws
 pub mod StructColumns
 pub mod Patterns
+pub mod Cells
+pub mod Sizes

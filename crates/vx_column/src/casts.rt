@@ -5,7 +5,7 @@ ghost use Rattle.vx_dtype.specs.TypeViews.{type_view};
 ghost use Rattle.vx_dtype.specs.Casts.{takes_cast, cast3};
 ghost use Rattle.vx_dtype.specs.RawViews.{raw_view};
 ghost use Rattle.vx_column.specs.declared.errors.ColumnError.TheVariants.{BadCast};
-ghost use Rattle.vx_column.specs.Columns.{column, values_fit, seen_rows};
+ghost use Rattle.vx_column.specs.Columns.{column};
 ghost use Rattle.vx_column.specs.RawParts.{raw_cast};
 ghost use Rattle.vx_column.specs.Answers.{Answers, unless_faulty, GivesUnlessFaulty};
 
@@ -40,21 +40,15 @@ fn cast_value(value: &ScalarValue, target: &DType) -> Mem<Option<ScalarValue>>
     }
 }
 
-/// The values of the source type in the target type, and none exactly where one of them has no counterpart.
-fn cast_rows(
-    alloc: Global,
-    source: &DType,
-    values: &[ScalarValue],
-    target: &DType,
-) -> Mem<Option<Vec<ScalarValue>>>
-    requires pair { takes_cast (type_view source.now) (type_view target.now) ≡ true }
-    requires fit { values_fit (type_view source.now) values.now ≡ true }
+/// The column's values in the target type, and none exactly where one of them has no counterpart.
+fn cast_rows(alloc: Global, c: &ColumnRef, target: &DType) -> Mem<Option<Vec<ScalarValue>>>
+    requires { takes_cast c.now.ty (type_view target.now) ≡ true }
     ensures { IfOk result (λ made. GivesUnlessFaulty (type_view target.now)
-        (map (cast3 (type_view target.now)) (seen_rows (type_view source.now) values.now)) (option_map (λ vs. vs.items) made)) }
+        (map (cast3 (type_view target.now)) c.now.rows) (option_map (λ vs. vs.items) made)) }
 {
-    let mut made = Vec::with_capacity(alloc, values.len())?;
-    for i in 0..values.len() {
-        match cast_value(&values[i], target)? {
+    let mut made = Vec::with_capacity(alloc, c.len())?;
+    for i in 0..c.len() {
+        match cast_value(c.value_at(i), target)? {
             Some(value) => made.push(value)?,
             None => return Ok(None),
         }
@@ -68,7 +62,7 @@ pub fn cast(alloc: Global, c: &ColumnRef, target: &DType) -> Result<ColumnRef, C
     requires { takes_cast c.now.ty (type_view target.now) ≡ true }
     ensures { Answers result (unless_faulty BadCast (column (type_view target.now) (map (cast3 (type_view target.now)) c.now.rows))) }
 {
-    match cast_rows(alloc, c.dtype(), c.values(), target)? {
+    match cast_rows(alloc, c, target)? {
         Some(made) => Ok(ColumnRef::of_rows(alloc, target.clone()?, made)?),
         None => Err(ColumnError::BadCast),
     }

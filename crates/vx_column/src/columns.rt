@@ -1,43 +1,56 @@
 // Columns: a type, and a value of the type at each row.
-ghost use Rattle.std.specs.Prelude.{◌≡◌, ◌<◌, ℕ, true, not, length, map, slice_index_or, IfOk};
+ghost use Rattle.std.specs.Prelude.{◌≡◌, ◌<◌, true, not, length, map, IfOk};
+ghost use Rattle.std.proofs.Math.ListN.{replicate};
 ghost use Rattle.vx_dtype.specs.Values.{bool_val, value_of};
 ghost use Rattle.vx_dtype.specs.Logic.{is_null3};
+ghost use Rattle.vx_dtype.specs.Fits.{fits};
 ghost use Rattle.vx_dtype.specs.RawViews.{raw_view};
 ghost use Rattle.vx_column.specs.Answers.{Answers, column_of_raws};
-ghost use Rattle.vx_dtype.specs.TypeRules.{no_name_twice};
+ghost use Rattle.vx_dtype.specs.TypeRules.{no_name_twice, field_names, fields_of};
 ghost use Rattle.vx_dtype.specs.TypeViews.{type_view};
 ghost use Rattle.vx_column.specs.Columns.{Column, column, row_at, rows_fit, values_fit, seen, seen_rows};
-ghost use Rattle.vx_dtype.specs.declared.values.ScalarValue.{ScalarValue};
+ghost use Rattle.vx_column.specs.Cells.{cell_rows, structs_of, AreFieldsOf, ArePartsOf};
 
+use crate::cells::{Cells, values_in};
 use crate::errors::ColumnError;
 use crate::logic::is_null_value;
+use crate::reading::made_at;
 use std::alloc::{AllocError, Global};
 use std::marker::Model;
 use std::rc::Rc;
 use vx_dtype::{DType, Mem, Scalar, ScalarValue};
 
 /// A column, shared by its clones. It is seen as its type and the list of its row values: each value is one of the type, and no struct in the type has two fields of one name.
+#[cycle(columns)]
 #[derive(Debug, Drop)]
 pub struct ColumnRef {
     dtype: DType,
-    rows: Rc<Vec<ScalarValue>>,
+    cells: Cells,
 }
 
 impl Model for ColumnRef {
     ghost use Rattle.std.specs.Prelude.{◌≡◌, true};
-    ghost use Rattle.vx_column.specs.Columns.{Column, values_fit, seen_rows};
+    ghost use Rattle.std.proofs.Common.{arith};
+    ghost use Rattle.vx_column.specs.Columns.{Column, column};
     ghost use Rattle.vx_column.specs.ValCodes.{coded_column};
+    ghost use Rattle.vx_dtype.specs.TypeRules.{no_name_twice, depth_of};
+    ghost use Rattle.vx_dtype.specs.TypeViews.{type_view};
 
     ghost Value = { Column };
 
     ghost coded = { coded_column };
 
-    ghost use Rattle.vx_dtype.specs.TypeRules.{no_name_twice};
-    ghost use Rattle.vx_dtype.specs.TypeViews.{type_view};
+    ghost use Rattle.vx_column.specs.Cells.{cell_rows, ArePartsOf};
 
-    ghost view = { λ c. record { ty = type_view c.dtype; rows = seen_rows (type_view c.dtype) c.rows.value.items } };
+    ghost view = { λ c. column (type_view c.dtype) (cell_rows (type_view c.dtype) c.cells) };
 
-    ghost invariant = { λ c. (values_fit (type_view c.dtype) c.rows.value.items ≡ true) × (no_name_twice (type_view c.dtype) ≡ true) };
+    ghost invariant = { λ c. ArePartsOf (type_view c.dtype) c.cells × (no_name_twice (type_view c.dtype) ≡ true) };
+
+    ghost size = { λ c. depth_of c.ty };
+
+    ghost use Rattle.vx_column.specs.Sizes.{deep_le-depth_of};
+
+    ghost size_decreases = { λ c h. omega (arith, deep_le-depth_of (type_view c.dtype) c.cells h.0) };
 }
 
 impl ColumnRef {
@@ -47,21 +60,49 @@ impl ColumnRef {
         requires names { no_name_twice (type_view dtype) ≡ true }
         ensures { IfOk result (λ c. c ≡ column (type_view dtype) (seen_rows (type_view dtype) rows.items)) }
     {
-        Ok(ColumnRef {
-            dtype,
-            rows: Rc::new(alloc, rows)?,
-        })
+        Ok(ColumnRef::of_shared(dtype, Rc::new(alloc, rows)?))
     }
 
-    /// The values without their type.
-    #[tactic(auto, using(crate::proofs::RowLemmas::seen_row))]
-    pub(crate) fn values(&self) -> &[ScalarValue]
-        ensures rows { seen_rows self.now.ty result.now ≡ self.now.rows }
-        ensures lengths { length result.now ≡ length self.now.rows }
-        ensures row { (i : ℕ) (d : ScalarValue) → i < length result.now → seen self.now.ty (slice_index_or result.now i d) ≡ row_at self.now i }
-        ensures fit { values_fit self.now.ty result.now ≡ true }
+    /// The column of these shared values. It is for values that are known to be of the type.
+    pub(crate) fn of_shared(dtype: DType, rows: Rc<Vec<ScalarValue>>) -> ColumnRef
+        requires fit { values_fit (type_view dtype) rows.value.items ≡ true }
+        requires names { no_name_twice (type_view dtype) ≡ true }
+        ensures { result ≡ column (type_view dtype) (seen_rows (type_view dtype) rows.value.items) }
     {
-        self.rows.as_slice()
+        ColumnRef {
+            dtype,
+            cells: Cells::Rows(rows),
+        }
+    }
+
+    /// The column of this many rows of one value. It is for a value that is known to be of the type.
+    pub(crate) fn of_constant(dtype: DType, value: ScalarValue, len: usize) -> ColumnRef
+        requires fit { fits (raw_view value) (type_view dtype) ≡ true }
+        requires names { no_name_twice (type_view dtype) ≡ true }
+        ensures { result ≡ column (type_view dtype) (replicate len (seen (type_view dtype) value)) }
+    {
+        ColumnRef {
+            dtype,
+            cells: Cells::Constant { value, len },
+        }
+    }
+
+    /// The column of structs of these columns' values, row by row. It is for columns that are known to be those of the type's fields.
+    pub(crate) fn of_fields(
+        alloc: Global,
+        dtype: DType,
+        fields: Vec<ColumnRef>,
+        len: usize,
+    ) -> Mem<ColumnRef>
+        requires fields { AreFieldsOf (type_view dtype) fields.items len }
+        requires names { no_name_twice (type_view dtype) ≡ true }
+        ensures { IfOk result (λ c. c ≡ column (type_view dtype) (structs_of (field_names (fields_of (type_view dtype))) fields.items len)) }
+    {
+        let fields = Rc::new(alloc, fields)?;
+        Ok(ColumnRef {
+            dtype,
+            cells: Cells::Columns { fields, len },
+        })
     }
 
     /// The column of these values. WrongValue exactly where one of them isn't of the type; else DuplicateField exactly where a name stands twice in a struct of the type, at any depth.
@@ -81,8 +122,15 @@ impl ColumnRef {
         Ok(ColumnRef::of_rows(alloc, dtype, values)?)
     }
 
+    /// The parts that the rows are kept in.
+    pub(crate) fn cells(&self) -> &Cells
+        ensures rows { cell_rows self.now.ty result.now ≡ self.now.rows }
+        ensures parts { ArePartsOf self.now.ty result.now }
+    {
+        &self.cells
+    }
+
     /// The type. In no struct of it, at any depth, a name stands twice, and each row has a value of it.
-    #[tactic(auto, using(crate::proofs::FitLemmas::rows_fit_seen))]
     pub fn dtype(&self) -> &DType
         ensures shown { type_view result.now ≡ self.now.ty }
         ensures names { no_name_twice self.now.ty ≡ true }
@@ -92,30 +140,39 @@ impl ColumnRef {
     }
 
     /// The value at this row, counted from 0, beside the type.
-    #[tactic(auto, using(crate::proofs::RowLemmas::fits_at))]
-    pub fn scalar_at(&self, _alloc: Global, i: usize) -> Mem<Scalar>
+    pub fn scalar_at(&self, alloc: Global, i: usize) -> Mem<Scalar>
         requires { i < length self.now.rows }
         ensures dtype { IfOk result (λ s. s.ty ≡ self.now.ty) }
         ensures value { IfOk result (λ s. value_of s ≡ row_at self.now i) }
     {
-        let value = self.values()[i].clone()?;
+        let value = made_at(alloc, self, i)?;
         Ok(Scalar::try_new(self.dtype.clone()?, value).unwrap())
     }
 
     /// Whether the value at this row, counted from 0, isn't null.
-    #[tactic(auto, using(crate::proofs::RowLemmas::fits_at, crate::proofs::FitLemmas::is_null3_valued))]
     pub fn is_valid(&self, i: usize) -> bool
         requires { i < length self.now.rows }
         ensures { is_null3 (row_at self.now i) ≡ bool_val (not result) }
     {
-        !is_null_value(&self.values()[i])
+        match self.cells() {
+            Cells::Constant { value, .. } => !is_null_value(value),
+            Cells::Rows(rows) => {
+                let values = values_in(rows);
+                !is_null_value(&values[i])
+            }
+            Cells::Columns { .. } => true,
+        }
     }
 
     /// How many rows there are.
     pub fn len(&self) -> usize
         ensures { result ≡ length self.now.rows }
     {
-        self.rows.len()
+        match self.cells() {
+            Cells::Constant { len, .. } => *len,
+            Cells::Rows(rows) => rows.len(),
+            Cells::Columns { len, .. } => *len,
+        }
     }
 }
 
@@ -135,9 +192,19 @@ impl Clone for ColumnRef {
     ghost is_clone = { λ column copy. copy ≡ column };
 
     fn clone(&self) -> Result<ColumnRef, AllocError> {
-        Ok(ColumnRef {
-            dtype: self.dtype.clone()?,
-            rows: self.rows.clone()?,
-        })
+        let dtype = self.dtype.clone()?;
+        match self.cells() {
+            Cells::Constant { value, len } => {
+                Ok(ColumnRef::of_constant(dtype, value.clone()?, *len))
+            }
+            Cells::Rows(rows) => Ok(ColumnRef::of_shared(dtype, rows.clone()?)),
+            Cells::Columns { fields, len } => Ok(ColumnRef {
+                dtype,
+                cells: Cells::Columns {
+                    fields: fields.clone()?,
+                    len: *len,
+                },
+            }),
+        }
     }
 }

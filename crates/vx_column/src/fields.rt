@@ -13,6 +13,7 @@ ghost use Rattle.vx_dtype.specs.Structs.{field_of};
 ghost use Rattle.vx_dtype.specs.TypeViews.{type_view};
 ghost use Rattle.vx_column.specs.Answers.{Answers, field_column, type_at_place, PartsOf};
 
+use crate::cells::{Cells, columns_in};
 use crate::columns::ColumnRef;
 use crate::errors::ColumnError;
 use crate::logic::null;
@@ -57,6 +58,14 @@ impl ColumnRef {
         let Some(place) = fields.names().position(name) else {
             return Err(ColumnError::UnknownField);
         };
+        if let Cells::Columns {
+            fields: columns,
+            ..
+        } = self.cells()
+        {
+            let columns = columns_in(columns);
+            return Ok(columns[place].clone()?);
+        }
         let rule = FieldRule {
             fields,
             nullability: *nullability,

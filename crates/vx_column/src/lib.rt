@@ -2,6 +2,7 @@
 #![tactic(auto)]
 
 mod casts;
+mod cells;
 mod columns;
 mod comparisons;
 mod equality;
@@ -13,6 +14,7 @@ mod making;
 mod masks;
 mod patterns;
 mod projections;
+mod reading;
 mod rows;
 mod structs;
 mod sums;

@@ -226,10 +226,9 @@ pub fn is_null(alloc: Global, c: &ColumnRef) -> Mem<ColumnRef>
     ensures rows { IfOk result (λ made. made.rows ≡ map is_null3 c.now.rows) }
 {
     let dtype = c.dtype();
-    map_column(
-        alloc,
-        &NullTest { dtype },
-        DType::Bool(Nullability::NonNullable),
-        c,
-    )
+    let made = DType::Bool(Nullability::NonNullable);
+    if !dtype.is_nullable() {
+        return Ok(ColumnRef::of_constant(made, of_truth(Some(false)), c.len()));
+    }
+    map_column(alloc, &NullTest { dtype }, made, c)
 }

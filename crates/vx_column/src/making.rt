@@ -1,5 +1,5 @@
 // Making columns of values.
-ghost use Rattle.std.specs.Prelude.{◌≡◌, true, map, Ok, IfOk};
+ghost use Rattle.std.specs.Prelude.{◌≡◌, map, Ok, IfOk};
 ghost use Rattle.std.proofs.Math.ListN.{replicate};
 ghost use Rattle.vx_dtype.specs.Types.{bool_ty, int_ty, text_ty, list_ty};
 ghost use Rattle.vx_dtype.specs.TypeRules.{no_name_twice};
@@ -36,8 +36,8 @@ impl ColumnRef {
         if !value.dtype().has_distinct_names(alloc)? {
             return Err(ColumnError::DuplicateField);
         }
-        let rows = repeated(alloc, value.value(), len)?;
-        Ok(ColumnRef::of_rows(alloc, value.dtype().clone()?, rows)?)
+        let dtype = value.dtype().clone()?;
+        Ok(ColumnRef::of_constant(dtype, value.value().clone()?, len))
     }
 
     /// The column of these booleans, null where there is none. WrongValue exactly where there is none and the type isn't nullable.
@@ -107,17 +107,6 @@ impl ColumnRef {
         let dtype = DType::List(ElementType::new(Rc::new(alloc, element)?), n);
         ColumnRef::of_values(alloc, dtype, list_rows(alloc, values)?)
     }
-}
-
-/// This many clones of a value.
-fn repeated(alloc: Global, value: &ScalarValue, len: usize) -> Mem<Vec<ScalarValue>>
-    ensures { IfOk result (λ values. map raw_view values.items ≡ replicate len (raw_view value.now)) }
-{
-    let mut values = Vec::with_capacity(alloc, len)?;
-    for _ in 0..len {
-        values.push(value.clone()?)?;
-    }
-    Ok(values)
 }
 
 /// The lists as values, null where there is none.

@@ -1,15 +1,18 @@
 // Rows that are kept, and rows that are made null.
-ghost use Rattle.std.specs.Prelude.{◌≡◌, true, length, IfOk};
+ghost use Rattle.std.specs.Prelude.{◌≡◌, ◌<◌, true, length, map, IfOk};
+ghost use Rattle.std.specs.List.{All};
 ghost use Rattle.vx_dtype.specs.declared.Nullability.TheVariants.{Nullable};
 ghost use Rattle.vx_dtype.specs.Types.{bool_ty};
-ghost use Rattle.vx_dtype.specs.TypeRules.{is_bool_ty, with_nullability};
+ghost use Rattle.vx_dtype.specs.TypeRules.{is_bool_ty, is_nullable, nullability_of, with_nullability};
 ghost use Rattle.vx_dtype.specs.TypeViews.{type_view};
 ghost use Rattle.vx_dtype.specs.declared.Nullability.{Nullability};
 ghost use Rattle.vx_dtype.specs.Logic.{is_true_val};
 ghost use Rattle.vx_dtype.specs.Fits.{fits};
 ghost use Rattle.vx_dtype.specs.RawViews.{raw_view};
-ghost use Rattle.vx_column.specs.Columns.{values_fit, seen, seen_rows, kept_rows, masked, zip_rows};
+ghost use Rattle.vx_column.specs.Columns.{row_at, values_fit, seen, seen_rows, kept_rows, masked, zip_rows};
+ghost use Rattle.vx_column.specs.Cells.{trues_in, kept_column};
 
+use crate::cells::{Cells, columns_in, values_in};
 use crate::columns::ColumnRef;
 use crate::logic::{null, truth_of};
 use crate::rows::{PairRule, zip_columns};
@@ -27,11 +30,22 @@ fn is_true(value: &ScalarValue) -> bool
     }
 }
 
-/// The values of a type made null where a boolean is true.
+/// Whether a boolean column is true at a row.
+#[tactic(auto, using(crate::proofs::CellLemmas::bool_kept))]
+fn is_true_at(column: &ColumnRef, i: usize) -> bool
+    requires mask { is_bool_ty column.now.ty ≡ true }
+    requires row { i < length column.now.rows }
+    ensures { result ≡ is_true_val (row_at column.now i) }
+{
+    is_true(column.value_at(i))
+}
+
+/// The values of a nullable type made null where a boolean is true.
 #[derive(Drop)]
 struct Masking<'a> {
     dtype: &'a DType,
     nulls: Nullability,
+    ghost nullable: { is_nullable (nullability_of (type_view dtype.now)) ≡ true },
 }
 
 impl PairRule for Masking<'_> {
@@ -39,11 +53,10 @@ impl PairRule for Masking<'_> {
 
     ghost right = { λ a. bool_ty a.nulls };
 
-    ghost made = { λ a. with_nullability (type_view a.dtype.now) Nullable };
+    ghost made = { λ a. type_view a.dtype.now };
 
     ghost rule = { λ _. masked };
 
-    #[tactic(auto, using(crate::proofs::FitLemmas::valued_with_nullability, crate::proofs::FitLemmas::fits_nullable, crate::proofs::FitLemmas::nullable_made), unfolding(vx_dtype::specs::Values::valued))]
     fn at(&self, _alloc: Global, l: &ScalarValue, r: &ScalarValue) -> Mem<ScalarValue> {
         if is_true(r) {
             return Ok(null());
@@ -61,13 +74,13 @@ impl ColumnRef {
         ensures dtype { IfOk result (λ c. c.ty ≡ with_nullability self.now.ty Nullable) }
         ensures rows { IfOk result (λ c. c.rows ≡ zip_rows masked self.now.rows nulls.now.rows) }
     {
-        let dtype = self.dtype();
+        let nullable = self.made_nullable(alloc)?;
+        let dtype = nullable.dtype();
         let masking = Masking {
             dtype,
             nulls: nulls.dtype().nullability(),
         };
-        let made = dtype.with_nullability(Nullability::Nullable)?;
-        zip_columns(alloc, &masking, made, self, nulls)
+        zip_columns(alloc, &masking, dtype.clone()?, &nullable, nulls)
     }
 
     /// The rows where the other column is true, in order.
@@ -77,15 +90,59 @@ impl ColumnRef {
         ensures dtype { IfOk result (λ c. c.ty ≡ self.now.ty) }
         ensures rows { IfOk result (λ c. c.rows ≡ kept_rows self.now.rows keep.now.rows) }
     {
-        let kept = filter_values(
-            alloc,
-            self.dtype(),
-            self.values(),
-            keep.dtype().nullability(),
-            keep.values(),
-        )?;
-        ColumnRef::of_rows(alloc, self.dtype().clone()?, kept)
+        kept_of(alloc, self, keep)
     }
+}
+
+/// The column's rows where the other column is true.
+#[cycle(kept)]
+fn kept_of(alloc: Global, column: &ColumnRef, keep: &ColumnRef) -> Mem<ColumnRef>
+    requires mask { is_bool_ty keep.now.ty ≡ true }
+    requires lengths { length column.now.rows ≡ length keep.now.rows }
+    ensures { IfOk result (λ c. c ≡ kept_column keep.now.rows column.now) }
+{
+    let dtype = column.dtype().clone()?;
+    match column.cells() {
+        Cells::Constant { value, .. } => {
+            Ok(ColumnRef::of_constant(dtype, value.clone()?, count_kept(keep)))
+        }
+        Cells::Rows(rows) => {
+            let kept = filter_values(alloc, column.dtype(), values_in(rows), keep)?;
+            ColumnRef::of_rows(alloc, dtype, kept)
+        }
+        Cells::Columns { fields, .. } => {
+            let kept = kept_fields(alloc, columns_in(fields), keep)?;
+            ColumnRef::of_fields(alloc, dtype, kept, count_kept(keep))
+        }
+    }
+}
+
+/// The columns' rows where the other column is true.
+#[cycle(kept)]
+fn kept_fields(alloc: Global, fields: &[ColumnRef], keep: &ColumnRef) -> Mem<Vec<ColumnRef>>
+    requires mask { is_bool_ty keep.now.ty ≡ true }
+    requires lengths { All (λ c. length c.rows ≡ length keep.now.rows) fields.now }
+    ensures { IfOk result (λ cs. cs.items ≡ map (kept_column keep.now.rows) fields.now) }
+{
+    let mut kept = Vec::with_capacity(alloc, fields.len())?;
+    for field in fields {
+        kept.push(kept_of(alloc, field, keep)?)?;
+    }
+    Ok(kept)
+}
+
+/// How many rows of a boolean column are true.
+fn count_kept(keep: &ColumnRef) -> usize
+    requires { is_bool_ty keep.now.ty ≡ true }
+    ensures { result ≡ trues_in keep.now.rows }
+{
+    let mut kept = 0;
+    for i in 0..keep.len() {
+        if is_true_at(keep, i) {
+            kept += 1;
+        }
+    }
+    kept
 }
 
 /// The values of a type where a boolean is true.
@@ -93,19 +150,17 @@ fn filter_values(
     alloc: Global,
     dtype: &DType,
     values: &[ScalarValue],
-    keeps: Nullability,
-    keep: &[ScalarValue],
+    keep: &ColumnRef,
 ) -> Mem<Vec<ScalarValue>>
-    requires lengths { length values.now ≡ length keep.now }
+    requires mask { is_bool_ty keep.now.ty ≡ true }
+    requires lengths { length values.now ≡ length keep.now.rows }
     requires values { values_fit (type_view dtype.now) values.now ≡ true }
-    requires keep { values_fit (bool_ty keeps) keep.now ≡ true }
     ensures fit { IfOk result (λ vs. values_fit (type_view dtype.now) vs.items ≡ true) }
-    ensures values { IfOk result (λ vs. seen_rows (type_view dtype.now) vs.items
-        ≡ kept_rows (seen_rows (type_view dtype.now) values.now) (seen_rows (bool_ty keeps) keep.now)) }
+    ensures values { IfOk result (λ vs. seen_rows (type_view dtype.now) vs.items ≡ kept_rows (seen_rows (type_view dtype.now) values.now) keep.now.rows) }
 {
     let mut kept = Vec::new(alloc);
     for i in 0..values.len() {
-        if is_true(&keep[i]) {
+        if is_true_at(keep, i) {
             kept.push(values[i].clone()?)?;
         }
     }

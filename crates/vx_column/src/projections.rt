@@ -6,7 +6,9 @@ ghost use Rattle.vx_dtype.specs.StructTypes.{is_struct_ty, projected};
 ghost use Rattle.vx_dtype.specs.Structs.{selected};
 ghost use Rattle.vx_column.specs.Answers.{Answers};
 ghost use Rattle.vx_column.specs.StructColumns.{projected_column, place_of, IsAtPlace};
+ghost use Rattle.vx_column.specs.Cells.{HasAtPlace};
 
+use crate::cells::{Cells, columns_in};
 use crate::columns::ColumnRef;
 use crate::errors::ColumnError;
 use crate::fields::parts_of;
@@ -57,6 +59,15 @@ impl ColumnRef {
             return Err(ColumnError::DuplicateField);
         }
         let places = places_of(alloc, fields, names)?;
+        let dtype = DType::Struct(made.clone()?, *nullability);
+        if let Cells::Columns {
+            fields: columns,
+            len,
+        } = self.cells()
+        {
+            let taken = columns_at(alloc, columns_in(columns), places.as_slice())?;
+            return Ok(ColumnRef::of_fields(alloc, dtype, taken, *len)?);
+        }
         let rule = Projection {
             fields,
             nullability: *nullability,
@@ -64,7 +75,6 @@ impl ColumnRef {
             places: places.as_slice(),
             made: &made,
         };
-        let dtype = DType::Struct(made.clone()?, *nullability);
         Ok(map_column(alloc, &rule, dtype, self)?)
     }
 }
@@ -89,6 +99,18 @@ fn values_at(alloc: Global, values: &[ScalarValue], places: &[usize]) -> Mem<Vec
     let mut taken = Vec::with_capacity(alloc, places.len())?;
     for &place in places {
         taken.push(values[place].clone()?)?;
+    }
+    Ok(taken)
+}
+
+/// The columns at these places.
+fn columns_at(alloc: Global, columns: &[ColumnRef], places: &[usize]) -> Mem<Vec<ColumnRef>>
+    requires { All (λ p. p < length columns.now) places.now }
+    ensures { IfOk result (λ cs. AllZip (HasAtPlace columns.now) places.now cs.items) }
+{
+    let mut taken = Vec::with_capacity(alloc, places.len())?;
+    for &place in places {
+        taken.push(columns[place].clone()?)?;
     }
     Ok(taken)
 }

@@ -5,7 +5,9 @@ ghost use Rattle.vx_dtype.specs.RawViews.{raw_view};
 ghost use Rattle.vx_dtype.specs.TypeViews.{type_view};
 ghost use Rattle.vx_dtype.specs.TypeRules.{no_name_twice};
 ghost use Rattle.vx_column.specs.Columns.{values_fit, seen, seen_rows, zip_rows};
+ghost use Rattle.vx_column.specs.Cells.{keeps_values};
 
+use crate::cells::{Cells, values_in};
 use crate::columns::ColumnRef;
 use std::alloc::Global;
 use vx_dtype::{DType, Mem, ScalarValue};
@@ -37,19 +39,20 @@ pub(crate) trait PairRule {
 pub(crate) fn zip_values<R: PairRule>(
     alloc: Global,
     rule: &R,
-    l: &[ScalarValue],
-    r: &[ScalarValue],
+    l: &ColumnRef,
+    r: &ColumnRef,
 ) -> Mem<Vec<ScalarValue>>
-    requires lengths { length l.now ≡ length r.now }
-    requires left { values_fit (R.left rule.now) l.now ≡ true }
-    requires right { values_fit (R.right rule.now) r.now ≡ true }
+    requires lengths { length l.now.rows ≡ length r.now.rows }
+    requires left { l.now.ty ≡ R.left rule.now }
+    requires right { r.now.ty ≡ R.right rule.now }
+    requires left_kept { keeps_values l.now.ty ≡ true }
+    requires right_kept { keeps_values r.now.ty ≡ true }
     ensures fit { IfOk result (λ vs. values_fit (R.made rule.now) vs.items ≡ true) }
-    ensures values { IfOk result (λ vs. seen_rows (R.made rule.now) vs.items
-        ≡ zip_rows (R.rule rule.now) (seen_rows (R.left rule.now) l.now) (seen_rows (R.right rule.now) r.now)) }
+    ensures values { IfOk result (λ vs. seen_rows (R.made rule.now) vs.items ≡ zip_rows (R.rule rule.now) l.now.rows r.now.rows) }
 {
     let mut made = Vec::with_capacity(alloc, l.len())?;
     for i in 0..l.len() {
-        made.push(rule.at(alloc, &l[i], &r[i])?)?;
+        made.push(rule.at(alloc, l.value_at(i), r.value_at(i))?)?;
     }
     Ok(made)
 }
@@ -65,13 +68,23 @@ pub(crate) fn zip_columns<R: PairRule>(
     requires lengths { length l.now.rows ≡ length r.now.rows }
     requires left { l.now.ty ≡ R.left rule.now }
     requires right { r.now.ty ≡ R.right rule.now }
+    requires left_kept { keeps_values l.now.ty ≡ true }
+    requires right_kept { keeps_values r.now.ty ≡ true }
     requires made { type_view dtype ≡ R.made rule.now }
     requires names { no_name_twice (type_view dtype) ≡ true }
     ensures dtype { IfOk result (λ c. c.ty ≡ type_view dtype) }
     ensures rows { IfOk result (λ c. c.rows ≡ zip_rows (R.rule rule.now) l.now.rows r.now.rows) }
 {
-    let made = zip_values(alloc, rule, l.values(), r.values())?;
-    ColumnRef::of_rows(alloc, dtype, made)
+    match (l.constant_value(), r.constant_value()) {
+        (Some(x), Some(y)) => {
+            let made = rule.at(alloc, x, y)?;
+            Ok(ColumnRef::of_constant(dtype, made, l.len()))
+        }
+        _ => {
+            let made = zip_values(alloc, rule, l, r)?;
+            ColumnRef::of_rows(alloc, dtype, made)
+        }
+    }
 }
 
 /// A rule that makes one value of another.
@@ -124,6 +137,18 @@ pub(crate) fn map_column<R: RowRule>(
     ensures dtype { IfOk result (λ c. c.ty ≡ type_view dtype) }
     ensures rows { IfOk result (λ c. c.rows ≡ map (R.rule rule.now) column.now.rows) }
 {
-    let made = map_values(alloc, rule, column.values())?;
-    ColumnRef::of_rows(alloc, dtype, made)
+    match column.cells() {
+        Cells::Constant { value, len } => {
+            Ok(ColumnRef::of_constant(dtype, rule.at(alloc, value)?, *len))
+        }
+        Cells::Rows(rows) => {
+            let made = map_values(alloc, rule, values_in(rows))?;
+            ColumnRef::of_rows(alloc, dtype, made)
+        }
+        Cells::Columns { .. } => {
+            let rows = column.made_rows(alloc)?;
+            let made = map_values(alloc, rule, rows.as_slice())?;
+            ColumnRef::of_rows(alloc, dtype, made)
+        }
+    }
 }

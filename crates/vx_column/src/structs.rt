@@ -1,6 +1,6 @@
 // Struct columns made of columns of their fields.
-ghost use Rattle.std.specs.Prelude.{◌≡◌, ◌<◌, ℕ, List, true, length, map, Option, option_map, option_copied, IfOk, IfSome};
-ghost use Rattle.std.specs.List.{All, AllZip, range_with_len};
+ghost use Rattle.std.specs.Prelude.{◌≡◌, ◌<◌, List, true, length, map, Option, option_map, option_copied, IfOk, IfSome};
+ghost use Rattle.std.specs.List.{All, range_with_len};
 ghost use Rattle.vx_dtype.specs.Types.{Bytes};
 ghost use Rattle.vx_dtype.specs.Fits.{fits};
 ghost use Rattle.vx_dtype.specs.Values.{raw_struct};
@@ -9,11 +9,13 @@ ghost use Rattle.vx_dtype.specs.TypeRules.{no_name_twice};
 ghost use Rattle.vx_dtype.specs.TypeViews.{type_view};
 ghost use Rattle.vx_column.specs.Columns.{values_fit, seen, seen_rows};
 ghost use Rattle.vx_column.specs.Answers.{Answers};
-ghost use Rattle.vx_column.specs.StructColumns.{column_types, all_have_rows, truths_number, nullability_by, is_valid_row, struct_type, struct_row, struct_column, StandsAt};
+ghost use Rattle.vx_column.specs.Cells.{all_rows_fit};
+ghost use Rattle.vx_column.specs.StructColumns.{column_types, all_have_rows, truths_number, nullability_by, is_valid_row, struct_type, struct_row, struct_column};
 
 use crate::columns::ColumnRef;
 use crate::errors::ColumnError;
 use crate::logic::null;
+use crate::reading::row_of;
 use std::alloc::Global;
 use std::rc::Rc;
 use vx_dtype::{DType, FieldName, FieldNames, Mem, Nullability, ScalarValue, StructFields};
@@ -42,11 +44,16 @@ impl ColumnRef {
         if !FieldName::are_distinct(alloc, names.as_slice())? {
             return Err(ColumnError::DuplicateField);
         }
-        let rows = struct_rows(alloc, fields.as_slice(), len, truths)?;
         let dtypes = types_of(alloc, fields.as_slice())?;
         let nullability = nullability_by(truths);
         let dtype = DType::Struct(StructFields::new(alloc, names, dtypes)?, nullability);
-        Ok(ColumnRef::of_rows(alloc, dtype, rows)?)
+        match truths {
+            None => Ok(ColumnRef::of_fields(alloc, dtype, fields, len)?),
+            Some(_) => {
+                let rows = struct_rows(alloc, fields.as_slice(), len, truths)?;
+                Ok(ColumnRef::of_rows(alloc, dtype, rows)?)
+            }
+        }
     }
 }
 
@@ -96,24 +103,13 @@ fn nullability_by(valid: Option<&[bool]>) -> Nullability
 fn types_of(alloc: Global, fields: &[ColumnRef]) -> Mem<Vec<DType>>
     ensures types { IfOk result (λ ts. map type_view ts.items ≡ column_types fields.now) }
     ensures names { IfOk result (λ _. All (λ c. no_name_twice c.ty ≡ true) fields.now) }
+    ensures fit { IfOk result (λ _. all_rows_fit fields.now ≡ true) }
 {
     let mut dtypes = Vec::with_capacity(alloc, fields.len())?;
     for field in fields {
         dtypes.push(field.dtype().clone()?)?;
     }
     Ok(dtypes)
-}
-
-/// The columns' values at a row.
-fn row_of(alloc: Global, fields: &[ColumnRef], i: usize) -> Mem<Vec<ScalarValue>>
-    requires { All (λ c. i < length c.rows) fields.now }
-    ensures { IfOk result (λ xs. AllZip (StandsAt i) fields.now xs.items) }
-{
-    let mut row = Vec::with_capacity(alloc, fields.len())?;
-    for field in fields {
-        row.push(field.values()[i].clone()?)?;
-    }
-    Ok(row)
 }
 
 /// Whether a row is valid: each is where no truths say so.

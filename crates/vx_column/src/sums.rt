@@ -10,7 +10,7 @@ ghost use Rattle.vx_dtype.specs.Sums.{add3, sub3, int_in};
 ghost use Rattle.vx_dtype.specs.RawViews.{raw_view};
 ghost use Rattle.vx_dtype.specs.TypeViews.{type_view};
 ghost use Rattle.vx_column.specs.declared.errors.ColumnError.TheVariants.{Overflow};
-ghost use Rattle.vx_column.specs.Columns.{column, values_fit, seen, seen_rows, zip_rows};
+ghost use Rattle.vx_column.specs.Columns.{column, seen, zip_rows};
 ghost use Rattle.vx_column.specs.Answers.{Answers, no_faults, unless_faulty, GivesUnlessFaulty};
 ghost use Rattle.vx_column.specs.Totals.{total3, number_val, number_fits};
 
@@ -104,19 +104,18 @@ impl Totals {
 fn reckoned_rows(
     alloc: Global,
     rule: &Totals,
-    l: &[ScalarValue],
-    r: &[ScalarValue],
+    l: &ColumnRef,
+    r: &ColumnRef,
 ) -> Mem<Option<Vec<ScalarValue>>>
-    requires lengths { length l.now ≡ length r.now }
-    requires left { values_fit (int_ty rule.now.ptype rule.now.left) l.now ≡ true }
-    requires right { values_fit (int_ty rule.now.ptype rule.now.right) r.now ≡ true }
+    requires lengths { length l.now.rows ≡ length r.now.rows }
+    requires left { l.now.ty ≡ int_ty rule.now.ptype rule.now.left }
+    requires right { r.now.ty ≡ int_ty rule.now.ptype rule.now.right }
     ensures { IfOk result (λ made. GivesUnlessFaulty (int_ty rule.now.ptype (union rule.now.left rule.now.right))
-        (zip_rows (total3 rule.now.total) (seen_rows (int_ty rule.now.ptype rule.now.left) l.now) (seen_rows (int_ty rule.now.ptype rule.now.right) r.now))
-        (option_map (λ vs. vs.items) made)) }
+        (zip_rows (total3 rule.now.total) l.now.rows r.now.rows) (option_map (λ vs. vs.items) made)) }
 {
     let mut made = Vec::with_capacity(alloc, l.len())?;
     for i in 0..l.len() {
-        match rule.at(&l[i], &r[i]) {
+        match rule.at(l.value_at(i), r.value_at(i)) {
             Some(value) => made.push(value)?,
             None => return Ok(None),
         }
@@ -147,7 +146,7 @@ fn reckoned_column(
         left,
         right,
     };
-    match reckoned_rows(alloc, &rule, l.values(), r.values())? {
+    match reckoned_rows(alloc, &rule, l, r)? {
         Some(made) => {
             let dtype = DType::Primitive(ptype, left.union(right));
             Ok(ColumnRef::of_rows(alloc, dtype, made)?)

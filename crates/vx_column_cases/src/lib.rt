@@ -6,6 +6,8 @@ mod ample;
 #[cfg(test)]
 mod columns;
 #[cfg(test)]
+mod kept;
+#[cfg(test)]
 mod structs;
 #[cfg(test)]
 mod wildcards;

@@ -8,10 +8,10 @@ use vx_column::{ColumnError, ColumnRef};
 use vx_dtype::{DType, FieldName, FieldNames, Nullability, PType, ScalarValue, StructFields, Text};
 
 /// A struct of a number and a text, either of which may be null.
-type Pair<'a> = (Option<i128>, Option<&'a str>);
+pub(crate) type Pair<'a> = (Option<i128>, Option<&'a str>);
 
 /// The columns `a` and `b` of three rows.
-fn parts(alloc: Global) -> Result<Vec<ColumnRef>, Fail> {
+pub(crate) fn parts(alloc: Global) -> Result<Vec<ColumnRef>, Fail> {
     let a = numbers(alloc, PType::I8, [Some(1), None, Some(3)].as_slice())?;
     let b = texts(alloc, [Some("x"), Some("y"), None].as_slice())?;
     let mut fields = Vec::new(alloc);
@@ -21,7 +21,7 @@ fn parts(alloc: Global) -> Result<Vec<ColumnRef>, Fail> {
 }
 
 /// The struct column of these columns with these names, or the refusal.
-fn made_of(
+pub(crate) fn made_of(
     alloc: Global,
     texts: &[&str],
     fields: Vec<ColumnRef>,
@@ -78,7 +78,11 @@ fn pair(alloc: Global, row: Option<Pair<'_>>) -> Result<ScalarValue, Fail> {
 }
 
 /// The column of these structs with the fields `a` and `b`.
-fn pairs(alloc: Global, rows: &[Option<Pair<'_>>], n: Nullability) -> Result<ColumnRef, Fail> {
+pub(crate) fn pairs(
+    alloc: Global,
+    rows: &[Option<Pair<'_>>],
+    n: Nullability,
+) -> Result<ColumnRef, Fail> {
     let mut values = Vec::new(alloc);
     for row in rows {
         values.push(pair(alloc, *row)?)?;

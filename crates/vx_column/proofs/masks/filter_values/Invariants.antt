@@ -1,5 +1,4 @@
 use Rattle.std.proofs.Common.{◌≡◌, true, take}
-use Rattle.vx_dtype.specs.Types.{bool_ty}
 use Rattle.vx_dtype.specs.TypeViews.{type_view}
 use Rattle.vx_column.specs.Columns.{values_fit, seen_rows, kept_rows}
 use Rattle.vx_column.proofs.masks.filter_values.Given as goal
@@ -7,4 +6,4 @@ use Rattle.vx_column.proofs.masks.filter_values.Given as goal
 abbrev pub invariant-loop-i : goal.invariant-loop-i
 invariant-loop-i l =
     (values_fit (type_view l.fn.dtype) l.kept.items ≡ true)
-    × (seen_rows (type_view l.fn.dtype) l.kept.items ≡ kept_rows (seen_rows (type_view l.fn.dtype) (take l.i l.fn.values)) (seen_rows (bool_ty l.fn.keeps) (take l.i l.fn.keep)))
+    × (seen_rows (type_view l.fn.dtype) l.kept.items ≡ kept_rows (take l.i (seen_rows (type_view l.fn.dtype) l.fn.values)) (take l.i l.fn.keep.rows))

@@ -1,24 +1,38 @@
-use Rattle.std.proofs.Common.{refl, arith}
+use Rattle.std.proofs.Common.{◌≡◌, ◌<◌, ◌∙◌, sym, ap, length, refl, arith}
 use Rattle.std.proofs.lemmas.List.{take_all}
-use Rattle.vx_column.proofs.RowLemmas.{zip_rows_step, fits_at, values_fit_more}
+use Rattle.vx_dtype.specs.Values.{null_val}
+use Rattle.vx_column.specs.Columns.{seen, row_at}
+use Rattle.vx_column.specs.Totals.{total3}
+use Rattle.vx_dtype.specs.Types.{int_ty}
+use Rattle.vx_column.proofs.RowLemmas.{zip_rows_step, values_fit_more}
 use Rattle.vx_column.proofs.SumLemmas.{fault_at}
 use Rattle.vx_column.proofs.sums.reckoned_rows.Goals as goal
 
+pub value_at-requires-clause-kept : goal.value_at-requires-clause-kept
+value_at-requires-clause-kept c = rw c.requires.left refl
+
+pub value_at-requires-in-loop-i-clause-kept : goal.value_at-requires-in-loop-i-clause-kept
+value_at-requires-in-loop-i-clause-kept c = rw c.requires.right refl
+
 pub at-requires-clause-left : goal.at-requires-clause-left
-at-requires-clause-left c = fits_at _ _ c.loop-i.i _ c.requires.left c.loop-i-test.true c.index-l-i.is
+at-requires-clause-left c = rw (← c.requires.left) c.value_at.ensures.fit
 
 pub at-requires-clause-right : goal.at-requires-clause-right
-at-requires-clause-right c = fits_at _ _ c.loop-i.i _ c.requires.right (omega arith) c.index-r-i.is
+at-requires-clause-right c = rw (← c.requires.right) c.value_at-in-loop-i.ensures.fit
 
 pub returns-in-None : goal.returns-in-None
 returns-in-None c =
-    fault_at _ _ _ c.args.l.now c.args.r.now c.loop-i.i _ _ c.loop-i-test.true (omega arith) c.index-l-i.is c.index-r-i.is (c.in-None.ensures.none refl)
+    let within : c.loop-i.i < length c.args.l.now.rows = omega (arith, c.loop-i-test.true) in
+    let left : seen (int_ty c.args.rule.now.ptype c.args.rule.now.left) c.value_at.result.now ≡ row_at c.args.l.now c.loop-i.i = ap (λ t. seen t c.value_at.result.now) (sym c.requires.left) ∙ c.value_at.ensures.value in
+    let right : seen (int_ty c.args.rule.now.ptype c.args.rule.now.right) c.value_at-in-loop-i.result.now ≡ row_at c.args.r.now c.loop-i.i = ap (λ t. seen t c.value_at-in-loop-i.result.now) (sym c.requires.right) ∙ c.value_at-in-loop-i.ensures.value in
+    fault_at (total3 c.args.rule.now.total) c.args.l.now.rows c.args.r.now.rows c.loop-i.i null_val within c.requires.lengths ((λ j. total3 c.args.rule.now.total (sym left j) (sym right j)) ∙ c.in-None.ensures.none refl)
 
 pub loop-i-preserved : goal.loop-i-preserved
 loop-i-preserved c =
+    let within : c.loop-i.i < length c.args.l.now.rows = omega (arith, c.loop-i-test.true) in
     let fit = values_fit_more _ _ _ c.loop-i.invariant.0 c.in-Some.ensures.fit in
-    (rw c.in_ok-push-in-Some.ensures.items fit, zip_rows_step _ _ _ _ c.args.l.now c.args.r.now _ _ c.loop-i.i _ _ _ c.loop-i-test.true (omega arith) c.index-l-i.is c.index-r-i.is c.in_ok-push-in-Some.ensures.items c.in-Some.ensures.value c.loop-i.invariant.1)
+    (rw c.in_ok-push-in-Some.ensures.items fit, zip_rows_step _ _ _ _ c.args.l.now c.args.r.now _ _ c.loop-i.i _ _ _ c.requires.left c.requires.right within c.requires.lengths c.value_at.ensures.value c.value_at-in-loop-i.ensures.value c.in_ok-push-in-Some.ensures.items c.in-Some.ensures.value c.loop-i.invariant.1)
 
 pub returns : goal.returns
 returns c =
-    (c.loop-i.invariant.0, rw c.loop-i.invariant.1 (rw (take_all c.loop-i.i c.args.l.now (omega arith), take_all c.loop-i.i c.args.r.now (omega arith)) refl))
+    (c.loop-i.invariant.0, rw c.loop-i.invariant.1 (rw (take_all c.loop-i.i c.args.l.now.rows (omega arith), take_all c.loop-i.i c.args.r.now.rows (omega arith)) refl))

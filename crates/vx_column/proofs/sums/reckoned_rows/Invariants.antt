@@ -8,4 +8,4 @@ use Rattle.vx_column.proofs.sums.reckoned_rows.Given as goal
 abbrev pub invariant-loop-i : goal.invariant-loop-i
 invariant-loop-i l =
     (values_fit (int_ty l.fn.rule.ptype (union l.fn.rule.left l.fn.rule.right)) l.made.items ≡ true)
-    × (seen_rows (int_ty l.fn.rule.ptype (union l.fn.rule.left l.fn.rule.right)) l.made.items ≡ zip_rows (total3 l.fn.rule.total) (seen_rows (int_ty l.fn.rule.ptype l.fn.rule.left) (take l.i l.fn.l)) (seen_rows (int_ty l.fn.rule.ptype l.fn.rule.right) (take l.i l.fn.r)))
+    × (seen_rows (int_ty l.fn.rule.ptype (union l.fn.rule.left l.fn.rule.right)) l.made.items ≡ zip_rows (total3 l.fn.rule.total) (take l.i l.fn.l.rows) (take l.i l.fn.r.rows))

@@ -1,4 +1,4 @@
-use Rattle.std.proofs.Common.{rules, ◌≡◌, true, refl, ap, sym, ◌∙◌, map, Some, None, Ok}
+use Rattle.std.proofs.Common.{rules, ◌≡◌, ◌<◌, true, refl, ap, sym, ◌∙◌, subst, map, length, get_or, arith, Some, None, Ok}
 use Rattle.std.proofs.lemmas.Option.{same_Some}
 use Rattle.std.specs.Str.{bytes_eq}
 use Rattle.std.specs.List.{position}
@@ -8,6 +8,9 @@ use Rattle.vx_dtype.specs.TypeViews.{type_view}
 use Rattle.vx_dtype.specs.Structs.{field_of}
 use Rattle.vx_column.specs.Columns.{column}
 use Rattle.vx_column.specs.Answers.{type_at_place}
+use Rattle.vx_column.specs.Cells.{cell_rows, structs_of, AreFieldsOf, ArePartsOf}
+use Rattle.vx_column.proofs.CellLemmas.{fields_number}
+use Rattle.vx_column.proofs.ColumnFields.{field_type_here, field_column_here}
 use Rattle.vx_column.proofs.FieldLemmas.{field_missing, field_typed, names_at, names_of_struct, names_widened, place_among, place_typed, position_within, type_placed}
 use Rattle.vx_column.proofs.columns.ColumnRef.field.Goals as goal
 
@@ -46,6 +49,36 @@ map_column-requires-clause-names c =
     let there = type_placed type_view c.args.name.now c.in-Struct.fields c.dtypes.result.now c.in-Some.place c.index-dtypes-place.result place c.dtypes.ensures c.index-dtypes-place.is in
     let here = names_at c.in-Struct.fields c.in-Some.place _ below there in
     ap no_name_twice c.in_ok-dtype.ensures ∙ names_widened _ _ here
+
+pub bounds-columns-place : goal.bounds-columns-place
+bounds-columns-place c =
+    let ty : c.args.self.now.ty ≡ struct_ty c.in-Struct.fields c.in-Struct.nullability = sym c.dtype.ensures.shown ∙ ap type_view c.in-Struct.is in
+    let place : position (bytes_eq c.args.name.now) (field_names c.in-Struct.fields) ≡ Some c.in-Some.place = rw c.names.ensures at (sym c.position.ensures ∙ c.in-Some.is) in
+    let parts : AreFieldsOf c.args.self.now.ty c.in-Columns.columns.value.items c.in-Columns.len = subst (ArePartsOf c.args.self.now.ty) c.in-Columns.is c.cells.ensures.parts in
+    let number : length (field_names c.in-Struct.fields) ≡ length c.in-Columns.columns.value.items = ap (λ t. length (field_names (fields_of t))) (sym ty) ∙ fields_number _ _ _ parts in
+    omega (arith, position_within c.args.name.now c.in-Struct.fields c.in-Some.place place, number, ap length c.columns_in-columns.ensures)
+
+pub offset_bounds-columns-place : goal.offset_bounds-columns-place
+offset_bounds-columns-place c =
+    let ty : c.args.self.now.ty ≡ struct_ty c.in-Struct.fields c.in-Struct.nullability = sym c.dtype.ensures.shown ∙ ap type_view c.in-Struct.is in
+    let place : position (bytes_eq c.args.name.now) (field_names c.in-Struct.fields) ≡ Some c.in-Some.place = rw c.names.ensures at (sym c.position.ensures ∙ c.in-Some.is) in
+    let parts : AreFieldsOf c.args.self.now.ty c.in-Columns.columns.value.items c.in-Columns.len = subst (ArePartsOf c.args.self.now.ty) c.in-Columns.is c.cells.ensures.parts in
+    let number : length (field_names c.in-Struct.fields) ≡ length c.in-Columns.columns.value.items = ap (λ t. length (field_names (fields_of t))) (sym ty) ∙ fields_number _ _ _ parts in
+    let within : c.in-Some.place < length c.columns_in-columns.result.now = omega (arith, position_within c.args.name.now c.in-Struct.fields c.in-Some.place place, number, ap length c.columns_in-columns.ensures) in
+    search (rules, within)
+
+pub returns-in-Columns : goal.returns-in-Columns
+returns-in-Columns c =
+    let ty : c.args.self.now.ty ≡ struct_ty c.in-Struct.fields c.in-Struct.nullability = sym c.dtype.ensures.shown ∙ ap type_view c.in-Struct.is in
+    let place : position (bytes_eq c.args.name.now) (field_names c.in-Struct.fields) ≡ Some c.in-Some.place = rw c.names.ensures at (sym c.position.ensures ∙ c.in-Some.is) in
+    let here : position (bytes_eq c.args.name.now) (field_names (fields_of c.args.self.now.ty)) ≡ Some c.in-Some.place = ap (λ t. position (bytes_eq c.args.name.now) (field_names (fields_of t))) ty ∙ place in
+    let parts : AreFieldsOf c.args.self.now.ty c.in-Columns.columns.value.items c.in-Columns.len = subst (ArePartsOf c.args.self.now.ty) c.in-Columns.is c.cells.ensures.parts in
+    let rows : structs_of (field_names (fields_of c.args.self.now.ty)) c.in-Columns.columns.value.items c.in-Columns.len ≡ c.args.self.now.rows = ap (cell_rows c.args.self.now.ty) (sym c.in-Columns.is) ∙ c.cells.ensures.rows in
+    let read = c.index-columns-place.is ∙ ap (λ cs. get_or cs c.in-Some.place c.index-columns-place.result) c.columns_in-columns.ensures in
+    let found = field_type_here c.args.name.now c.args.self.now.ty c.in-Columns.columns.value.items c.in-Columns.len c.in-Some.place c.index-columns-place.result parts here read in
+    let same = field_column_here c.args.name.now c.args.self.now.ty c.in-Columns.columns.value.items c.in-Columns.len c.in-Some.place c.index-columns-place.result parts here read in
+    let made : c.index-columns-place.result ≡ column (widened c.index-columns-place.result.ty (nullability_of c.args.self.now.ty)) (map (field_of c.args.name.now) c.args.self.now.rows) = same ∙ ap (λ vs. column (widened c.index-columns-place.result.ty (nullability_of c.args.self.now.ty)) (map (field_of c.args.name.now) vs)) rows in
+    rw found (ap (λ d. Ok d) (c.in_ok-clone.ensures.cases ∙ made))
 
 pub returns : goal.returns
 returns c =

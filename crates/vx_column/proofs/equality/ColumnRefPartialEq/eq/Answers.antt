@@ -3,20 +3,26 @@ use Rattle.std.specs.Prelude.{Decides}
 use Rattle.vx_dtype.specs.EqualLaws.{ty_decides}
 use Rattle.vx_dtype.specs.Equal.{ty_eq}
 use Rattle.vx_column.specs.ColumnEqualLaws.{column_decides}
-use Rattle.vx_column.proofs.EqualLemmas.{rows_answer, types_answer, decide_same}
+use Rattle.vx_column.proofs.EqualLemmas.{types_answer, decide_same}
+use Rattle.vx_column.proofs.SameLemmas.{columns_answer}
 use Rattle.vx_column.proofs.equality.ColumnRefPartialEq.eq.Goals as goal
+
+pub same-requires : goal.same-requires
+same-requires c =
+    let told : ty_eq c.args.self.now.ty c.args.other.now.ty ≡ true = (λ i. ty_eq (sym c.dtype.ensures.shown i) (sym c.dtype-2.ensures.shown i)) ∙ sym c.eq.ensures ∙ c.if-eq.true in
+    (ty_decides c.args.self.now.ty c.args.other.now.ty).0 told
 
 pub returns-then-eq-clause-gives : goal.returns-then-eq-clause-gives
 returns-then-eq-clause-gives c =
     let told : ty_eq c.args.self.now.ty c.args.other.now.ty ≡ true = (λ i. ty_eq (sym c.dtype.ensures.shown i) (sym c.dtype-2.ensures.shown i)) ∙ sym c.eq.ensures ∙ c.if-eq.true in
     let types : c.args.self.now.ty ≡ c.args.other.now.ty = (ty_decides c.args.self.now.ty c.args.other.now.ty).0 told in
-    decide_same (c.args.self.now ≡ c.args.other.now) c.eq-then-eq.result _ (rows_answer c.args.self.now c.args.other.now c.values.result.now c.values-then-eq.result.now c.eq-then-eq.result types c.values.ensures.rows c.values-then-eq.ensures.rows c.values.ensures.fit c.values-then-eq.ensures.fit c.eq-then-eq.ensures) (column_decides c.args.self.now c.args.other.now)
+    decide_same (c.args.self.now ≡ c.args.other.now) _ _ (columns_answer c.args.self.now c.args.other.now _ types c.same.ensures) (column_decides c.args.self.now c.args.other.now)
 
 pub returns-then-eq-clause-same : goal.returns-then-eq-clause-same
 returns-then-eq-clause-same c =
     let told : ty_eq c.args.self.now.ty c.args.other.now.ty ≡ true = (λ i. ty_eq (sym c.dtype.ensures.shown i) (sym c.dtype-2.ensures.shown i)) ∙ sym c.eq.ensures ∙ c.if-eq.true in
     let types : c.args.self.now.ty ≡ c.args.other.now.ty = (ty_decides c.args.self.now.ty c.args.other.now.ty).0 told in
-    rows_answer c.args.self.now c.args.other.now c.values.result.now c.values-then-eq.result.now c.eq-then-eq.result types c.values.ensures.rows c.values-then-eq.ensures.rows c.values.ensures.fit c.values-then-eq.ensures.fit c.eq-then-eq.ensures
+    columns_answer c.args.self.now c.args.other.now _ types c.same.ensures
 
 pub returns-else-eq-clause-same : goal.returns-else-eq-clause-same
 returns-else-eq-clause-same c =

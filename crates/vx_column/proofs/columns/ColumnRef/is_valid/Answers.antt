@@ -1,0 +1,29 @@
+use Rattle.std.proofs.Common.{◌≡◌, true, ap, sym, ◌∙◌, subst, get_or}
+use Rattle.std.proofs.Math.ListN.{replicate}
+use Rattle.vx_dtype.specs.TypeRules.{field_names, fields_of}
+use Rattle.vx_dtype.specs.Logic.{is_null3}
+use Rattle.vx_dtype.specs.Fits.{fits}
+use Rattle.vx_dtype.specs.RawViews.{raw_view}
+use Rattle.vx_column.specs.Columns.{seen, seen_rows, values_fit}
+use Rattle.vx_column.specs.Cells.{cell_rows, structs_of, ArePartsOf}
+use Rattle.vx_column.proofs.CellLemmas.{constant_row, values_row, values_fit_at, structs_row, valid_kept}
+use Rattle.vx_column.proofs.columns.ColumnRef.is_valid.Goals as goal
+
+pub returns-in-Constant : goal.returns-in-Constant
+returns-in-Constant c =
+    let rows : replicate c.in-Constant.len (seen c.args.self.now.ty c.in-Constant.value) ≡ c.args.self.now.rows = ap (cell_rows c.args.self.now.ty) (sym c.in-Constant.is) ∙ c.cells.ensures.rows in
+    let fit : fits (raw_view c.in-Constant.value) c.args.self.now.ty ≡ true = subst (ArePartsOf c.args.self.now.ty) c.in-Constant.is c.cells.ensures.parts in
+    valid_kept c.args.self.now c.args.i c.in-Constant.value _ fit (constant_row c.args.self.now _ _ _ rows c.requires) c.is_null_value.ensures
+
+pub returns-in-Rows : goal.returns-in-Rows
+returns-in-Rows c =
+    let same : c.values_in-values.result.now ≡ c.in-Rows.rows.value.items = c.values_in-values.ensures in
+    let rows : seen_rows c.args.self.now.ty c.in-Rows.rows.value.items ≡ c.args.self.now.rows = ap (cell_rows c.args.self.now.ty) (sym c.in-Rows.is) ∙ c.cells.ensures.rows in
+    let fit : values_fit c.args.self.now.ty c.in-Rows.rows.value.items ≡ true = subst (ArePartsOf c.args.self.now.ty) c.in-Rows.is c.cells.ensures.parts in
+    let read = c.index-values-i.is ∙ ap (λ xs. get_or xs c.args.i c.index-values-i.result) same in
+    valid_kept c.args.self.now c.args.i c.index-values-i.result _ (values_fit_at c.args.self.now _ c.args.i _ rows fit c.requires read) (values_row c.args.self.now _ c.args.i _ rows c.requires read) c.is_null_value-in-Rows.ensures
+
+pub returns-in-Columns : goal.returns-in-Columns
+returns-in-Columns c =
+    let rows : structs_of (field_names (fields_of c.args.self.now.ty)) c.in-Columns.fields.value.items c.in-Columns.len ≡ c.args.self.now.rows = ap (cell_rows c.args.self.now.ty) (sym c.in-Columns.is) ∙ c.cells.ensures.rows in
+    ap is_null3 (sym (structs_row c.args.self.now _ _ _ c.args.i rows c.requires))

@@ -1,0 +1,62 @@
+use Rattle.std.proofs.Common.{◌≡◌, true, ap, sym, ◌∙◌, subst}
+use Rattle.std.proofs.Math.ListN.{replicate}
+use Rattle.vx_dtype.specs.declared.Nullability.TheVariants.{Nullable}
+use Rattle.vx_dtype.specs.TypeRules.{with_nullability, no_name_twice}
+use Rattle.vx_dtype.specs.TypeViews.{type_view}
+use Rattle.vx_dtype.specs.Fits.{fits}
+use Rattle.vx_dtype.specs.RawViews.{raw_view}
+use Rattle.vx_column.specs.Columns.{Column, column, seen, seen_rows, values_fit}
+use Rattle.vx_column.specs.Cells.{cell_rows, ArePartsOf}
+use Rattle.vx_column.proofs.FitLemmas.{names_with_nullability, fits_nullable}
+use Rattle.vx_column.proofs.StructLemmas.{if_ok_map}
+use Rattle.vx_column.proofs.CellLemmas.{nullable_constant, nullable_values, values_fit_nullable}
+use Rattle.vx_column.proofs.columns.ColumnRef.made_nullable.Goals as goal
+
+pub of_constant-requires-clause-fit : goal.of_constant-requires-clause-fit
+of_constant-requires-clause-fit c =
+    let fit : fits (raw_view c.in-Constant.value) c.args.self.now.ty ≡ true = subst (ArePartsOf c.args.self.now.ty) c.in-Constant.is c.cells.ensures.parts in
+    let type : type_view c.in_ok-dtype.dtype ≡ with_nullability c.args.self.now.ty Nullable = c.in_ok-dtype.ensures ∙ ap (λ t. with_nullability t Nullable) c.dtype.ensures.shown in
+    rw (type, c.in_ok-clone-in-Constant.ensures.cases) (fits_nullable _ _ fit)
+
+pub returns-in_ok-clone-in-Constant : goal.returns-in_ok-clone-in-Constant
+returns-in_ok-clone-in-Constant c =
+    let rows : replicate c.in-Constant.len (seen c.args.self.now.ty c.in-Constant.value) ≡ c.args.self.now.rows = ap (cell_rows c.args.self.now.ty) (sym c.in-Constant.is) ∙ c.cells.ensures.rows in
+    let type : type_view c.in_ok-dtype.dtype ≡ with_nullability c.args.self.now.ty Nullable = c.in_ok-dtype.ensures ∙ ap (λ t. with_nullability t Nullable) c.dtype.ensures.shown in
+    c.of_constant.ensures ∙ nullable_constant c.args.self.now _ c.in-Constant.len c.in-Constant.value c.in_ok-clone-in-Constant.field-0 type c.in_ok-clone-in-Constant.ensures.cases rows
+
+pub of_constant-requires-clause-names : goal.of_constant-requires-clause-names
+of_constant-requires-clause-names c =
+    let type : type_view c.in_ok-dtype.dtype ≡ with_nullability c.args.self.now.ty Nullable = c.in_ok-dtype.ensures ∙ ap (λ t. with_nullability t Nullable) c.dtype.ensures.shown in
+    ap no_name_twice type ∙ names_with_nullability c.args.self.now.ty Nullable ∙ c.dtype.ensures.names
+
+pub of_shared-requires-clause-fit : goal.of_shared-requires-clause-fit
+of_shared-requires-clause-fit c =
+    let fit : values_fit c.args.self.now.ty c.in-Rows.rows.value.items ≡ true = subst (ArePartsOf c.args.self.now.ty) c.in-Rows.is c.cells.ensures.parts in
+    let type : type_view c.in_ok-dtype.dtype ≡ with_nullability c.args.self.now.ty Nullable = c.in_ok-dtype.ensures ∙ ap (λ t. with_nullability t Nullable) c.dtype.ensures.shown in
+    (λ j. values_fit (type j) (c.in_ok-clone-in-Rows.ensures.cases j).items) ∙ values_fit_nullable c.args.self.now.ty c.in-Rows.rows.value.items fit
+
+pub of_shared-requires-clause-names : goal.of_shared-requires-clause-names
+of_shared-requires-clause-names c =
+    let type : type_view c.in_ok-dtype.dtype ≡ with_nullability c.args.self.now.ty Nullable = c.in_ok-dtype.ensures ∙ ap (λ t. with_nullability t Nullable) c.dtype.ensures.shown in
+    ap no_name_twice type ∙ names_with_nullability c.args.self.now.ty Nullable ∙ c.dtype.ensures.names
+
+pub returns-in_ok-clone-in-Rows : goal.returns-in_ok-clone-in-Rows
+returns-in_ok-clone-in-Rows c =
+    let rows : seen_rows c.args.self.now.ty c.in-Rows.rows.value.items ≡ c.args.self.now.rows = ap (cell_rows c.args.self.now.ty) (sym c.in-Rows.is) ∙ c.cells.ensures.rows in
+    let type : type_view c.in_ok-dtype.dtype ≡ with_nullability c.args.self.now.ty Nullable = c.in_ok-dtype.ensures ∙ ap (λ t. with_nullability t Nullable) c.dtype.ensures.shown in
+    c.of_shared.ensures ∙ nullable_values c.args.self.now _ c.in_ok-clone-in-Rows.field-0.value.items type (ap (λ v. seen_rows c.args.self.now.ty v.items) c.in_ok-clone-in-Rows.ensures.cases ∙ rows)
+
+pub of_rows-requires-clause-fit : goal.of_rows-requires-clause-fit
+of_rows-requires-clause-fit c =
+    let type : type_view c.in_ok-dtype.dtype ≡ with_nullability c.args.self.now.ty Nullable = c.in_ok-dtype.ensures ∙ ap (λ t. with_nullability t Nullable) c.dtype.ensures.shown in
+    ap (λ t. values_fit t c.in_ok-made_rows-in-Columns.field-0.items) type ∙ values_fit_nullable c.args.self.now.ty c.in_ok-made_rows-in-Columns.field-0.items c.in_ok-made_rows-in-Columns.ensures.fit
+
+pub of_rows-requires-clause-names : goal.of_rows-requires-clause-names
+of_rows-requires-clause-names c =
+    let type : type_view c.in_ok-dtype.dtype ≡ with_nullability c.args.self.now.ty Nullable = c.in_ok-dtype.ensures ∙ ap (λ t. with_nullability t Nullable) c.dtype.ensures.shown in
+    ap no_name_twice type ∙ names_with_nullability c.args.self.now.ty Nullable ∙ c.dtype.ensures.names
+
+pub returns-in_ok-made_rows-in-Columns : goal.returns-in_ok-made_rows-in-Columns
+returns-in_ok-made_rows-in-Columns c =
+    let type : type_view c.in_ok-dtype.dtype ≡ with_nullability c.args.self.now.ty Nullable = c.in_ok-dtype.ensures ∙ ap (λ t. with_nullability t Nullable) c.dtype.ensures.shown in
+    if_ok_map _ _ c.of_rows.result (λ (x : Column) (h : x ≡ column (type_view c.in_ok-dtype.dtype) (seen_rows (type_view c.in_ok-dtype.dtype) c.in_ok-made_rows-in-Columns.field-0.items)). h ∙ nullable_values c.args.self.now _ c.in_ok-made_rows-in-Columns.field-0.items type c.in_ok-made_rows-in-Columns.ensures.rows) c.of_rows.ensures

@@ -1,0 +1,48 @@
+use Rattle.std.proofs.Common.{◌≡◌, ◌<◌, ap, sym, ◌∙◌, ◌≤◌, get_or, subst, arith, length, map}
+use Rattle.std.specs.List.{All, AllZip}
+use Rattle.vx_dtype.specs.TypeRules.{field_names, fields_of, depth_of}
+use Rattle.vx_dtype.specs.Values.{raw_struct}
+use Rattle.vx_dtype.specs.RawViews.{raw_view, raws_of}
+use Rattle.vx_dtype.specs.declared.values.ScalarValue.{ScalarValue}
+use Rattle.vx_column.specs.Columns.{Column, seen_rows}
+use Rattle.vx_column.specs.StructColumns.{StandsAt}
+use Rattle.vx_column.specs.Cells.{cell_rows, structs_of, AreFieldsOf, ArePartsOf}
+use Rattle.vx_column.proofs.StructLemmas.{all_rows_at, all_zip_more, if_ok_map}
+use Rattle.vx_column.proofs.CellLemmas.{deepest, deepest_lt, depth_le-deepest, structs_length, values_row, values_fit_at, clone_stands, struct_stands_at}
+use Rattle.vx_column.proofs.reading.+made.Goals as goal
+
+pub made_at-returns-in_ok-clone-in-Rows : goal.made_at-returns-in_ok-clone-in-Rows
+made_at-returns-in_ok-clone-in-Rows t c =
+    let same : c.values_in-values.result.now ≡ c.in-Rows.rows.value.items = c.values_in-values.ensures in
+    let rows : seen_rows c.args.column.now.ty c.in-Rows.rows.value.items ≡ c.args.column.now.rows = ap (cell_rows c.args.column.now.ty) (sym c.in-Rows.is) ∙ c.cells.ensures.rows in
+    let parts = subst (ArePartsOf c.args.column.now.ty) c.in-Rows.is c.cells.ensures.parts in
+    let read = c.index-values-i.is ∙ ap (λ xs. get_or xs c.args.i c.index-values-i.result) same in
+    clone_stands c.args.column.now c.args.i c.index-values-i.result _ (values_fit_at c.args.column.now c.in-Rows.rows.value.items c.args.i _ rows parts c.requires read) (values_row c.args.column.now c.in-Rows.rows.value.items c.args.i _ rows c.requires read) c.in_ok-clone-in-Rows.ensures.cases
+
+pub made_at-row_of-requires : goal.made_at-row_of-requires
+made_at-row_of-requires t c =
+    let same : c.columns_in.result.now ≡ c.in-Columns.fields.value.items = c.columns_in.ensures in
+    let rows : structs_of (field_names (fields_of c.args.column.now.ty)) c.in-Columns.fields.value.items c.in-Columns.len ≡ c.args.column.now.rows = ap (cell_rows c.args.column.now.ty) (sym c.in-Columns.is) ∙ c.cells.ensures.rows in
+    let parts : AreFieldsOf c.args.column.now.ty c.in-Columns.fields.value.items c.in-Columns.len = subst (ArePartsOf c.args.column.now.ty) c.in-Columns.is c.cells.ensures.parts in
+    let within : c.args.i < c.in-Columns.len = omega (arith, structs_length c.args.column.now _ _ _ rows, c.requires) in
+    let below : deepest c.columns_in.result.now < depth_of c.args.column.now.ty = omega (arith, deepest_lt _ _ _ parts, ap deepest same) in
+    (omega (arith, below, c.decreases), subst (λ cs. All (λ (d : Column). c.args.i < length d.rows) cs) (sym same) (all_rows_at c.in-Columns.len c.in-Columns.fields.value.items c.args.i parts.lengths within))
+
+pub made_at-returns-in_ok-row_of-in-Columns : goal.made_at-returns-in_ok-row_of-in-Columns
+made_at-returns-in_ok-row_of-in-Columns t c =
+    let same : c.columns_in.result.now ≡ c.in-Columns.fields.value.items = c.columns_in.ensures in
+    let rows : structs_of (field_names (fields_of c.args.column.now.ty)) c.in-Columns.fields.value.items c.in-Columns.len ≡ c.args.column.now.rows = ap (cell_rows c.args.column.now.ty) (sym c.in-Columns.is) ∙ c.cells.ensures.rows in
+    let parts : AreFieldsOf c.args.column.now.ty c.in-Columns.fields.value.items c.in-Columns.len = subst (ArePartsOf c.args.column.now.ty) c.in-Columns.is c.cells.ensures.parts in
+    let stands = subst (λ cs. AllZip (StandsAt c.args.i) cs c.in_ok-row_of-in-Columns.field-0.items) same c.in_ok-row_of-in-Columns.ensures in
+    if_ok_map _ _ c.struct_of.result (λ (x : ScalarValue) (h : raw_view x ≡ raw_struct (raws_of (map raw_view c.in_ok-row_of-in-Columns.field-0.items))). struct_stands_at c.args.column.now c.args.i c.in-Columns.fields.value.items c.in-Columns.len c.in_ok-row_of-in-Columns.field-0.items x parts rows c.requires stands h) c.struct_of.ensures
+
+pub row_of-made_at-requires : goal.row_of-made_at-requires
+row_of-made_at-requires t c =
+    let i = c.loop-field.field-index in
+    let below : depth_of c.field-item.result.ty ≤ deepest c.args.fields.now = omega (arith, depth_le-deepest c.args.fields.now i c.field-item.result c.loop-field-test.true, ap (λ (d : Column). depth_of d.ty) c.field-item.is) in
+    let rows : c.args.i < length c.field-item.result.rows = subst (λ (f : Column). c.args.i < length f.rows) (sym c.field-item.is) (c.requires i c.field-item.result c.loop-field-test.true) in
+    (omega (arith, below, c.decreases), rows)
+
+pub row_of-loop-field-preserved : goal.row_of-loop-field-preserved
+row_of-loop-field-preserved t c =
+    rw c.in_ok-push.ensures.items (all_zip_more (StandsAt c.args.i) c.args.fields.now c.loop-field.row.items c.loop-field.field-index c.field-item.result _ c.loop-field-test.true c.loop-field.invariant (subst (λ f. StandsAt c.args.i f c.in_ok-made_at.field-0) c.field-item.is c.in_ok-made_at.ensures))

@@ -1,0 +1,38 @@
+// The parts that a column is kept in.
+ghost use Rattle.std.specs.Prelude.{◌≡◌};
+
+use crate::columns::ColumnRef;
+use std::rc::Rc;
+use vx_dtype::ScalarValue;
+
+/// The rows of a column, as they are kept.
+#[cycle(columns)]
+#[derive(Debug, Drop)]
+pub(crate) enum Cells {
+    /// One value for all of this many rows.
+    Constant {
+        value: ScalarValue,
+        len: usize,
+    },
+    /// A value for each row.
+    Rows(Rc<Vec<ScalarValue>>),
+    /// The columns of the fields of a struct type that isn't nullable, and how many rows each has.
+    Columns {
+        fields: Rc<Vec<ColumnRef>>,
+        len: usize,
+    },
+}
+
+/// The values that are shared.
+pub(crate) fn values_in(rows: &Rc<Vec<ScalarValue>>) -> &[ScalarValue]
+    ensures { result.now ≡ rows.now.value.items }
+{
+    rows.as_slice()
+}
+
+/// The columns that are shared.
+pub(crate) fn columns_in(fields: &Rc<Vec<ColumnRef>>) -> &[ColumnRef]
+    ensures { result.now ≡ fields.now.value.items }
+{
+    fields.as_slice()
+}

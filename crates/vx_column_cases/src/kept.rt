@@ -1,0 +1,112 @@
+//! Columns of one value and structs of columns: they are the same as their rows written out, and hash equally.
+
+use crate::columns::{answers, field_gives, filter_gives, numbers, project_gives, texts, truths};
+use crate::structs::{made_of, pairs, parts};
+use std::alloc::Global;
+use std::hash::{DefaultHasher, Hash, Hasher};
+use std::test::Fail;
+use vx_column::{ColumnError, ColumnRef};
+use vx_dtype::{Nullability, PType, Scalar};
+
+/// The hash of a column.
+fn hash_of(c: &ColumnRef) -> u64 {
+    let mut state = DefaultHasher::new();
+    c.hash(&mut state);
+    state.finish()
+}
+
+/// Whether two columns are equal, each way round, and hash equally.
+fn are_one(a: &ColumnRef, b: &ColumnRef) -> bool {
+    a == b && b == a && hash_of(a) == hash_of(b)
+}
+
+/// The text `x` at three rows, as one value.
+fn thrice(alloc: Global) -> Result<ColumnRef, Fail> {
+    let x = Scalar::utf8(alloc, "x", Nullability::Nullable)?;
+    Ok(ColumnRef::constant(alloc, &x, 3)?)
+}
+
+#[test]
+fn columns_of_one_value(rt: HostRuntime) -> Result<(), Fail> {
+    let alloc = rt.alloc();
+    let c = thrice(alloc)?;
+    let x = Some("x");
+    assert!(rt; are_one(&c, &texts(alloc, [x, x, x].as_slice())?));
+    assert!(rt; c != texts(alloc, [x, x].as_slice())?);
+    assert!(rt; c != texts(alloc, [x, Some("y"), x].as_slice())?);
+    assert!(rt; c != texts(alloc, [x, x, None].as_slice())?);
+    let keep = truths(alloc, [Some(true), None, Some(true)].as_slice())?;
+    assert!(rt; filter_gives(alloc, &c, &keep, &texts(alloc, [x, x].as_slice())?)?);
+    Ok(())
+}
+
+/// The structs of the numbers 1, null and 3, and the texts `x`, `y` and null, kept as two columns.
+fn columns(alloc: Global) -> Result<ColumnRef, Fail> {
+    let names = ["a", "b"];
+    Ok(made_of(alloc, names.as_slice(), parts(alloc)?, 3, None)??)
+}
+
+/// The same structs, row by row.
+fn rows(alloc: Global) -> Result<ColumnRef, Fail> {
+    let rows = [
+        Some((Some(1), Some("x"))),
+        Some((None, Some("y"))),
+        Some((Some(3), None)),
+    ];
+    pairs(alloc, rows.as_slice(), Nullability::NonNullable)
+}
+
+#[test]
+fn structs_of_columns(rt: HostRuntime) -> Result<(), Fail> {
+    let alloc = rt.alloc();
+    let c = columns(alloc)?;
+    assert!(rt; are_one(&c, &rows(alloc)?));
+    assert!(rt; are_one(&c, &columns(alloc)?));
+    let others = [
+        Some((Some(1), Some("x"))),
+        Some((None, Some("y"))),
+        Some((Some(3), Some(""))),
+    ];
+    let other = pairs(alloc, others.as_slice(), Nullability::NonNullable)?;
+    assert!(rt; c != other);
+    assert!(rt; other != c);
+    let a = numbers(alloc, PType::I8, [Some(1), None, Some(3)].as_slice())?;
+    let b = texts(alloc, [Some("x"), Some("y"), None].as_slice())?;
+    assert!(rt; field_gives(alloc, &c, "a", Ok(&a))?);
+    assert!(rt; field_gives(alloc, &c, "b", Ok(&b))?);
+    assert!(rt; field_gives(alloc, &c, "c", Err(ColumnError::UnknownField))?);
+    Ok(())
+}
+
+#[test]
+fn some_of_structs_of_columns(rt: HostRuntime) -> Result<(), Fail> {
+    let alloc = rt.alloc();
+    let c = columns(alloc)?;
+    let keep = truths(alloc, [None, Some(true), Some(false)].as_slice())?;
+    let middle = [Some((None, Some("y")))];
+    let want = pairs(alloc, middle.as_slice(), Nullability::NonNullable)?;
+    assert!(rt; filter_gives(alloc, &c, &keep, &want)?);
+    let b = texts(alloc, [Some("x"), Some("y"), None].as_slice())?;
+    let a = numbers(alloc, PType::I8, [Some(1), None, Some(3)].as_slice())?;
+    let mut turned = Vec::new(alloc);
+    turned.push(b)?;
+    turned.push(a)?;
+    let names = ["b", "a"];
+    let want = made_of(alloc, names.as_slice(), turned, 3, None)??;
+    assert!(rt; project_gives(alloc, &c, names.as_slice(), Ok(&want))?);
+    Ok(())
+}
+
+#[test]
+fn values_of_structs_of_columns(rt: HostRuntime) -> Result<(), Fail> {
+    let alloc = rt.alloc();
+    let c = columns(alloc)?;
+    let want = rows(alloc)?;
+    for i in 0..3 {
+        if i < c.len() && i < want.len() {
+            assert!(rt; c.scalar_at(alloc, i)? == want.scalar_at(alloc, i)?);
+            assert!(rt; c.is_valid(i));
+        }
+    }
+    Ok(())
+}
