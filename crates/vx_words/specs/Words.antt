@@ -32,3 +32,11 @@ val_of_words valid values i = truth_val (truth_of_words valid values i)
 -- no value bit is set where the truth is null
 abbrev pub AreBareUnderNull : List ℕ → List ℕ → Type 0
 AreBareUnderNull valid values = (i : ℕ) → i < 64 * length valid → bit_of valid i ≡ false → bit_of values i ≡ false
+
+-- the truth at a place is that of a value, and no value bit is set under null
+abbrev pub Holds : List ℕ → List ℕ → ℕ → Val → Type 0
+Holds valid values i v = (val_of_words valid values i ≡ v) × (bit_of valid i ≡ false → bit_of values i ≡ false)
+
+-- the first n words are as they were
+abbrev pub KeepFirst : ℕ → List ℕ → List ℕ → Type 0
+KeepFirst n old new = (k : ℕ) → k < n → slice_index new k ≡ slice_index old k
