@@ -1,2 +1,4 @@
 pub mod WordLemmas
 pub mod LaneLemmas
+pub mod BitLemmas
+pub mod TruthLemmas
