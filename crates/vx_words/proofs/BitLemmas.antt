@@ -5,7 +5,6 @@ use Rattle.std.proofs.lemmas.List.{get_or_past, get_or-set_same, get_or-set_othe
 use Rattle.std.proofs.lemmas.Nat.{one_shl}
 use Rattle.std.proofs.lemmas.Nat.Bits.{bit_at-zero, bit_at_set_same, bit_at_set_other, bit_at_ones, bit_at_ones_above}
 use Rattle.std.specs.Prelude.{bit_or, replicate}
-use Rattle.std.specs.Int.{bit_at}
 use Rattle.vx_words.specs.Words.{word_bit, bit_of}
 
 zero_bit : (word i : ℕ) → word ≡ 0 → word_bit word i ≡ false

@@ -1,15 +1,13 @@
 -- From vectors of words to the words of lists.
-use Rattle.std.proofs.Common.{◌≡◌, ℕ, ◌+◌, ◌-◌, ◌*◌, ◌/◌, ◌%◌, ◌<◌, ◌≤◌, List, get_or, length, map, refl, ◌∙◌, sym, ap, arith, w64, Fits, inl, inr}
-use Rattle.std.proofs.lemmas.Bool.{cases_lt}
+use Rattle.std.proofs.Common.{◌≡◌, ℕ, ◌+◌, ◌-◌, ◌*◌, ◌/◌, ◌%◌, ◌<◌, ◌≤◌, List, get_or, length, map, ◌∙◌, sym, ap, arith, w64, Fits}
 use Rattle.std.proofs.lemmas.List.FromFn.{fill_by_all, get_or-map-range_with_len, length-map-range_with_len}
 use Rattle.std.proofs.lemmas.Simd.{length-chunk, get_or-chunk, zip2_of_maps, map-map, get_or-put_chunk_at, get_or-put_chunk_below}
 use Rattle.std.specs.List.{range_with_len}
 use Rattle.std.specs.Simd.Lanes.{zip2, chunk, put_chunk}
 use Rattle.std.specs.Prelude.{bit_and, bit_or}
 use Rattle.std.specs.Int.{bit_not}
-use Rattle.vx_dtype.specs.Values.{Val}
 use Rattle.vx_dtype.specs.Logic.{and3, or3, not3}
-use Rattle.vx_words.specs.Words.{word_bit, val_of_words, Holds, KeepFirst}
+use Rattle.vx_words.specs.Words.{val_of_words, Holds, KeepFirst}
 use Rattle.vx_words.proofs.WordLemmas.{and_valid, and_value, or_valid, or_value, not_value, and_place, or_place, not_place}
 
 -- each number of a list fits a word

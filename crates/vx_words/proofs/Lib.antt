@@ -2,3 +2,4 @@ pub mod WordLemmas
 pub mod LaneLemmas
 pub mod BitLemmas
 pub mod TruthLemmas
+pub mod ListLemmas

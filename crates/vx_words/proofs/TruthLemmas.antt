@@ -1,13 +1,13 @@
 -- Lists of truths by their words.
-use Rattle.std.proofs.Common.{◌≡◌, ℕ, ◌+◌, ◌-◌, ◌*◌, ◌/◌, ◌%◌, ◌<◌, ◌≤◌, List, [], ◌∷◌, ◌++◌, get_or, length, map, Bool, true, false, not, ◌&&◌, ◌||◌, eqb, nat_lt, Option, Some, None, refl, ◌∙◌, sym, ap, subst, arith, inl, inr, eq-eqb}
-use Rattle.std.proofs.lemmas.Bool.{cases_lt, cases_eq, lt-ltb, le-ltb, ne_eqb, or_parts}
+use Rattle.std.proofs.Common.{◌≡◌, ℕ, ◌+◌, ◌*◌, ◌<◌, ◌≤◌, List, [], ◌∷◌, ◌++◌, get_or, length, map, Bool, true, false, ◌&&◌, ◌||◌, eqb, nat_lt, Option, Some, None, refl, ◌∙◌, sym, ap, subst, arith, inl, inr, eq-eqb}
+use Rattle.std.proofs.lemmas.Bool.{cases_lt, cases_eq, lt-ltb, le-ltb, ne_eqb}
 use Rattle.std.proofs.lemmas.List.{length-replicate, get_or-replicate}
 use Rattle.std.proofs.lemmas.List.FromFn.{fill_by_all, get_or-map-range_with_len, length-map-range_with_len, map-range_with_len_more}
 use Rattle.std.proofs.lemmas.Simd.{zip2_of_maps, map-map}
 use Rattle.std.specs.List.{range_with_len}
 use Rattle.std.specs.Prelude.{is_some, unwrap_or, replicate}
 use Rattle.std.specs.Simd.Lanes.{zip2}
-use Rattle.vx_dtype.specs.Values.{Val, null_val, bool_val}
+use Rattle.vx_dtype.specs.Values.{Val, null_val}
 use Rattle.vx_words.specs.Words.{bit_of, truth_of_bits, truth_of_words, truth_val, val_of_words, AreBareUnderNull}
 use Rattle.vx_words.specs.Truths.{AreTidy, truths_of_words, vals_of, words_for}
 use Rattle.vx_words.proofs.BitLemmas.{bit_of_past}
@@ -19,7 +19,7 @@ length-truths v b n = length-map-range_with_len (truth_of_words v b) 0 n
 pub truth_in_truths : (v b : List ℕ) (n i : ℕ) → i < n → get_or (truths_of_words v b n) i None ≡ truth_of_words v b i
 truth_in_truths v b n i h = get_or-map-range_with_len (truth_of_words v b) 0 n i i None h (omega arith)
 
-same_maps : {X : Type 0} (d : X) (f g : ℕ → X) (n : ℕ) → ((i : ℕ) → i < n → f i ≡ g i) → map f (range_with_len 0 n) ≡ map g (range_with_len 0 n)
+pub same_maps : {X : Type 0} (d : X) (f g : ℕ → X) (n : ℕ) → ((i : ℕ) → i < n → f i ≡ g i) → map f (range_with_len 0 n) ≡ map g (range_with_len 0 n)
 same_maps d f g n each =
     fill_by_all g (map f (range_with_len 0 n)) n d (length-map-range_with_len f 0 n)
     (λ i h. get_or-map-range_with_len f 0 n i i d h (omega arith) ∙ each i h)

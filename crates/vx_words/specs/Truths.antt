@@ -1,5 +1,5 @@
 -- Truths at the places of words that have bits for no more places than they need.
-use Rattle.std.specs.Prelude.{◌≡◌, ℕ, ◌+◌, ◌/◌, ◌≤◌, Bool, true, false, Option, Some, None, List, [], ◌∷◌, cond, length, map}
+use Rattle.std.specs.Prelude.{◌≡◌, ℕ, ◌+◌, ◌/◌, ◌≤◌, Bool, true, false, Option, Some, List, [], ◌∷◌, cond, length, map}
 use Rattle.std.specs.List.{range_with_len}
 use Rattle.vx_dtype.specs.Values.{Val}
 use Rattle.vx_words.specs.Words.{bit_of, truth_of_words, truth_val, AreBareUnderNull}
@@ -22,3 +22,14 @@ pub record AreTidy (n : ℕ) (valid values : List ℕ) : Type 0 where
 -- the values that truths stand for
 abbrev pub vals_of : List (Option Bool) → List Val
 vals_of truths = map truth_val truths
+
+-- whether a truth is true
+abbrev pub is_true : Option Bool → Bool
+is_true (Some true) = true
+is_true _ = false
+
+-- the truths at the places where the other list is true
+abbrev pub kept_truths : List (Option Bool) → List (Option Bool) → List (Option Bool)
+kept_truths [] ks = []
+kept_truths (t ∷ ts) [] = []
+kept_truths (t ∷ ts) (k ∷ ks) = cond (is_true k) (t ∷ kept_truths ts ks) (kept_truths ts ks)

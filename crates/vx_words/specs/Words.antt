@@ -40,3 +40,7 @@ Holds valid values i v = (val_of_words valid values i ≡ v) × (bit_of valid i 
 -- the first n words are as they were
 abbrev pub KeepFirst : ℕ → List ℕ → List ℕ → Type 0
 KeepFirst n old new = (k : ℕ) → k < n → slice_index new k ≡ slice_index old k
+
+-- two lists of words have the same bit at each place
+abbrev pub HaveSameBits : List ℕ → List ℕ → Type 0
+HaveSameBits left right = (i : ℕ) → bit_of left i ≡ bit_of right i

@@ -1,13 +1,15 @@
 // Truths at places that are counted from 0, kept as words of bits.
-ghost use Rattle.std.specs.Prelude.{◌≡◌, ℕ, ◌+◌, ◌*◌, ◌<◌, Option, Some, None, [], ◌∷◌, ◌++◌, length, map, replicate, slice_index_or, IfOk};
+ghost use Rattle.std.specs.Prelude.{◌≡◌, ℕ, ◌+◌, ◌*◌, ◌^◌, ◌<◌, ◌≤◌, Option, Some, None, [], ◌∷◌, ◌++◌, length, map, replicate, slice_index_or, count_by, cond, IfOk, Decides};
+ghost use Rattle.std.specs.Cmp.{partial_equiv_from_equiv};
 ghost use Rattle.std.specs.Simd.Lanes.{zip2};
-ghost use Rattle.vx_dtype.specs.Logic.{and3, or3, not3};
-ghost use Rattle.vx_words.specs.Words.{truth_of_words};
-ghost use Rattle.vx_words.specs.Truths.{AreTidy, truths_of_words, vals_of};
+ghost use Rattle.vx_dtype.specs.Logic.{and3, or3, not3, is_null3};
+ghost use Rattle.vx_words.specs.Words.{truth_of_words, HaveSameBits};
+ghost use Rattle.vx_words.specs.Truths.{AreTidy, truths_of_words, vals_of, is_true, kept_truths};
+ghost use Rattle.vx_words.specs.TruthsEqual.{truths_eq, truths_eq_equiv};
 
-use crate::bits::{bit, push_bit, repeated_bit, zeros};
+use crate::bits::{bit, ones, push_bit, repeated_bit, zeros};
 use crate::logic::{and_words, not_words, or_words};
-use std::alloc::Global;
+use std::alloc::{AllocError, Global};
 use std::marker::Model;
 use vx_dtype::Mem;
 
@@ -120,6 +122,71 @@ impl Truths {
         not_words(v, b, &mut valid, &mut values);
         Ok(Truths::of_words(self.len(), valid, values))
     }
+
+    /// Whether there is no truth, place by place: true for null, false for any other.
+    pub fn is_null(&self, alloc: Global) -> Mem<Truths>
+        ensures { IfOk result (λ truths. vals_of truths ≡ map is_null3 (vals_of self.now)) }
+    {
+        let (valid, _) = self.words();
+        let known = ones(alloc, self.len())?;
+        let are_known = Vec::from_slice(alloc, valid)?;
+        Truths::of_words(self.len(), known, are_known).not(alloc)
+    }
+
+    /// How many of the truths are true.
+    pub fn true_count(&self) -> usize
+        ensures { result ≡ count_by is_true self.now }
+    {
+        let mut count = 0;
+        for i in 0..self.len() {
+            count += usize::from(is_true(self.truth_at(i)));
+        }
+        count
+    }
+
+    /// The truths at the places where the other list is true, in order.
+    pub fn filter(&self, alloc: Global, keep: &Truths) -> Mem<Truths>
+        requires { length keep.now ≡ length self.now }
+        ensures { IfOk result (λ truths. truths ≡ kept_truths self.now keep.now) }
+    {
+        let mut valid = Vec::new(alloc);
+        let mut values = Vec::new(alloc);
+        let mut len = 0;
+        for i in 0..self.len() {
+            let kept = is_true(keep.truth_at(i));
+            len = push_if(kept, &mut valid, &mut values, len, self.truth_at(i))?;
+        }
+        Ok(Truths::of_words(len, valid, values))
+    }
+}
+
+impl Clone for Truths {
+    ghost is_clone = { λ truths copy. copy ≡ truths };
+
+    fn clone(&self) -> Result<Truths, AllocError> {
+        Ok(Truths {
+            len: self.len,
+            valid: self.valid.clone()?,
+            values: self.values.clone()?,
+        })
+    }
+}
+
+impl PartialEq for Truths {
+    ghost eq = { truths_eq };
+
+    ghost laws = { partial_equiv_from_equiv truths_eq_equiv };
+
+    fn eq(&self, other: &Truths) -> bool
+        ensures gives { result ≡ truths_eq self.now other.now }
+        ensures same { Decides result (self.now ≡ other.now) }
+    {
+        same_truths(self, other)
+    }
+}
+
+impl Eq for Truths {
+    ghost laws = { truths_eq_equiv };
 }
 
 /// The truth at a place of words of validity and words of values.
@@ -148,4 +215,61 @@ fn push_truth(
     push_bit(valid, len, truth.is_some())?;
     push_bit(values, len, truth.unwrap_or(false))?;
     Ok(())
+}
+
+/// Whether two lists have the same truths.
+fn same_truths(l: &Truths, r: &Truths) -> bool
+    ensures { Decides result (l.now ≡ r.now) }
+{
+    if l.len() != r.len() {
+        return false;
+    }
+    let (lv, lb) = l.words();
+    let (rv, rb) = r.words();
+    if !same_bits(lv, rv) {
+        return false;
+    }
+    same_bits(lb, rb)
+}
+
+/// Whether two lists of words, one as long as the other, have the same bits.
+fn same_bits(l: &[u64], r: &[u64]) -> bool
+    requires { length r.now ≡ length l.now }
+    ensures { Decides result (HaveSameBits l.now r.now) }
+{
+    'words: for k in 0..l.len() {
+        if l[k] != r[k] {
+            return false;
+        }
+    }
+    true
+}
+
+/// Whether a truth is true.
+fn is_true(truth: Option<bool>) -> bool
+    ensures { result ≡ is_true truth }
+{
+    matches!(truth, Some(true))
+}
+
+/// Adds a truth after the first `len`, if it is kept. Gives how many there are then.
+fn push_if(
+    kept: bool,
+    valid: &mut Vec<u64>,
+    values: &mut Vec<u64>,
+    len: usize,
+    truth: Option<bool>,
+) -> Mem<usize>
+    requires room { len + 1 < 2 ^ 64 }
+    requires tidy { AreTidy len valid.old.items values.old.items }
+    ensures most { IfOk result (λ n. n ≤ len + 1) }
+    ensures tidy { IfOk result (λ n. AreTidy n valid.new.items values.new.items) }
+    ensures truths { IfOk result (λ n. truths_of_words valid.new.items values.new.items n
+        ≡ truths_of_words valid.old.items values.old.items len ++ cond kept (truth ∷ []) []) }
+{
+    if !kept {
+        return Ok(len);
+    }
+    push_truth(valid, values, len, truth)?;
+    Ok(len + 1)
 }

@@ -2,7 +2,7 @@ use Rattle.std.proofs.Common.{refl, ap, arith}
 use Rattle.std.proofs.lemmas.List.{take_at}
 use Rattle.std.specs.Prelude.{length}
 use Rattle.vx_dtype.specs.Logic.{and3}
-use Rattle.vx_words.proofs.TruthLemmas.{both_lengths, both_tidy_seen, both_vals_seen}
+use Rattle.vx_words.proofs.TruthLemmas.{both_tidy_seen, both_vals_seen}
 use Rattle.vx_words.proofs.truths.Truths.and.Goals as goal
 
 pub and_words-requires-clause-left : goal.and_words-requires-clause-left

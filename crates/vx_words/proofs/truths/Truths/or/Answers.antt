@@ -2,7 +2,7 @@ use Rattle.std.proofs.Common.{refl, ap, arith}
 use Rattle.std.proofs.lemmas.List.{take_at}
 use Rattle.std.specs.Prelude.{length}
 use Rattle.vx_dtype.specs.Logic.{or3}
-use Rattle.vx_words.proofs.TruthLemmas.{both_lengths, both_tidy_seen, both_vals_seen}
+use Rattle.vx_words.proofs.TruthLemmas.{both_tidy_seen, both_vals_seen}
 use Rattle.vx_words.proofs.truths.Truths.or.Goals as goal
 
 pub or_words-requires-clause-left : goal.or_words-requires-clause-left
