@@ -1,0 +1,5 @@
+pub mod WordLemmas
+pub mod LaneLemmas
+pub mod BitLemmas
+pub mod TruthLemmas
+pub mod ListLemmas

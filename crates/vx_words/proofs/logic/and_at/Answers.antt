@@ -1,0 +1,11 @@
+use Rattle.std.proofs.Common.{arith}
+use Rattle.vx_words.proofs.LaneLemmas.{and_lanes, KeepFirst-put_chunk}
+use Rattle.vx_words.proofs.logic.and_at.Goals as goal
+
+pub returns-clause-before : goal.returns-clause-before
+returns-clause-before g c = (KeepFirst-put_chunk _ _ _, KeepFirst-put_chunk _ _ _)
+
+pub returns-clause-truths : goal.returns-clause-truths
+returns-clause-truths g c = λ i lo hi. let a = c.args in
+    and_lanes a.lv.now a.lb.now a.rv.now a.rb.now a.k g.row.N a.ov.now a.ob.now i c.type_inv.lb c.type_inv.rb
+    (omega arith) (omega arith) (omega arith) (omega arith) (omega arith) (omega arith) lo hi

@@ -1,0 +1,94 @@
+// Single bits of lists of words, and words for a number of places.
+ghost use Rattle.std.specs.Prelude.{◌≡◌, ℕ, ◌+◌, ◌-◌, ◌*◌, ◌^◌, ◌<◌, ◌≤◌, ◌==◌, ◌&&◌, ◌||◌, false, nat_lt, length, replicate, IfOk};
+ghost use Rattle.vx_words.specs.Words.{bit_of};
+ghost use Rattle.vx_words.specs.Truths.{words_for};
+
+use std::alloc::Global;
+use vx_dtype::Mem;
+
+/// How many places a word has.
+const PLACES: usize = 64;
+
+/// The bit at a place.
+pub(crate) fn bit(words: &[u64], i: usize) -> bool
+    requires { i < 64 * length words.now }
+    ensures { result ≡ bit_of words.now i }
+{
+    (words[i / PLACES] >> (i % PLACES)) & 1 == 1
+}
+
+/// Sets the bit at a place, if it is to be.
+pub(crate) fn set_bit(words: &mut [u64], i: usize, bit: bool)
+    requires { i < 64 * length words.old }
+    ensures lengths { length words.new ≡ length words.old }
+    ensures bits { (j : ℕ) → bit_of words.new j ≡ ((j == i && bit) || bit_of words.old j) }
+{
+    if !bit {
+        return;
+    }
+    words[i / PLACES] |= 1u64 << (i % PLACES);
+}
+
+/// Makes room for one place more than the first `len`, with no bit set.
+pub(crate) fn make_room(words: &mut Vec<u64>, len: usize) -> Mem<()>
+    requires { length words.old.items ≡ words_for len }
+    ensures lengths { IfOk result (λ _. length words.new.items ≡ words_for (len + 1)) }
+    ensures bits { IfOk result (λ _. (j : ℕ) → bit_of words.new.items j ≡ bit_of words.old.items j) }
+{
+    if len % PLACES > 0 {
+        return Ok(());
+    }
+    words.push(0)?;
+    Ok(())
+}
+
+/// Makes room for one place more than the first `len`, and sets its bit, if it is to be.
+pub(crate) fn push_bit(words: &mut Vec<u64>, len: usize, bit: bool) -> Mem<()>
+    requires { length words.old.items ≡ words_for len }
+    ensures lengths { IfOk result (λ _. length words.new.items ≡ words_for (len + 1)) }
+    ensures bits { IfOk result (λ _. (j : ℕ) → bit_of words.new.items j ≡ ((j == len && bit) || bit_of words.old.items j)) }
+{
+    make_room(words, len)?;
+    set_bit(words, len, bit);
+    Ok(())
+}
+
+/// Words with the bits of the first `len` places set.
+pub(crate) fn ones(alloc: Global, len: usize) -> Mem<Vec<u64>>
+    ensures lengths { IfOk result (λ words. length words.items ≡ words_for len) }
+    ensures bits { IfOk result (λ words. (j : ℕ) → bit_of words.items j ≡ nat_lt j len) }
+{
+    let mut words = full_words(alloc, len / PLACES)?;
+    let rest = len % PLACES;
+    if rest == 0 {
+        return Ok(words);
+    }
+    words.push((1u64 << rest) - 1)?;
+    Ok(words)
+}
+
+/// So many words with all bits set.
+fn full_words(alloc: Global, count: usize) -> Mem<Vec<u64>>
+    ensures { IfOk result (λ words. words.items ≡ replicate count (2 ^ 64 - 1)) }
+{
+    Ok(Vec::from_elem(alloc, u64::MAX, count)?)
+}
+
+/// Words with no bit set, as many as this many places need.
+pub(crate) fn zeros(alloc: Global, len: usize) -> Mem<Vec<u64>>
+    ensures lengths { IfOk result (λ words. length words.items ≡ words_for len) }
+    ensures bits { IfOk result (λ words. (j : ℕ) → bit_of words.items j ≡ false) }
+{
+    Ok(Vec::from_elem(alloc, 0u64, len.div_ceil(PLACES))?)
+}
+
+/// Words with this bit at the first `len` places.
+pub(crate) fn repeated_bit(alloc: Global, bit: bool, len: usize) -> Mem<Vec<u64>>
+    ensures lengths { IfOk result (λ words. length words.items ≡ words_for len) }
+    ensures bits { IfOk result (λ words. (j : ℕ) → bit_of words.items j ≡ (bit && nat_lt j len)) }
+{
+    if bit {
+        return ones(alloc, len);
+    }
+    zeros(alloc, len)
+}
