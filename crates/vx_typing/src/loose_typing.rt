@@ -113,7 +113,8 @@ fn loose_between(
     upper: &ExprRef,
     scope: &DType,
 ) -> Result<DType, TypeError>
-    ensures { let t = type_view scope.now in AnswersType (in_turn (loosely_typed t value.now) (loosely_typed t lower.now) (loosely_typed t upper.now) loose_between_type) result }
+    ensures { let t = type_view scope.now in
+        AnswersType (in_turn (loosely_typed t value.now) (loosely_typed t lower.now) (loosely_typed t upper.now) loose_between_type) result }
 {
     let value = return_dtype(alloc, value, scope)?;
     let lower = return_dtype(alloc, lower, scope)?;

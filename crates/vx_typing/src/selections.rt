@@ -67,7 +67,8 @@ fn selected_fields(
     selection: &FieldSelection,
     fields: &StructFields,
 ) -> Result<StructFields, TypeError>
-    ensures { AnswersBy (λ taken. taken) (unless (included_known selection.now fields.now) unknown_field (Ok (selected_fields selection.now fields.now))) result }
+    ensures { AnswersBy (λ taken. taken)
+        (unless (included_known selection.now fields.now) unknown_field (Ok (selected_fields selection.now fields.now))) result }
 {
     match selection {
         FieldSelection::Include(names) => included_fields(alloc, fields, names.as_slice()),
