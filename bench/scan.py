@@ -1,12 +1,14 @@
 #!/usr/bin/env python3
-"""Times the built program on scans, beside Python's json doing the same scan of the same bytes.
+"""Times the built program on scans, beside Python's json doing the same scan of the same bytes, and the scan alone beside the calls on
+columns that it needs.
 
-usage: bench/scan.py            (first build the program: cd crates/vx && rt run)
+usage: bench/scan.py            (first build the programs: cd crates/vx && rt run, and cd crates/vx_bench && rt run)
 
 The tables are of 1,000,000 rows of i64 with honest least and greatest values, of i32 with nulls and of short texts, and of
 200,000 rows of six columns with the greatest price, filtered by price, name and city; each at its whole size and at half of
 it, in blocks of 4,096 rows. It prints seconds (the best of three runs), the peak memory, the ratio to Python's seconds, and
-the growth from the half to the whole. Where the answers differ it ends.
+the growth from the half to the whole. Where the answers differ it ends. Then comes the scan alone, of numbers that are above 10
+among 1,000,000, over columns in memory.
 """
 import json
 import os
@@ -15,6 +17,7 @@ import sys
 import tempfile
 import time
 
+from calls import beside_calls
 from rows import X
 from wire import ROOT, binary, item, lit, merge, node, request, select, struct
 
@@ -68,6 +71,11 @@ def numbers(rows):
 def nullable(rows):
     cells = [None if i % 7 == 0 else (37 * i + 11) % 1000 for i in range(rows)]
     return request([("x", "i32?")], in_blocks(cells), binary(X, ">", lit("i32", 900)), X)
+
+
+def above_ten(rows):
+    """Numbers from 0 to 99, in one block, and of these those above 10."""
+    return request([("x", "i64")], [[[i % 100 for i in range(rows)]]], binary(X, ">", lit("i64", 10)), X)
 
 
 def texts(rows):
@@ -139,6 +147,7 @@ def main():
             if before:
                 print(f"growth: vx {ours / before[0]:.2f}, Python {theirs / before[1]:.2f}")
             before = ours, theirs
+    beside_calls("scan", ["scan"], above_ten, 1_000_000, 1.3, 2.1)
 
 
 if __name__ == "__main__":

@@ -119,6 +119,17 @@ pub(crate) fn either(alloc: Global, l: ColumnRef, r: ColumnRef) -> Result<Column
     Ok(or_kleene(alloc, &l, &r)?)
 }
 
+/// The values of a column where one of truths is true.
+pub(crate) fn kept(alloc: Global, column: &ColumnRef, keep: &ColumnRef) -> Result<ColumnRef> {
+    if !is_truth(keep.dtype()) {
+        bail!("no truths")
+    }
+    if column.len() != keep.len() {
+        bail!("other rows")
+    }
+    Ok(column.filter(alloc, keep)?)
+}
+
 /// The values of a field of a column of structs.
 pub(crate) fn item(alloc: Global, column: &ColumnRef, name: &str) -> Result<ColumnRef> {
     if !column.dtype().is_struct() {

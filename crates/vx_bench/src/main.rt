@@ -7,6 +7,7 @@ mod kernels;
 mod opening;
 mod pruning;
 mod rewriting;
+mod scanning;
 mod timing;
 mod types;
 
@@ -17,7 +18,7 @@ use std::{env, fs};
 fn main(rt: HostRuntime) -> Result<()> {
     let mut words = env::args(&rt)?.skip(1);
     let (Some(what), Some(file)) = (words.next(), words.next()) else {
-        println!(rt; "usage: vx_bench evaluate|prune|rewrite REQUEST")?;
+        println!(rt; "usage: vx_bench evaluate|prune|rewrite|scan REQUEST")?;
         return Ok(());
     };
     let request = fs::read(&rt, file.as_str())?;
@@ -31,6 +32,7 @@ fn time(rt: &HostRuntime, what: &str, request: &[u8]) -> Result<()> {
         "evaluate" => evaluating::time(rt, &opened),
         "prune" => pruning::time(rt, &opened),
         "rewrite" => rewriting::time(rt, &opened),
+        "scan" => scanning::time(rt, opened),
         _ => Ok(()),
     }
 }
