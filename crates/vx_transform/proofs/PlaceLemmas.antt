@@ -1,5 +1,5 @@
 -- The places of those of a list that pass a test, where one is put behind them and where the first of them is replaced.
-use Rattle.std.proofs.Common.{◌≡◌, refl, ap, sym, ◌∙◌, ℕ, suc, ◌+◌, Bool, true, false, cond, List, [], ◌∷◌, ◌++◌, length, drop, set, Option, Some, None, arith}
+use Rattle.std.proofs.Common.{◌≡◌, refl, ap, sym, ◌∙◌, ℕ, suc, ◌+◌, Bool, true, false, cond, List, [], ◌∷◌, ◌++◌, length, set, Option, Some, None, arith}
 use Rattle.std.specs.Prelude.{is_some, slice_get}
 use Rattle.vx_transform.specs.Pairs.{places, put_or, first_replaced}
 

@@ -1,7 +1,7 @@
 -- For the checker: no public clause cites this.
 -- How the parts of the passes are seen: readings of comparisons, the bounds that wait for others, structs that go into a merge,
 -- and what is asked of a struct's type.
-use Rattle.std.specs.Prelude.{ℕ, List, [], Option, option_map, unwrap_or}
+use Rattle.std.specs.Prelude.{ℕ, List, [], option_map, unwrap_or}
 use Rattle.std.specs.HashMap.{get}
 use Rattle.vx_expr.specs.Equal.{tree_eq}
 use Rattle.vx_expr.specs.Trees.{Tree}

@@ -1,4 +1,4 @@
-use Rattle.std.proofs.Common.{◌≡◌, ◌++◌, [], ◌∷◌, length, sym, subst, ◌∙◌, rules}
+use Rattle.std.proofs.Common.{◌≡◌, length, sym, subst, ◌∙◌, rules}
 use Rattle.vx_transform.specs.CodeViews.{reading_view, places_at}
 use Rattle.vx_transform.specs.Pairs.{WaitsAt}
 use Rattle.vx_transform.proofs.WaitLemmas.{on_ok, plain-made, plain-waits, behind-waits, none-waits, one-waits, stood-at, stood-within, is-set}

@@ -1,4 +1,4 @@
-use Rattle.std.proofs.Common.{◌≡◌, [], ◌∷◌, suc, length, ap, sym, ◌∙◌, arith}
+use Rattle.std.proofs.Common.{◌≡◌, [], suc, length, ap, sym, ◌∙◌, arith}
 use Rattle.vx_passes.specs.Ranges.{with_ranges}
 use Rattle.vx_transform.specs.Pairs.{all_taken_in}
 use Rattle.vx_transform.proofs.PairLemmas.{all_taken_whole, own_rest, ranges_stand}
