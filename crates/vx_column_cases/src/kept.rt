@@ -56,20 +56,32 @@ fn rows(alloc: Global) -> Result<ColumnRef, Fail> {
     pairs(alloc, rows.as_slice(), Nullability::NonNullable)
 }
 
+/// Other structs, row by row: the last text is empty, and not null.
+fn other_rows(alloc: Global) -> Result<ColumnRef, Fail> {
+    let rows = [
+        Some((Some(1), Some("x"))),
+        Some((None, Some("y"))),
+        Some((Some(3), Some(""))),
+    ];
+    pairs(alloc, rows.as_slice(), Nullability::NonNullable)
+}
+
 #[test]
 fn structs_of_columns(rt: HostRuntime) -> Result<(), Fail> {
     let alloc = rt.alloc();
     let c = columns(alloc)?;
     assert!(rt; are_one(&c, &rows(alloc)?));
     assert!(rt; are_one(&c, &columns(alloc)?));
-    let others = [
-        Some((Some(1), Some("x"))),
-        Some((None, Some("y"))),
-        Some((Some(3), Some(""))),
-    ];
-    let other = pairs(alloc, others.as_slice(), Nullability::NonNullable)?;
+    let other = other_rows(alloc)?;
     assert!(rt; c != other);
     assert!(rt; other != c);
+    Ok(())
+}
+
+#[test]
+fn fields_of_structs_of_columns(rt: HostRuntime) -> Result<(), Fail> {
+    let alloc = rt.alloc();
+    let c = columns(alloc)?;
     let a = numbers(alloc, PType::I8, [Some(1), None, Some(3)].as_slice())?;
     let b = texts(alloc, [Some("x"), Some("y"), None].as_slice())?;
     assert!(rt; field_gives(alloc, &c, "a", Ok(&a))?);
@@ -79,21 +91,31 @@ fn structs_of_columns(rt: HostRuntime) -> Result<(), Fail> {
 }
 
 #[test]
-fn some_of_structs_of_columns(rt: HostRuntime) -> Result<(), Fail> {
+fn kept_structs_of_columns(rt: HostRuntime) -> Result<(), Fail> {
     let alloc = rt.alloc();
     let c = columns(alloc)?;
     let keep = truths(alloc, [None, Some(true), Some(false)].as_slice())?;
     let middle = [Some((None, Some("y")))];
     let want = pairs(alloc, middle.as_slice(), Nullability::NonNullable)?;
     assert!(rt; filter_gives(alloc, &c, &keep, &want)?);
-    let b = texts(alloc, [Some("x"), Some("y"), None].as_slice())?;
-    let a = numbers(alloc, PType::I8, [Some(1), None, Some(3)].as_slice())?;
-    let mut turned = Vec::new(alloc);
-    turned.push(b)?;
-    turned.push(a)?;
+    Ok(())
+}
+
+/// The same columns, the texts before the numbers.
+fn turned(alloc: Global) -> Result<ColumnRef, Fail> {
+    let mut fields = Vec::new(alloc);
+    fields.push(texts(alloc, [Some("x"), Some("y"), None].as_slice())?)?;
+    fields.push(numbers(alloc, PType::I8, [Some(1), None, Some(3)].as_slice())?)?;
     let names = ["b", "a"];
-    let want = made_of(alloc, names.as_slice(), turned, 3, None)??;
-    assert!(rt; project_gives(alloc, &c, names.as_slice(), Ok(&want))?);
+    Ok(made_of(alloc, names.as_slice(), fields, 3, None)??)
+}
+
+#[test]
+fn projected_structs_of_columns(rt: HostRuntime) -> Result<(), Fail> {
+    let alloc = rt.alloc();
+    let c = columns(alloc)?;
+    let want = turned(alloc)?;
+    assert!(rt; project_gives(alloc, &c, ["b", "a"].as_slice(), Ok(&want))?);
     Ok(())
 }
 
