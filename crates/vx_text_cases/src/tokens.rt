@@ -7,6 +7,7 @@ use vx_tokens::{
 };
 
 /// A name that prints as a query writes it.
+#[derive(Clone, Copy)]
 struct Name<'a>(&'a str);
 
 impl<'a> fmt::Display for Name<'a> {
@@ -16,6 +17,7 @@ impl<'a> fmt::Display for Name<'a> {
 }
 
 /// Names that print with commas between them.
+#[derive(Clone, Copy)]
 struct Names<'a>(&'a [FieldName]);
 
 impl<'a> fmt::Display for Names<'a> {
@@ -25,6 +27,7 @@ impl<'a> fmt::Display for Names<'a> {
 }
 
 /// A text that prints between `'`.
+#[derive(Clone, Copy)]
 struct Quote<'a>(&'a str);
 
 impl<'a> fmt::Display for Quote<'a> {
