@@ -5,6 +5,7 @@ use Rattle.std.specs.List.{range_with_len}
 use Rattle.std.proofs.Math.ListN.{replicate}
 use Rattle.std.proofs.lemmas.List.{get_or-map, length-map, length-replicate, take_all}
 use Rattle.std.proofs.lemmas.List.FromFn.{fill_by_all}
+use Rattle.std.proofs.lemmas.List.Sums.{count_by_more_yes, count_by_more_no}
 use Rattle.vx_dtype.specs.Types.{Bytes, Ty, bool_ty}
 use Rattle.vx_dtype.specs.declared.Nullability.{Nullability}
 use Rattle.vx_dtype.specs.TypeRules.{field_names, fields_of, nullability_of, is_bool_ty}
@@ -13,69 +14,40 @@ use Rattle.vx_dtype.specs.RawViews.{raw_view}
 use Rattle.vx_dtype.specs.declared.values.ScalarValue.{ScalarValue}
 use Rattle.vx_dtype.specs.Values.{Val, null_val, struct_val, member, valued}
 use Rattle.vx_dtype.specs.Logic.{is_true_val}
-use Rattle.vx_column.specs.Columns.{Column, column, row_at, rows_fit, values_fit, seen, seen_rows, kept_rows}
+use Rattle.vx_column.specs.Columns.{Column, column, row_at, rows_fit, values_fit, seen, seen_rows, kept_rows, true_count}
 use Rattle.vx_column.specs.StructColumns.{column_types, all_have_rows, struct_row, row_members}
-use Rattle.vx_column.specs.Cells.{structs_of, all_rows_fit, AreFieldsOf, trues_in, kept_column}
+use Rattle.vx_column.specs.Cells.{structs_of, all_rows_fit, AreFieldsOf, kept_column}
 use Rattle.vx_column.proofs.FitLemmas.{both_of, of_both}
+use Rattle.vx_column.proofs.TrueCounts.{true_count-cons, length_kept}
 use Rattle.vx_column.proofs.RowLemmas.{fits_at, seen_row, values_fit_more, kept_rows_keep, kept_rows_skip}
 
--- one where a test holds
-abbrev one_if : Bool → ℕ
-one_if b = cond b 1 0
-
-trues_one : (b : Bool) → cond b (suc 0) 0 ≡ 0 + one_if b
-trues_one true = refl
-trues_one false = refl
-
-trues_next : (b : Bool) (m n p : ℕ) → m ≡ n + p → cond b (suc m) m ≡ cond b (suc n) n + p
-trues_next true m n p e = omega (arith, e)
-trues_next false m n p e = e
-
--- one more value that is true or not
-trues_suc : (ks : List Val) (i : ℕ) (d : Val) → i < length ks → trues_in (take (suc i) ks) ≡ trues_in (take i ks) + one_if (is_true_val (get_or ks i d))
-trues_suc [] i d h = absurd (omega arith)
-trues_suc (k ∷ ks) zero d h = trues_one (is_true_val k)
-trues_suc (k ∷ ks) (suc i) d h = trues_next (is_true_val k) (trues_in (take (suc i) ks)) (trues_in (take i ks)) (one_if (is_true_val (get_or ks i d))) (trues_suc ks i d (omega arith))
-
-pub trues_true : (ks : List Val) (i n : ℕ) → i < length ks → is_true_val (get_or ks i null_val) ≡ true → n ≡ trues_in (take i ks) → n + 1 ≡ trues_in (take (i + 1) ks)
-trues_true ks i n h b e =
-    let more = trues_suc ks i null_val h in
-    let one = ap one_if b in
-    let next : i + 1 ≡ suc i = omega arith in
-    let same = ap (λ k. trues_in (take k ks)) next in
-    omega (arith, more, one, same, e)
-
-pub trues_false : (ks : List Val) (i n : ℕ) → i < length ks → is_true_val (get_or ks i null_val) ≡ false → n ≡ trues_in (take i ks) → n ≡ trues_in (take (i + 1) ks)
-trues_false ks i n h b e =
-    let more = trues_suc ks i null_val h in
-    let none = ap one_if b in
-    let next : i + 1 ≡ suc i = omega arith in
-    let same = ap (λ k. trues_in (take k ks)) next in
-    omega (arith, more, none, same, e)
-
 -- of rows of one value as many are kept as are true
-kept_repeated_step : (b : Bool) (v : Val) (m : ℕ) (ws : List Val) → ws ≡ replicate m v → cond b (v ∷ ws) ws ≡ replicate (cond b (suc m) m) v
-kept_repeated_step true v m ws e = ap (λ zs. v ∷ zs) e
-kept_repeated_step false v m ws e = e
+kept_repeated_step : (b : Bool) (v : Val) (m : ℕ) (ws : List Val) → ws ≡ replicate m v → cond b (v ∷ ws) ws ≡ replicate (cond b 1 0 + m) v
+kept_repeated_step true v m ws e =
+    let next : suc m ≡ 1 + m = omega arith in
+    ap (λ zs. v ∷ zs) e ∙ ap (λ n. replicate n v) next
+kept_repeated_step false v m ws e =
+    let same : m ≡ 0 + m = omega arith in
+    e ∙ ap (λ n. replicate n v) same
 
-pub kept_repeated : (n : ℕ) (v : Val) (ks : List Val) → n ≡ length ks → kept_rows (replicate n v) ks ≡ replicate (trues_in ks) v
+pub kept_repeated : (n : ℕ) (v : Val) (ks : List Val) → n ≡ length ks → kept_rows (replicate n v) ks ≡ replicate (true_count ks) v
 kept_repeated zero v [] e = refl
 kept_repeated zero v (k ∷ ks) e = absurd (omega (arith, e))
 kept_repeated (suc n) v [] e = absurd (omega (arith, e))
-kept_repeated (suc n) v (k ∷ ks) e = kept_repeated_step (is_true_val k) v (trues_in ks) _ (kept_repeated n v ks (omega (arith, e)))
+kept_repeated (suc n) v (k ∷ ks) e = kept_repeated_step (is_true_val k) v (true_count ks) _ (kept_repeated n v ks (omega (arith, e))) ∙ ap (λ m. replicate m v) (sym (true_count-cons k ks))
 
 -- the places, from one on, where values are true
 abbrev pub kept_places : ℕ → List Val → List ℕ
 kept_places j [] = []
 kept_places j (k ∷ ks) = cond (is_true_val k) (j ∷ kept_places (j + 1) ks) (kept_places (j + 1) ks)
 
-places_step : (b : Bool) (j n : ℕ) (ps : List ℕ) → length ps ≡ n → length (cond b (j ∷ ps) ps) ≡ cond b (suc n) n
+places_step : (b : Bool) (j n : ℕ) (ps : List ℕ) → length ps ≡ n → length (cond b (j ∷ ps) ps) ≡ cond b 1 0 + n
 places_step true j n ps e = omega (arith, e)
-places_step false j n ps e = e
+places_step false j n ps e = omega (arith, e)
 
-pub places_length : (j : ℕ) (ks : List Val) → length (kept_places j ks) ≡ trues_in ks
+pub places_length : (j : ℕ) (ks : List Val) → length (kept_places j ks) ≡ true_count ks
 places_length j [] = refl
-places_length j (k ∷ ks) = places_step (is_true_val k) j (trues_in ks) (kept_places (j + 1) ks) (places_length (j + 1) ks)
+places_length j (k ∷ ks) = places_step (is_true_val k) j (true_count ks) (kept_places (j + 1) ks) (places_length (j + 1) ks) ∙ sym (true_count-cons k ks)
 
 kept_map_step : (f : ℕ → Val) (b : Bool) (j : ℕ) (ps : List ℕ) (ws : List Val) → ws ≡ map f ps → cond b (f j ∷ ws) ws ≡ map f (cond b (j ∷ ps) ps)
 kept_map_step f true j ps ws e = ap (λ zs. f j ∷ zs) e
@@ -98,9 +70,6 @@ kept_by_place c ks e = ap (λ vs. kept_rows vs ks) (rows_by_place c (length ks) 
 kept_row : (c : Column) (ks : List Val) (k : ℕ) → length c.rows ≡ length ks → k < length (kept_places 0 ks) → row_at (kept_column ks c) k ≡ row_at c (get_or (kept_places 0 ks) k 0)
 kept_row c ks k e h = ap (λ vs. get_or vs k null_val) (kept_by_place c ks e) ∙ get_or-map (row_at c) (kept_places 0 ks) k 0 null_val h
 
-kept_length : (c : Column) (ks : List Val) → length c.rows ≡ length ks → length (kept_rows c.rows ks) ≡ trues_in ks
-kept_length c ks e = ap length (kept_by_place c ks e) ∙ length-map (kept_places 0 ks) (row_at c) ∙ places_length 0 ks
-
 same_length : (m n : ℕ) → (m == n) ≡ true → m ≡ n
 same_length m n e = grind (arith, nat_tests, e)
 
@@ -115,11 +84,11 @@ kept_members ks k h (f ∷ fs) (c ∷ cs) e =
     let both = both_of (length c.rows == length ks) (all_have_rows (length ks) cs) e in
     λ j. member f (sym (kept_row c ks k (same_length (length c.rows) (length ks) both.0) h) j) (kept_members ks k h fs cs both.1 j)
 
-kept_lengths : (ks : List Val) (cs : List Column) → all_have_rows (length ks) cs ≡ true → all_have_rows (trues_in ks) (map (kept_column ks) cs) ≡ true
+kept_lengths : (ks : List Val) (cs : List Column) → all_have_rows (length ks) cs ≡ true → all_have_rows (true_count ks) (map (kept_column ks) cs) ≡ true
 kept_lengths ks [] e = refl
 kept_lengths ks (c ∷ cs) e =
     let both = both_of (length c.rows == length ks) (all_have_rows (length ks) cs) e in
-    of_both _ _ (length_same _ _ (kept_length c ks (same_length (length c.rows) (length ks) both.0))) (kept_lengths ks cs both.1)
+    of_both _ _ (length_same _ _ (length_kept c.rows ks (same_length (length c.rows) (length ks) both.0))) (kept_lengths ks cs both.1)
 
 kept_types : (ks : List Val) (cs : List Column) → column_types (map (kept_column ks) cs) ≡ column_types cs
 kept_types ks [] = refl
@@ -143,7 +112,7 @@ all_fit_kept ks (c ∷ cs) e =
     of_both _ _ (rows_fit_kept c.ty c.rows ks both.0) (all_fit_kept ks cs both.1)
 
 -- the columns of fields stay so where rows are kept
-pub kept_fields : (t : Ty) (cs : List Column) (n : ℕ) (ks : List Val) → AreFieldsOf t cs n → n ≡ length ks → AreFieldsOf t (map (kept_column ks) cs) (trues_in ks)
+pub kept_fields : (t : Ty) (cs : List Column) (n : ℕ) (ks : List Val) → AreFieldsOf t cs n → n ≡ length ks → AreFieldsOf t (map (kept_column ks) cs) (true_count ks)
 kept_fields t cs n ks h e = record {
   shape = h.shape;
   types = kept_types ks cs ∙ h.types;
@@ -155,12 +124,12 @@ kept_struct_row : (fs : List Bytes) (cs : List Column) (ks : List Val) → all_h
 kept_struct_row fs cs ks r k w = get_or-map (struct_row fs cs None) (kept_places 0 ks) k 0 null_val w ∙ ap struct_val (kept_members ks k w fs cs r)
 
 -- and make the rows that are kept
-pub kept_structs : (fs : List Bytes) (cs : List Column) (n : ℕ) (ks : List Val) → all_have_rows n cs ≡ true → n ≡ length ks → structs_of fs (map (kept_column ks) cs) (trues_in ks) ≡ kept_rows (structs_of fs cs n) ks
+pub kept_structs : (fs : List Bytes) (cs : List Column) (n : ℕ) (ks : List Val) → all_have_rows n cs ≡ true → n ≡ length ks → structs_of fs (map (kept_column ks) cs) (true_count ks) ≡ kept_rows (structs_of fs cs n) ks
 kept_structs fs cs n ks h e =
     let rows : all_have_rows (length ks) cs ≡ true = ap (λ m. all_have_rows m cs) (sym e) ∙ h in
     let count = places_length 0 ks in
-    let lengths : length (map (struct_row fs cs None) (kept_places 0 ks)) ≡ trues_in ks = length-map (kept_places 0 ks) (struct_row fs cs None) ∙ count in
-    let all = fill_by_all (struct_row fs (map (kept_column ks) cs) None) (map (struct_row fs cs None) (kept_places 0 ks)) (trues_in ks) null_val lengths (λ k w. kept_struct_row fs cs ks rows k (omega (arith, count))) in
+    let lengths : length (map (struct_row fs cs None) (kept_places 0 ks)) ≡ true_count ks = length-map (kept_places 0 ks) (struct_row fs cs None) ∙ count in
+    let all = fill_by_all (struct_row fs (map (kept_column ks) cs) None) (map (struct_row fs cs None) (kept_places 0 ks)) (true_count ks) null_val lengths (λ k w. kept_struct_row fs cs ks rows k (omega (arith, count))) in
     sym all ∙ sym (kept_map (struct_row fs cs None) 0 n ks e)
 
 -- a boolean column's value at a row is true where the value of the code is
@@ -198,8 +167,22 @@ kept_whole t xs ks ws i h l e =
     let keeps : length ks ≤ i = omega (arith, l) in
     e ∙ (λ j. kept_rows (take_all i (seen_rows t xs) rows j) (take_all i ks keeps j))
 
+-- how many values of a boolean type are true, with one more
+count_step : (t : Ty) (xs : List ScalarValue) (i : ℕ) (x : ScalarValue) (b : Bool) → i < length xs → x ≡ get_or xs i x → is_true_val (seen t x) ≡ b → is_true_val (get_or (seen_rows t xs) i null_val) ≡ b
+count_step t xs i x b h is e = ap is_true_val (sym (ap (seen t) is ∙ seen_row t xs i x h)) ∙ e
+
+pub count_step_true : (t : Ty) (xs : List ScalarValue) (i n : ℕ) (x : ScalarValue) → i < length xs → x ≡ get_or xs i x → is_true_val (seen t x) ≡ true → n ≡ true_count (take i (seen_rows t xs)) → n + 1 ≡ true_count (take (i + 1) (seen_rows t xs))
+count_step_true t xs i n x h is e before =
+    let within : i < length (seen_rows t xs) = omega (arith, length_seen t xs) in
+    ap (λ m. m + 1) before ∙ sym (count_by_more_yes is_true_val (seen_rows t xs) i null_val within (count_step t xs i x true h is e))
+
+pub count_step_false : (t : Ty) (xs : List ScalarValue) (i n : ℕ) (x : ScalarValue) → i < length xs → x ≡ get_or xs i x → is_true_val (seen t x) ≡ false → n ≡ true_count (take i (seen_rows t xs)) → n ≡ true_count (take (i + 1) (seen_rows t xs))
+count_step_false t xs i n x h is e before =
+    let within : i < length (seen_rows t xs) = omega (arith, length_seen t xs) in
+    before ∙ sym (count_by_more_no is_true_val (seen_rows t xs) i null_val within (count_step t xs i x false h is e))
+
 -- the column of what was kept, by its parts
-pub kept_constant : (c : Column) (ks : List Val) (d : Ty) (n m : ℕ) (x y : ScalarValue) → d ≡ c.ty → replicate n (seen c.ty x) ≡ c.rows → length c.rows ≡ length ks → m ≡ trues_in ks → raw_view y ≡ raw_view x → column d (replicate m (seen d y)) ≡ kept_column ks c
+pub kept_constant : (c : Column) (ks : List Val) (d : Ty) (n m : ℕ) (x y : ScalarValue) → d ≡ c.ty → replicate n (seen c.ty x) ≡ c.rows → length c.rows ≡ length ks → m ≡ true_count ks → raw_view y ≡ raw_view x → column d (replicate m (seen d y)) ≡ kept_column ks c
 kept_constant c ks d n m x y t r l e v =
     let lengths : n ≡ length ks = sym (length-replicate n (seen c.ty x)) ∙ ap length r ∙ l in
     let value : seen d y ≡ seen c.ty x = (λ j. valued (v j) (t j)) in
@@ -211,10 +194,10 @@ kept_values c ks d s xs ms t u r e =
     let rows : seen_rows d ms ≡ kept_rows c.rows ks = ap (λ w. seen_rows w ms) (t ∙ sym u) ∙ e ∙ (λ j. kept_rows (seen_rows (u j) xs) ks) ∙ ap (λ vs. kept_rows vs ks) r in
     λ j. column (t j) (rows j)
 
-pub kept_structure : (c : Column) (ks : List Val) (d : Ty) (cs ds : List Column) (n m : ℕ) → d ≡ c.ty → AreFieldsOf c.ty cs n → structs_of (field_names (fields_of c.ty)) cs n ≡ c.rows → n ≡ length ks → m ≡ trues_in ks → ds ≡ map (kept_column ks) cs → (AreFieldsOf d ds m) × (column d (structs_of (field_names (fields_of d)) ds m) ≡ kept_column ks c)
+pub kept_structure : (c : Column) (ks : List Val) (d : Ty) (cs ds : List Column) (n m : ℕ) → d ≡ c.ty → AreFieldsOf c.ty cs n → structs_of (field_names (fields_of c.ty)) cs n ≡ c.rows → n ≡ length ks → m ≡ true_count ks → ds ≡ map (kept_column ks) cs → (AreFieldsOf d ds m) × (column d (structs_of (field_names (fields_of d)) ds m) ≡ kept_column ks c)
 kept_structure c ks d cs ds n m t h r l e s =
     let rows : structs_of (field_names (fields_of d)) ds m ≡ kept_rows c.rows ks = (λ j. structs_of (field_names (fields_of (t j))) (s j) (e j)) ∙ kept_structs (field_names (fields_of c.ty)) cs n ks h.lengths l ∙ ap (λ vs. kept_rows vs ks) r in
-    let fields : AreFieldsOf c.ty (map (kept_column ks) cs) (trues_in ks) = kept_fields c.ty cs n ks h l in (
+    let fields : AreFieldsOf c.ty (map (kept_column ks) cs) (true_count ks) = kept_fields c.ty cs n ks h l in (
       subst (λ u. AreFieldsOf u ds m) (sym t) (subst (λ es. AreFieldsOf c.ty es m) (sym s) (subst (AreFieldsOf c.ty (map (kept_column ks) cs)) (sym e) fields)),
       λ j. column (t j) (rows j),
     )

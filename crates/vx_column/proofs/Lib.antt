@@ -10,7 +10,9 @@ mod EqualLemmas
 mod StructLemmas
 mod ProjectionLemmas
 mod PatternLemmas
+pub mod TrueCounts
 mod CellLemmas
+mod AppendLemmas
 mod KeptLemmas
 mod ColumnFields
 mod SameLemmas

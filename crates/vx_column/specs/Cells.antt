@@ -1,5 +1,5 @@
 -- For the checker: no public clause cites this. What the parts of a column hold.
-use Rattle.std.specs.Prelude.{◌≡◌, ℕ, suc, slice_index_or, Bool, true, ◌&&◌, List, [], ◌∷◌, ◌++◌, map, length, None, cond}
+use Rattle.std.specs.Prelude.{◌≡◌, ℕ, slice_index_or, Bool, true, ◌&&◌, List, [], ◌∷◌, ◌++◌, map, length, None}
 use Rattle.std.specs.Hash as fed
 use Rattle.std.specs.Hash.{HashWrites}
 use Rattle.std.specs.List.{range_with_len}
@@ -9,7 +9,6 @@ use Rattle.vx_dtype.specs.declared.Nullability.TheVariants.{NonNullable}
 use Rattle.vx_dtype.specs.TypeRules.{field_names, fields_of, is_nullable}
 use Rattle.vx_dtype.specs.StructTypes.{field_types}
 use Rattle.vx_dtype.specs.Values.{Val}
-use Rattle.vx_dtype.specs.Logic.{is_true_val}
 use Rattle.vx_dtype.specs.Fits.{fits}
 use Rattle.vx_dtype.specs.RawViews.{raw_view}
 use Rattle.vx_dtype.specs.declared.values.ScalarValue.{ScalarValue}
@@ -61,11 +60,6 @@ ArePartsOf t (Columns cs n) = AreFieldsOf t cs.value.items n
 abbrev pub keeps_values : Ty → Bool
 keeps_values (struct_ty fs n) = is_nullable n
 keeps_values _ = true
-
--- how many values are true
-abbrev pub trues_in : List Val → ℕ
-trues_in [] = 0
-trues_in (k ∷ ks) = cond (is_true_val k) (suc (trues_in ks)) (trues_in ks)
 
 -- the column with the rows where the values are true
 abbrev pub kept_column : List Val → Column → Column

@@ -1,5 +1,5 @@
 -- Columns as data: a type, and a list of values of the type, one per row.
-use Rattle.std.specs.Prelude.{ℕ, slice_index_or, Bool, true, ◌&&◌, cond, List, [], ◌∷◌, map}
+use Rattle.std.specs.Prelude.{◌≡◌, ℕ, slice_index_or, count_by, Bool, true, ◌&&◌, cond, List, [], ◌∷◌, ◌++◌, map}
 use Rattle.vx_dtype.specs.Types.{Ty}
 use Rattle.vx_dtype.specs.Values.{Raw, Val, null_val, valued}
 use Rattle.vx_dtype.specs.Logic.{is_true_val}
@@ -42,6 +42,13 @@ seen_rows t xs = raw_rows t (map raw_view xs)
 abbrev pub column : Ty → List Val → Column
 column t vs = record { ty = t; rows = vs }
 
+-- a column's rows stand behind a list, in order, as values of the column's type
+pub record AppendsRows (c : Column) (before after : List ScalarValue) : Type 0 where
+  pub more : List ScalarValue
+  pub behind : after ≡ before ++ more
+  pub fit : values_fit c.ty more ≡ true
+  pub rows : seen_rows c.ty more ≡ c.rows
+
 -- the value at a row, counted from 0; null past the last
 abbrev pub row_at : Column → ℕ → Val
 row_at c i = slice_index_or c.rows i null_val
@@ -61,6 +68,10 @@ abbrev pub kept_rows : List Val → List Val → List Val
 kept_rows [] ks = []
 kept_rows (v ∷ vs) [] = []
 kept_rows (v ∷ vs) (k ∷ ks) = cond (is_true_val k) (v ∷ kept_rows vs ks) (kept_rows vs ks)
+
+-- at how many rows a boolean column is true
+abbrev pub true_count : List Val → ℕ
+true_count ks = count_by is_true_val ks
 
 -- what a rule of three values gives row by row, as far as all columns go
 abbrev pub zip_rows3 : {A B C D : Type 0} → (A → B → C → D) → List A → List B → List C → List D

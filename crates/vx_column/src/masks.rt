@@ -9,8 +9,8 @@ ghost use Rattle.vx_dtype.specs.declared.Nullability.{Nullability};
 ghost use Rattle.vx_dtype.specs.Logic.{is_true_val};
 ghost use Rattle.vx_dtype.specs.Fits.{fits};
 ghost use Rattle.vx_dtype.specs.RawViews.{raw_view};
-ghost use Rattle.vx_column.specs.Columns.{row_at, values_fit, seen, seen_rows, kept_rows, masked, zip_rows};
-ghost use Rattle.vx_column.specs.Cells.{trues_in, kept_column};
+ghost use Rattle.vx_column.specs.Columns.{row_at, values_fit, seen, seen_rows, kept_rows, true_count, masked, zip_rows};
+ghost use Rattle.vx_column.specs.Cells.{kept_column};
 
 use crate::cells::{Cells, columns_in, values_in};
 use crate::columns::ColumnRef;
@@ -92,6 +92,18 @@ impl ColumnRef {
     {
         kept_of(alloc, self, keep)
     }
+
+    /// At how many rows a boolean column is true.
+    pub fn true_count(&self) -> usize
+        requires { is_bool_ty self.now.ty ≡ true }
+        ensures { result ≡ true_count self.now.rows }
+    {
+        match self.cells() {
+            Cells::Constant { value, len } => { if is_true(value) { *len } else { 0 } }
+            Cells::Rows(rows) => count_true(values_in(rows)),
+            Cells::Columns { .. } => unreachable!(),
+        }
+    }
 }
 
 /// The column's rows where the other column is true.
@@ -104,7 +116,7 @@ fn kept_of(alloc: Global, column: &ColumnRef, keep: &ColumnRef) -> Mem<ColumnRef
     let dtype = column.dtype().clone()?;
     match column.cells() {
         Cells::Constant { value, .. } => {
-            Ok(ColumnRef::of_constant(dtype, value.clone()?, count_kept(keep)))
+            Ok(ColumnRef::of_constant(dtype, value.clone()?, keep.true_count()))
         }
         Cells::Rows(rows) => {
             let kept = filter_values(alloc, column.dtype(), values_in(rows), keep)?;
@@ -112,7 +124,7 @@ fn kept_of(alloc: Global, column: &ColumnRef, keep: &ColumnRef) -> Mem<ColumnRef
         }
         Cells::Columns { fields, .. } => {
             let kept = kept_fields(alloc, columns_in(fields), keep)?;
-            ColumnRef::of_fields(alloc, dtype, kept, count_kept(keep))
+            ColumnRef::of_fields(alloc, dtype, kept, keep.true_count())
         }
     }
 }
@@ -131,18 +143,17 @@ fn kept_fields(alloc: Global, fields: &[ColumnRef], keep: &ColumnRef) -> Mem<Vec
     Ok(kept)
 }
 
-/// How many rows of a boolean column are true.
-fn count_kept(keep: &ColumnRef) -> usize
-    requires { is_bool_ty keep.now.ty ≡ true }
-    ensures { result ≡ trues_in keep.now.rows }
+/// How many values of a boolean type are true.
+fn count_true(values: &[ScalarValue]) -> usize
+    ensures { (n : Nullability) → values_fit (bool_ty n) values.now ≡ true → result ≡ true_count (seen_rows (bool_ty n) values.now) }
 {
-    let mut kept = 0;
-    for i in 0..keep.len() {
-        if is_true_at(keep, i) {
-            kept += 1;
+    let mut count = 0;
+    for value in values {
+        if is_true(value) {
+            count += 1;
         }
     }
-    kept
+    count
 }
 
 /// The values of a type where a boolean is true.

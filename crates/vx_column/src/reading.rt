@@ -3,10 +3,11 @@ ghost use Rattle.std.specs.Prelude.{◌≡◌, ◌<◌, true, length, IfOk, IfSo
 ghost use Rattle.std.specs.List.{All, AllZip};
 ghost use Rattle.std.proofs.Math.ListN.{replicate};
 ghost use Rattle.vx_dtype.specs.declared.Nullability.TheVariants.{Nullable};
+ghost use Rattle.vx_dtype.specs.Types.{Ty};
 ghost use Rattle.vx_dtype.specs.Fits.{fits};
 ghost use Rattle.vx_dtype.specs.RawViews.{raw_view};
 ghost use Rattle.vx_dtype.specs.TypeRules.{with_nullability};
-ghost use Rattle.vx_column.specs.Columns.{column, row_at, values_fit, seen, seen_rows};
+ghost use Rattle.vx_column.specs.Columns.{AppendsRows, column, row_at, values_fit, seen, seen_rows};
 ghost use Rattle.vx_column.specs.StructColumns.{StandsAt};
 ghost use Rattle.vx_column.specs.Cells.{keeps_values};
 
@@ -45,15 +46,24 @@ impl ColumnRef {
         }
     }
 
+    /// Puts the values of all rows at the end of a list, in order. They are values of the column's type.
+    pub fn append_to(&self, alloc: Global, values: &mut Vec<ScalarValue>) -> Mem<()>
+        ensures { IfOk result (λ _. AppendsRows self.now values.old.items values.new.items) }
+    {
+        match self.cells() {
+            Cells::Constant { value, len } => append_repeated(value, *len, values),
+            Cells::Rows(rows) => append_clones(values_in(rows), values),
+            Cells::Columns { .. } => append_made(alloc, self, values),
+        }
+    }
+
     /// The values at all rows.
     pub(crate) fn made_rows(&self, alloc: Global) -> Mem<Vec<ScalarValue>>
         ensures fit { IfOk result (λ xs. values_fit self.now.ty xs.items ≡ true) }
         ensures rows { IfOk result (λ xs. seen_rows self.now.ty xs.items ≡ self.now.rows) }
     {
-        let mut rows = Vec::with_capacity(alloc, self.len())?;
-        for i in 0..self.len() {
-            rows.push(made_at(alloc, self, i)?)?;
-        }
+        let mut rows = Vec::new(alloc);
+        self.append_to(alloc, &mut rows)?;
         Ok(rows)
     }
 
@@ -70,6 +80,36 @@ impl ColumnRef {
             Cells::Columns { .. } => ColumnRef::of_rows(alloc, dtype, self.made_rows(alloc)?),
         }
     }
+}
+
+/// Puts clones of a value at the end of a list.
+fn append_repeated(value: &ScalarValue, len: usize, values: &mut Vec<ScalarValue>) -> Mem<()>
+    ensures { (t : Ty) → fits (raw_view value.now) t ≡ true →
+        IfOk result (λ _. AppendsRows (column t (replicate len (seen t value.now))) values.old.items values.new.items) }
+{
+    values.reserve(len)?;
+    values.resize(values.len() + len, value.clone()?)?;
+    Ok(())
+}
+
+/// Puts clones of values at the end of a list.
+fn append_clones(rows: &[ScalarValue], values: &mut Vec<ScalarValue>) -> Mem<()>
+    ensures { (t : Ty) → values_fit t rows.now ≡ true →
+        IfOk result (λ _. AppendsRows (column t (seen_rows t rows.now)) values.old.items values.new.items) }
+{
+    values.extend_from_slice(rows)?;
+    Ok(())
+}
+
+/// Puts the values of all rows at the end of a list, each made for itself.
+fn append_made(alloc: Global, column: &ColumnRef, values: &mut Vec<ScalarValue>) -> Mem<()>
+    ensures { IfOk result (λ _. AppendsRows column.now values.old.items values.new.items) }
+{
+    values.reserve(column.len())?;
+    for i in 0..column.len() {
+        values.push(made_at(alloc, column, i)?)?;
+    }
+    Ok(())
 }
 
 /// The value at a row, made of the fields' values where the column is kept as columns of fields.

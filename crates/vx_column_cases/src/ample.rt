@@ -76,6 +76,13 @@ fn scalar_at_answers(alloc: Global) -> Result<bool, Fail> {
     Ok(c.scalar_at(alloc, 0)? == Scalar::from(4u8))
 }
 
+fn append_to_answers(alloc: Global) -> Result<bool, Fail> {
+    let c = one(alloc, 4)?;
+    let mut values = Vec::new(alloc);
+    c.append_to(alloc, &mut values)?;
+    Ok(ColumnRef::from_values(alloc, c.dtype().clone()?, values.as_slice())? == c)
+}
+
 /// A struct column of one field.
 fn boxed(alloc: Global) -> Result<ColumnRef, Fail> {
     let mut fields = Vec::new(alloc);
@@ -194,6 +201,7 @@ fn ample(rt: HostRuntime) -> Result<(), Fail> {
     assert!(rt; list_answers(alloc)?);
     assert!(rt; clone_answers(alloc)?);
     assert!(rt; scalar_at_answers(alloc)?);
+    assert!(rt; append_to_answers(alloc)?);
     assert!(rt; field_answers(alloc)?);
     assert!(rt; project_answers(alloc)?);
     assert!(rt; filter_answers(alloc)?);

@@ -21,7 +21,7 @@ fn are_one(a: &ColumnRef, b: &ColumnRef) -> bool {
 }
 
 /// The text `x` at three rows, as one value.
-fn thrice(alloc: Global) -> Result<ColumnRef, Fail> {
+pub(crate) fn thrice(alloc: Global) -> Result<ColumnRef, Fail> {
     let x = Scalar::utf8(alloc, "x", Nullability::Nullable)?;
     Ok(ColumnRef::constant(alloc, &x, 3)?)
 }
@@ -41,7 +41,7 @@ fn columns_of_one_value(rt: HostRuntime) -> Result<(), Fail> {
 }
 
 /// The structs of the numbers 1, null and 3, and the texts `x`, `y` and null, kept as two columns.
-fn columns(alloc: Global) -> Result<ColumnRef, Fail> {
+pub(crate) fn columns(alloc: Global) -> Result<ColumnRef, Fail> {
     let names = ["a", "b"];
     Ok(made_of(alloc, names.as_slice(), parts(alloc)?, 3, None)??)
 }

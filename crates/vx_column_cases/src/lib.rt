@@ -4,7 +4,11 @@
 #[cfg(test)]
 mod ample;
 #[cfg(test)]
+mod appended;
+#[cfg(test)]
 mod columns;
+#[cfg(test)]
+mod counted;
 #[cfg(test)]
 mod kept;
 #[cfg(test)]

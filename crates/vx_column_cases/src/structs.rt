@@ -57,7 +57,7 @@ fn number(i: Option<i128>) -> ScalarValue {
 }
 
 /// A text, or null.
-fn text(alloc: Global, s: Option<&str>) -> Result<ScalarValue, Fail> {
+pub(crate) fn text(alloc: Global, s: Option<&str>) -> Result<ScalarValue, Fail> {
     match s {
         Some(s) => Ok(ScalarValue::Utf8(Text::new(alloc, s)?)),
         None => Ok(ScalarValue::Null),
@@ -65,7 +65,7 @@ fn text(alloc: Global, s: Option<&str>) -> Result<ScalarValue, Fail> {
 }
 
 /// A struct, or null.
-fn pair(alloc: Global, row: Option<Pair<'_>>) -> Result<ScalarValue, Fail> {
+pub(crate) fn pair(alloc: Global, row: Option<Pair<'_>>) -> Result<ScalarValue, Fail> {
     match row {
         Some((a, b)) => {
             let mut values = Vec::new(alloc);

@@ -15,7 +15,7 @@ pub kept_of-returns-in_ok-clone-in-Constant : goal.kept_of-returns-in_ok-clone-i
 kept_of-returns-in_ok-clone-in-Constant t c =
     let rows : replicate c.in-Constant.len (seen c.args.column.now.ty c.in-Constant.value) ≡ c.args.column.now.rows = ap (cell_rows c.args.column.now.ty) (sym c.in-Constant.is) ∙ c.cells.ensures.rows in
     let type : type_view c.in_ok-dtype.dtype ≡ c.args.column.now.ty = c.in_ok-dtype.ensures.cases ∙ c.dtype.ensures.shown in
-    c.of_constant.ensures ∙ kept_constant c.args.column.now c.args.keep.now.rows (type_view c.in_ok-dtype.dtype) c.in-Constant.len c.count_kept.result c.in-Constant.value c.in_ok-clone-in-Constant.field-0 type rows c.requires.lengths c.count_kept.ensures c.in_ok-clone-in-Constant.ensures.cases
+    c.of_constant.ensures ∙ kept_constant c.args.column.now c.args.keep.now.rows (type_view c.in_ok-dtype.dtype) c.in-Constant.len c.true_count.result c.in-Constant.value c.in_ok-clone-in-Constant.field-0 type rows c.requires.lengths c.true_count.ensures c.in_ok-clone-in-Constant.ensures.cases
 
 pub kept_of-returns-in_ok-kept-in-Rows : goal.kept_of-returns-in_ok-kept-in-Rows
 kept_of-returns-in_ok-kept-in-Rows t c =
@@ -40,7 +40,7 @@ kept_of-of_fields-requires-clause-fields t c =
     let parts : AreFieldsOf c.args.column.now.ty c.in-Columns.fields.value.items c.in-Columns.len = subst (ArePartsOf c.args.column.now.ty) c.in-Columns.is c.cells.ensures.parts in
     let count : c.in-Columns.len ≡ length c.args.keep.now.rows = structs_length c.args.column.now _ _ _ rows ∙ c.requires.lengths in
     let type : type_view c.in_ok-dtype.dtype ≡ c.args.column.now.ty = c.in_ok-dtype.ensures.cases ∙ c.dtype.ensures.shown in
-    (kept_structure c.args.column.now c.args.keep.now.rows (type_view c.in_ok-dtype.dtype) c.in-Columns.fields.value.items c.in_ok-kept-in-Columns.kept.items c.in-Columns.len c.count_kept-in-Columns.result type parts rows count c.count_kept-in-Columns.ensures (c.in_ok-kept-in-Columns.ensures ∙ ap (map (kept_column c.args.keep.now.rows)) c.columns_in.ensures)).0
+    (kept_structure c.args.column.now c.args.keep.now.rows (type_view c.in_ok-dtype.dtype) c.in-Columns.fields.value.items c.in_ok-kept-in-Columns.kept.items c.in-Columns.len c.true_count-in-Columns.result type parts rows count c.true_count-in-Columns.ensures (c.in_ok-kept-in-Columns.ensures ∙ ap (map (kept_column c.args.keep.now.rows)) c.columns_in.ensures)).0
 
 pub kept_of-returns-in_ok-kept-in-Columns : goal.kept_of-returns-in_ok-kept-in-Columns
 kept_of-returns-in_ok-kept-in-Columns t c =
@@ -48,8 +48,8 @@ kept_of-returns-in_ok-kept-in-Columns t c =
     let parts : AreFieldsOf c.args.column.now.ty c.in-Columns.fields.value.items c.in-Columns.len = subst (ArePartsOf c.args.column.now.ty) c.in-Columns.is c.cells.ensures.parts in
     let count : c.in-Columns.len ≡ length c.args.keep.now.rows = structs_length c.args.column.now _ _ _ rows ∙ c.requires.lengths in
     let type : type_view c.in_ok-dtype.dtype ≡ c.args.column.now.ty = c.in_ok-dtype.ensures.cases ∙ c.dtype.ensures.shown in
-    let told = kept_structure c.args.column.now c.args.keep.now.rows (type_view c.in_ok-dtype.dtype) c.in-Columns.fields.value.items c.in_ok-kept-in-Columns.kept.items c.in-Columns.len c.count_kept-in-Columns.result type parts rows count c.count_kept-in-Columns.ensures (c.in_ok-kept-in-Columns.ensures ∙ ap (map (kept_column c.args.keep.now.rows)) c.columns_in.ensures) in
-    if_ok_map _ _ c.of_fields.result (λ (x : Column) (h : x ≡ column (type_view c.in_ok-dtype.dtype) (structs_of (field_names (fields_of (type_view c.in_ok-dtype.dtype))) c.in_ok-kept-in-Columns.kept.items c.count_kept-in-Columns.result)). h ∙ told.1) c.of_fields.ensures
+    let told = kept_structure c.args.column.now c.args.keep.now.rows (type_view c.in_ok-dtype.dtype) c.in-Columns.fields.value.items c.in_ok-kept-in-Columns.kept.items c.in-Columns.len c.true_count-in-Columns.result type parts rows count c.true_count-in-Columns.ensures (c.in_ok-kept-in-Columns.ensures ∙ ap (map (kept_column c.args.keep.now.rows)) c.columns_in.ensures) in
+    if_ok_map _ _ c.of_fields.result (λ (x : Column) (h : x ≡ column (type_view c.in_ok-dtype.dtype) (structs_of (field_names (fields_of (type_view c.in_ok-dtype.dtype))) c.in_ok-kept-in-Columns.kept.items c.true_count-in-Columns.result)). h ∙ told.1) c.of_fields.ensures
 
 pub kept_fields-kept_of-requires : goal.kept_fields-kept_of-requires
 kept_fields-kept_of-requires t c =

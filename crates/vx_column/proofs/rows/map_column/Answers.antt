@@ -2,7 +2,7 @@ use Rattle.std.proofs.Common.{◌≡◌, true, ap, sym, ◌∙◌, subst}
 use Rattle.std.proofs.Math.ListN.{replicate}
 use Rattle.vx_dtype.specs.Fits.{fits}
 use Rattle.vx_dtype.specs.RawViews.{raw_view}
-use Rattle.vx_column.specs.Columns.{Column, column, seen, values_fit}
+use Rattle.vx_column.specs.Columns.{Column, seen, values_fit}
 use Rattle.vx_column.specs.Cells.{cell_rows, ArePartsOf}
 use Rattle.vx_column.proofs.RowLemmas.{map_constant}
 use Rattle.vx_column.proofs.rows.map_column.Goals as goal
