@@ -105,8 +105,8 @@ impl ColumnRef {
         })
     }
 
-    /// The column of these values. WrongValue exactly where one of them isn't of the type; else DuplicateField exactly where a name stands twice in a struct of the type, at any depth.
-    pub(crate) fn of_values(
+    /// The column of these values, which it keeps. WrongValue exactly where one of them isn't of the type; else DuplicateField exactly where a name stands twice in a struct of the type, at any depth.
+    pub fn of_values(
         alloc: Global,
         dtype: DType,
         values: Vec<ScalarValue>,

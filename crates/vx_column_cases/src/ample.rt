@@ -31,8 +31,9 @@ fn four(alloc: Global) -> Result<Vec<ScalarValue>, Fail> {
 
 fn from_values_answers(alloc: Global) -> Result<bool, Fail> {
     let dtype = DType::Primitive(PType::U8, Nullability::NonNullable);
-    let c = ColumnRef::from_values(alloc, dtype, four(alloc)?.as_slice())?;
-    Ok(c == one(alloc, 4)?)
+    let c = ColumnRef::from_values(alloc, dtype.clone()?, four(alloc)?.as_slice())?;
+    let kept = ColumnRef::of_values(alloc, dtype, four(alloc)?)?;
+    Ok(c == one(alloc, 4)? && c == kept)
 }
 
 fn constant_answers(alloc: Global) -> Result<bool, Fail> {

@@ -58,7 +58,7 @@ fn column_in(alloc: Global, dtype: &DType, cells: &[Value]) -> Mem<Option<Column
     let Some(values) = raws_in(alloc, dtype, cells)? else {
         return Ok(None);
     };
-    match ColumnRef::from_values(alloc, dtype.clone()?, values.as_slice()) {
+    match ColumnRef::of_values(alloc, dtype.clone()?, values) {
         Ok(column) => Ok(Some(column)),
         Err(ColumnError::NoMemory) => Err(NoMemory),
         Err(ColumnError::WrongValue) => Ok(None),
