@@ -8,7 +8,7 @@ ghost use Rattle.vx_text.specs.Writing.{type_text, labels_text, item_text, items
 
 use std::fmt;
 use vx_dtype::{DType, Scalar, ScalarValue, StructFields};
-use vx_tokens::{integer_name, write_name, write_within_marks};
+use vx_tokens::{Name, Quote, integer_name};
 
 /// Writes a type.
 #[cycle(types)]
@@ -48,7 +48,7 @@ fn write_labels<W: fmt::Write>(fields: &StructFields, f: &mut fmt::Formatter<W>)
             unreachable!();
         };
         f.write_str(separator)?;
-        write_name(name.as_str(), f)?;
+        write!(f, "{}", Name(name.as_str()))?;
         f.write_str(": ")?;
         write_type(dtype, f)?;
         separator = ", ";
@@ -66,7 +66,7 @@ fn write_item<W: fmt::Write>(value: &ScalarValue, f: &mut fmt::Formatter<W>) -> 
         ScalarValue::Null => f.write_str("null"),
         ScalarValue::Bool(b) => f.write_str(if *b { "true" } else { "false" }),
         ScalarValue::Int(i) => write!(f, "{i}"),
-        ScalarValue::Utf8(text) => write_within_marks('\'', text.as_str(), f),
+        ScalarValue::Utf8(text) => write!(f, "{}", Quote(text.as_str())),
         ScalarValue::List(items) => {
             f.write_str("[")?;
             write_items(items.as_slice(), f)?;

@@ -18,7 +18,7 @@ use vx_dtype::{BetweenOptions, DType, FieldName, FieldNames, Nullability, Strict
 use vx_expr::{
     BinaryExpr, Expr, ExprRef, FieldSelection, GetItemExpr, NotExpr, SelectExpr, VortexExpr,
 };
-use vx_tokens::{write_name, write_names};
+use vx_tokens::{Name, Names};
 
 /// The text of an expression, which is read as the same expression where it isn't too long.
 ///
@@ -96,16 +96,8 @@ pub(crate) fn write_choice<W: fmt::Write>(
     ensures { WritesOnOk W.write_str_gives f.old result (choice_text selection.now) f.new }
 {
     match selection {
-        FieldSelection::Include(names) => {
-            f.write_str("{")?;
-            write_names(names.as_slice(), f)?;
-            f.write_str("}")
-        }
-        FieldSelection::Exclude(names) => {
-            f.write_str("~{")?;
-            write_names(names.as_slice(), f)?;
-            f.write_str("}")
-        }
+        FieldSelection::Include(names) => write!(f, "{{{}}}", Names(names.as_slice())),
+        FieldSelection::Exclude(names) => write!(f, "~{{{}}}", Names(names.as_slice())),
     }
 }
 
@@ -143,8 +135,7 @@ fn write_item<W: fmt::Write>(node: &GetItemExpr, f: &mut fmt::Formatter<W>) -> f
     ensures { WritesOnOk W.write_str_gives f.old result (query_text (item_tree node.now)) f.new }
 {
     write_expr(node.child(), f)?;
-    f.write_str(".")?;
-    write_name(node.field().as_str(), f)
+    write!(f, ".{}", Name(node.field().as_str()))
 }
 
 /// Writes `(left operator right)`.
@@ -252,7 +243,7 @@ fn write_named_children<W: fmt::Write>(
     let mut separator = "";
     for i in 0..expr.children_count().min(names.len()) {
         f.write_str(separator)?;
-        write_name(names[i].as_str(), f)?;
+        write!(f, "{}", Name(names[i].as_str()))?;
         f.write_str(": ")?;
         write_expr(expr.child_at(i), f)?;
         separator = ", ";

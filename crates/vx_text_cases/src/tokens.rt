@@ -1,40 +1,7 @@
 //! Tests of vx_tokens.
-use std::fmt;
 use std::test::Fail;
 use vx_dtype::{FieldName, PType};
-use vx_tokens::{
-    Keyword, Sign, Token, integer_of, tokens_of, write_name, write_names, write_within_marks,
-};
-
-/// A name that prints as a query writes it.
-#[derive(Clone, Copy)]
-struct Name<'a>(&'a str);
-
-impl<'a> fmt::Display for Name<'a> {
-    fn fmt<W: fmt::Write>(&self, f: &mut fmt::Formatter<W>) -> fmt::Result {
-        write_name(self.0, f)
-    }
-}
-
-/// Names that print with commas between them.
-#[derive(Clone, Copy)]
-struct Names<'a>(&'a [FieldName]);
-
-impl<'a> fmt::Display for Names<'a> {
-    fn fmt<W: fmt::Write>(&self, f: &mut fmt::Formatter<W>) -> fmt::Result {
-        write_names(self.0, f)
-    }
-}
-
-/// A text that prints between `'`.
-#[derive(Clone, Copy)]
-struct Quote<'a>(&'a str);
-
-impl<'a> fmt::Display for Quote<'a> {
-    fn fmt<W: fmt::Write>(&self, f: &mut fmt::Formatter<W>) -> fmt::Result {
-        write_within_marks('\'', self.0, f)
-    }
-}
+use vx_tokens::{Keyword, Name, Names, Quote, Sign, Token, integer_of, tokens_of};
 
 #[test]
 fn ample(rt: HostRuntime) -> Result<(), Fail> {

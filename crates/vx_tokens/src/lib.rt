@@ -9,6 +9,6 @@ mod tokens;
 
 pub use characters::{integer_name, integer_named};
 pub use lexing::tokens_of;
-pub use marks::{write_name, write_names, write_within_marks};
+pub use marks::{Name, Names, Quote};
 pub use numbers::integer_of;
 pub use tokens::{Keyword, Sign, Token};

@@ -10,6 +10,43 @@ use crate::characters::{is_first, is_inner, keyword_of};
 use std::fmt;
 use vx_dtype::FieldName;
 
+/// A text that prints between `'`, each `'` in it twice: `'it''s'`. Fails only where the writer does.
+#[derive(Clone, Copy)]
+pub struct Quote<'a>(pub &'a str);
+
+impl<'a> fmt::Display for Quote<'a> {
+    ghost output = { λ quote. Some (within_marks 39 quote.0.now) };
+
+    fn fmt<W: fmt::Write>(&self, f: &mut fmt::Formatter<W>) -> fmt::Result {
+        write_within_marks('\'', self.0, f)
+    }
+}
+
+/// A name that prints as a word where it can be one, else between `"`, each `"` in it twice: `a_1`, `"or"`, `"a b"`.
+/// Fails only where the writer does.
+#[derive(Clone, Copy)]
+pub struct Name<'a>(pub &'a str);
+
+impl<'a> fmt::Display for Name<'a> {
+    ghost output = { λ name. Some (name_text name.0.now) };
+
+    fn fmt<W: fmt::Write>(&self, f: &mut fmt::Formatter<W>) -> fmt::Result {
+        write_name(self.0, f)
+    }
+}
+
+/// Names that print as [`Name`] does, with `, ` between any two: `a, "b c"`. Fails only where the writer does.
+#[derive(Clone, Copy)]
+pub struct Names<'a>(pub &'a [FieldName]);
+
+impl<'a> fmt::Display for Names<'a> {
+    ghost output = { λ names. Some (names_text [] names.0.now) };
+
+    fn fmt<W: fmt::Write>(&self, f: &mut fmt::Formatter<W>) -> fmt::Result {
+        write_names(self.0, f)
+    }
+}
+
 /// Writes a character, twice where it is the mark.
 #[tactic(auto, using(crate::proofs::MarkLemmas::mark_character, crate::proofs::MarkLemmas::other_character))]
 fn write_character<W: fmt::Write>(mark: char, c: char, f: &mut fmt::Formatter<W>) -> fmt::Result
@@ -36,7 +73,7 @@ fn write_doubled<W: fmt::Write>(mark: char, text: &str, f: &mut fmt::Formatter<W
 
 /// Writes a text between two marks, each mark in it twice.
 #[tactic(auto, using(crate::proofs::MarkLemmas::mark_alone))]
-pub fn write_within_marks<W: fmt::Write>(
+fn write_within_marks<W: fmt::Write>(
     mark: char,
     text: &str,
     f: &mut fmt::Formatter<W>,
@@ -75,7 +112,7 @@ fn is_plain_word(name: &str) -> bool
 
 /// Writes a name: as a word where it can be one, else between `"`.
 #[tactic(auto, unfolding(crate::specs::Names::name_text))]
-pub fn write_name<W: fmt::Write>(name: &str, f: &mut fmt::Formatter<W>) -> fmt::Result
+fn write_name<W: fmt::Write>(name: &str, f: &mut fmt::Formatter<W>) -> fmt::Result
     ensures { WritesOnOk W.write_str_gives f.old result (name_text name.now) f.new }
 {
     if is_plain_word(name) {
@@ -87,7 +124,7 @@ pub fn write_name<W: fmt::Write>(name: &str, f: &mut fmt::Formatter<W>) -> fmt::
 
 /// Writes names with `, ` between any two.
 #[tactic(auto, unfolding(crate::specs::Names::names_text))]
-pub fn write_names<W: fmt::Write>(names: &[FieldName], f: &mut fmt::Formatter<W>) -> fmt::Result
+fn write_names<W: fmt::Write>(names: &[FieldName], f: &mut fmt::Formatter<W>) -> fmt::Result
     ensures { WritesOnOk W.write_str_gives f.old result (names_text [] names.now) f.new }
 {
     let mut separator = "";

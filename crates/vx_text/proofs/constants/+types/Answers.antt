@@ -30,7 +30,7 @@ write_labels-loop-i-preserved g t c =
       λ plain.
           let begun = c.loop-i.invariant.1 plain in
           let separated = has_begun_more _ _ _ _ _ _ _ _ step begun (c.in_ok-write_str.ensures.writes begun.1.plain refl) in
-          let with_name = has_begun_more _ _ _ _ _ _ _ _ refl separated (c.in_ok-write_name.ensures separated.1.plain refl) in
+          let with_name = has_begun_more _ _ _ _ _ _ _ _ refl separated (c.in_ok-write.ensures.writes separated.1.plain refl) in
           let with_colon = has_begun_more _ _ _ _ _ _ _ _ refl with_name (c.in_ok-write_str-2.ensures.writes with_name.1.plain refl) in
           has_begun_more _ _ _ _ _ _ _ _ refl with_colon (c.in_ok-write_type.ensures with_colon.1.plain refl),
     )
