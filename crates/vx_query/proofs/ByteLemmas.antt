@@ -1,5 +1,5 @@
 -- What is known of an expression whose bytes were written, and of one that has none.
-use Rattle.std.proofs.Common.{◌≡◌, sym, subst, List, [], ◌∷◌, Option, Some, Result, Ok, Err, inl, inr}
+use Rattle.std.proofs.Common.{◌≡◌, subst, List, [], ◌∷◌, inl, inr}
 use Rattle.std.specs.List.{AllByRecursion}
 use Rattle.vx_dtype.specs.Types.{Bytes, Ty, bool_ty, int_ty, text_ty, list_ty, struct_ty, Fields, no_fields, field}
 use Rattle.vx_expr.specs.Trees.{Tree, root, literal, get_item, binary, not_of, is_null_of, like, between, cast, list_contains, pack, merge, select, dynamic}
@@ -10,7 +10,7 @@ use Rattle.vx_wire_text.proofs.LengthLemmas.{texts_short}
 use Rattle.vx_wire.specs.Forms.{wire_of, Everywhere}
 use Rattle.vx_wire.specs.Metadata.{HasMetadata, IsSerializable, HasShortMetadata}
 use Rattle.vx_wire.proofs.EverywhereLemmas.{also_everywhere}
-use Rattle.vx_query.specs.Running.{IsShallow, IsOverlong, HasBytes}
+use Rattle.vx_query.specs.Running.{IsShallow, HasBytes}
 
 -- ---- metadata that has a spelling
 

@@ -15,10 +15,10 @@ use Rattle.vx_scan.specs.declared.errors.Side.{Side}
 use Rattle.vx_scan.specs.declared.errors.Side.TheVariants.{Filter, Projection, Text}
 use Rattle.vx_scan.specs.declared.errors.ScanError.{ScanError}
 use Rattle.vx_scan.specs.declared.errors.ScanError.TheVariants as scans
-use Rattle.vx_request.specs.Requests.{RequestedScan, request_of}
+use Rattle.vx_request.specs.Requests.{RequestedScan}
 use Rattle.vx_request.specs.declared.errors.RequestError.{RequestError}
 use Rattle.vx_query.specs.Refusals.{request_refusal_name, scan_refusal_name}
-use Rattle.vx_query.specs.Running.{HoldsRefused, IsScanRefused, Spells, type_of_scan}
+use Rattle.vx_query.specs.Running.{HoldsRefused, IsScanRefused, type_of_scan}
 use Rattle.vx_query.specs.WireLaws.{WireLaws}
 use Rattle.vx_query.specs.RequestCauses.{IsNoRequest}
 use Rattle.vx_query.specs.ExpressionCauses.{HoldsBadText, IsTyped, IsUntyped, IsBoolean, IsNoBoolean, IsIllTyped, HoldsExpressions, HoldsIllTyped, HoldsNoBoolean}

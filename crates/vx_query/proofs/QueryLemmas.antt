@@ -1,5 +1,5 @@
 -- What the status of a run whose arguments ask the bytes of a query tells.
-use Rattle.std.proofs.Common.{◌≡◌, ◌∙◌, sym, ap, refl, subst, ℕ, length, ◌++◌, codes, Option, Some, None, Err, inl, inr, arith}
+use Rattle.std.proofs.Common.{◌≡◌, ◌∙◌, sym, ap, subst, ℕ, length, ◌++◌, codes, Option, Some, Err, inl, inr, arith}
 use Rattle.vx_dtype.specs.Types.{Bytes}
 use Rattle.vx_expr.specs.Trees.{Tree}
 use Rattle.vx_io.specs.Ends.{Added}
@@ -8,9 +8,9 @@ use Rattle.vx_text.specs.Reading.{reading_of}
 use Rattle.vx_text.specs.declared.errors.TextError.{TextError}
 use Rattle.vx_text.specs.declared.errors.TextError.TheVariants as texts
 use Rattle.vx_query.specs.Refusals.{text_refusal_name, refusal_line}
-use Rattle.vx_query.specs.Running.{End, Form, text_form, Names, IsShallow, IsOverlong, HasBytes, bytes_line, IsRun}
+use Rattle.vx_query.specs.Running.{End, text_form, Names, IsShallow, IsOverlong, HasBytes, bytes_line, IsRun}
 use Rattle.vx_query.specs.Causes.{IsNamed, HasDeepType, HasLongPart, IsLongQuery}
-use Rattle.vx_query.specs.Exactly.{Tells, RunsWell, EndsWith, QueriesEndSo}
+use Rattle.vx_query.specs.Exactly.{RunsWell, EndsWith, QueriesEndSo}
 use Rattle.vx_query.proofs.RefusalLemmas.{one_err, not_err, one_ok}
 use Rattle.vx_query.proofs.LineLemmas.{one_text, told_name}
 use Rattle.vx_query.proofs.QueryEnds.{QueryEnd, cut_off, without_memory, no_query, too_deep, too_long, bytes, query_end}

@@ -1,5 +1,5 @@
 -- Each read of the scan of a request is of a kept block and of a column that the filter or the projection asks.
-use Rattle.std.proofs.Common.{◌≡◌, ◌∙◌, sym, ap, refl, subst, ℕ, Bool, true, false, cond, List, [], ◌∷◌, ◌++◌, length, map, Option, Some, None, Ok, inl, inr, ◌&&◌}
+use Rattle.std.proofs.Common.{◌≡◌, ◌∙◌, sym, ap, refl, subst, ℕ, Bool, true, false, cond, List, [], ◌∷◌, ◌++◌, length, map, Option, Some, Ok, inl, inr}
 use Rattle.std.specs.List.{flat_map, list_all}
 use Rattle.std.proofs.lemmas.List.{length-map}
 use Rattle.std.proofs.lemmas.Option.{same_Some}
@@ -23,7 +23,7 @@ use Rattle.vx_scan.proofs.AskedLemmas.{reads_are_asked}
 use Rattle.vx_scan.proofs.BlockLemmas.{table_lengths}
 use Rattle.vx_request.specs.Requests.{RequestedScan, request_of}
 use Rattle.vx_query.specs.Shapes.{agree}
-use Rattle.vx_query.specs.Running.{End, Form, HoldsScan, scan_table, scan_reads, scanned_store, broken_store, Outcome, misused, helped, versioned, out_of_memory, unread, refused, unscanned, broken, answered, explained, undecoded, unshown, shown, unnamed, unserialized, overlong, named, IsOutcome, IsRun, used_by}
+use Rattle.vx_query.specs.Running.{End, Form, scan_table, scan_reads, scanned_store, broken_store, Outcome, misused, helped, versioned, out_of_memory, unread, refused, unscanned, broken, answered, explained, undecoded, unshown, shown, unnamed, unserialized, overlong, named, IsOutcome, IsRun, used_by}
 use Rattle.vx_query.specs.Causes.{HasAskedReads}
 use Rattle.vx_query.proofs.CellLemmas.{and_left}
 use Rattle.vx_query.proofs.ShapeLemmas.{agree_in}

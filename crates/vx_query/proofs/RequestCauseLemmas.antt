@@ -1,5 +1,5 @@
 -- An input is no request for just one cause, and where it has that cause.
-use Rattle.std.proofs.Common.{◌≡◌, ◌∙◌, sym, ap, refl, subst, ℕ, ◌≤◌, nat_le, Bool, true, false, cond, List, [], ◌∷◌, length, map, Option, Some, None, Result, Ok, Err, ok_or, true≢false}
+use Rattle.std.proofs.Common.{◌≡◌, ◌∙◌, sym, ap, refl, subst, ◌≤◌, nat_le, Bool, true, false, cond, List, [], ◌∷◌, length, map, Option, Some, None, Result, Ok, Err, ok_or, true≢false}
 use Rattle.std.proofs.lemmas.Bool.{leb-true, leb-false, le-leb, lt-leb}
 use Rattle.serde_json.specs.Data.{Data}
 use Rattle.vx_dtype.specs.Types.{Bytes}
@@ -13,7 +13,7 @@ use Rattle.vx_request.specs.Places.{columns_in, blocks_in, stats_in}
 use Rattle.vx_request.specs.Objects.{object_of}
 use Rattle.vx_request.specs.Cells.{blocks_of}
 use Rattle.serde_json.specs.Find.{as_str}
-use Rattle.vx_request.specs.Requests.{◌>>=◌, RequestText, RequestedScan, request_of, ensured, most_bytes, value_in, json_in, at_place, text_of, text_in, member_names, hex_bytes, bytes_in, zones_by, zone_refusal, sound_zones, block_columns, scan_with, scan_in, scan_of}
+use Rattle.vx_request.specs.Requests.{◌>>=◌, RequestText, RequestedScan, request_of, ensured, most_bytes, value_in, json_in, at_place, text_of, text_in, member_names, hex_bytes, bytes_in, zones_by, sound_zones, block_columns, scan_with, scan_in, scan_of}
 use Rattle.vx_request.specs.declared.errors.Place.{Place}
 use Rattle.vx_request.specs.declared.errors.Place.TheVariants.{Top, Columns, Blocks, Stats}
 use Rattle.vx_request.specs.declared.errors.Place.TheVariants as places
@@ -23,7 +23,7 @@ use Rattle.vx_request.specs.declared.errors.TableRefusal.{TableRefusal}
 use Rattle.vx_request.specs.declared.errors.TableRefusal.TheVariants as tables
 use Rattle.vx_request.specs.declared.errors.RequestError.{RequestError}
 use Rattle.vx_request.specs.declared.errors.RequestError.TheVariants.{NoMemory, InputTooLong, BadJson, BadRequest, BadHex, BadTable}
-use Rattle.vx_query.specs.RequestCauses.{IsTextOf, IsMisformed, IsFormed, HasDigits, formed_zones, has_rectangles, HasBadDigits, IsNoTable, IsNoRequest}
+use Rattle.vx_query.specs.RequestCauses.{IsTextOf, IsFormed, HasDigits, formed_zones, has_rectangles, HasBadDigits, IsNoTable, IsNoRequest}
 
 -- ---- steps
 

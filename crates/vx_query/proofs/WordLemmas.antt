@@ -1,5 +1,5 @@
 -- What the status of a run whose arguments show a word tells.
-use Rattle.std.proofs.Common.{◌≡◌, ◌∙◌, sym, ap, refl, subst, ℕ, Bool, true, false, codes, Option, Some, None, arith, true≢false}
+use Rattle.std.proofs.Common.{◌≡◌, ◌∙◌, sym, refl, subst, ℕ, codes, Option, Some, None, arith}
 use Rattle.std.proofs.lemmas.Option.{same_Some}
 use Rattle.vx_dtype.specs.Types.{Bytes}
 use Rattle.vx_expr.specs.Trees.{Tree}
@@ -12,7 +12,7 @@ use Rattle.vx_scan.specs.declared.errors.ScanError.{ScanError}
 use Rattle.vx_scan.proofs.TextLemmas.{one_spelled, spelled_is_taken, one_refusal_of}
 use Rattle.vx_request.specs.Requests.{hex_bytes}
 use Rattle.vx_query.specs.Refusals.{scan_refusal_name, refusal_line}
-use Rattle.vx_query.specs.Running.{End, Form, Showing, as_line, as_tree, as_query, show_form, shown_text, shown_word, WordSpells, WordIsRefused, IsRun}
+use Rattle.vx_query.specs.Running.{End, Form, Showing, as_line, as_tree, as_query, show_form, shown_text, WordSpells, WordIsRefused, IsRun}
 use Rattle.vx_query.specs.Causes.{IsShown}
 use Rattle.vx_query.specs.Exactly.{Tells, RunsWell, EndsWith, WordsEndSo}
 use Rattle.vx_query.proofs.RequestEnds.{not_none}
