@@ -7,7 +7,7 @@ use anyhow::{Result, bail};
 use std::alloc::Global;
 use std::time::Instant;
 use vx_column::ColumnRef;
-use vx_dtype::{CompareOperator, Mem, ScalarValue};
+use vx_dtype::{CompareOperator, Mem};
 use vx_expr::ExprRef;
 use vx_scan::{MemoryStore, scan_exprs};
 
@@ -60,18 +60,9 @@ fn time_calls(rt: &HostRuntime, columns: &[ColumnRef]) -> Result<()> {
     let start = Instant::now(rt)?;
     let mut rows = Vec::new(rt.alloc());
     for column in columns {
-        push_values(rt.alloc(), &above_ten(rt.alloc(), column)?, &mut rows)?;
+        above_ten(rt.alloc(), column)?.append_to(rt.alloc(), &mut rows)?;
     }
     print_since(rt, "scan_calls", &start)
-}
-
-/// Puts the values of a column at the end of a list.
-fn push_values(alloc: Global, column: &ColumnRef, rows: &mut Vec<ScalarValue>) -> Mem<()> {
-    for i in 0..column.len() {
-        let scalar = column.scalar_at(alloc, i)?;
-        rows.push(scalar.value().clone()?)?;
-    }
-    Ok(())
 }
 
 /// The numbers of a column that are above 10.

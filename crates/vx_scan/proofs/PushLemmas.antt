@@ -1,48 +1,45 @@
 -- Values of a column put behind rows of a type that the column's narrows.
-use Rattle.std.proofs.Common.{◌≡◌, refl, ap, ◌∙◌, sym, ℕ, ◌+◌, ◌<◌, ◌≤◌, true, List, [], ◌∷◌, ◌++◌, length, drop, get_or}
+use Rattle.std.proofs.Common.{◌≡◌, refl, ap, ◌∙◌, sym, true, List, [], ◌∷◌, ◌++◌, Result, Ok, Err, IfOk}
 use Rattle.std.proofs.lemmas.Bool.{and_parts, and_from}
-use Rattle.std.proofs.lemmas.List.{drop_more, drop_all, append-nil}
 use Rattle.vx_dtype.specs.declared.values.ScalarValue.{ScalarValue}
 use Rattle.vx_dtype.specs.Fits.{fits}
 use Rattle.vx_dtype.specs.RawViews.{raw_view}
 use Rattle.vx_dtype.specs.Types.{Ty}
-use Rattle.vx_dtype.specs.Values.{Val, null_val}
-use Rattle.vx_column.specs.Columns.{values_fit, seen, seen_rows}
+use Rattle.vx_column.specs.Columns.{Column, AppendsRows, values_fit, seen, seen_rows}
 use Rattle.vx_laws_simplifying.specs.Narrowing.{narrows}
 use Rattle.vx_scan.proofs.NarrowLemmas.{narrow_fits, narrow_valued}
 
--- values and one more
-fit_more : (t : Ty) (xs : List ScalarValue) (x : ScalarValue) → values_fit t xs ≡ true → fits (raw_view x) t ≡ true → values_fit t (xs ++ x ∷ []) ≡ true
-fit_more t [] x h k = and_from (fits (raw_view x) t) true k refl
-fit_more t (y ∷ ys) x h k =
-    let parts = and_parts (fits (raw_view y) t) (values_fit t ys) h in
-    and_from (fits (raw_view y) t) (values_fit t (ys ++ x ∷ [])) parts.0 (fit_more t ys x parts.1 k)
+-- values are also values of the wider type, and stand for the same there
+fit_wider : (t u : Ty) (xs : List ScalarValue) → narrows t u ≡ true → values_fit t xs ≡ true → values_fit u xs ≡ true
+fit_wider t u [] n h = refl
+fit_wider t u (x ∷ xs) n h =
+    let parts = and_parts (fits (raw_view x) t) (values_fit t xs) h in
+    and_from (fits (raw_view x) u) (values_fit u xs) (narrow_fits (raw_view x) t u n parts.0) (fit_wider t u xs n parts.1)
 
-seen_more : (t : Ty) (xs : List ScalarValue) (x : ScalarValue) (rest : List Val) → seen_rows t (xs ++ x ∷ []) ++ rest ≡ seen_rows t xs ++ (seen t x ∷ rest)
-seen_more t [] x rest = refl
-seen_more t (y ∷ ys) x rest = ap (λ (zs : List Val). seen t y ∷ zs) (seen_more t ys x rest)
+seen_wider : (t u : Ty) (xs : List ScalarValue) → narrows t u ≡ true → seen_rows u xs ≡ seen_rows t xs
+seen_wider t u [] n = refl
+seen_wider t u (x ∷ xs) n = λ i. sym (narrow_valued (raw_view x) t u n) i ∷ seen_wider t u xs n i
 
--- so many values of a column stand behind the rows that were there
-abbrev pub ArePushed : Ty → List Val → ℕ → List ScalarValue → List ScalarValue → Type 0
-ArePushed t column i start now = (u : Ty) → narrows t u ≡ true → (values_fit u start ≡ true → values_fit u now ≡ true)
-    × (seen_rows u now ++ drop i column ≡ seen_rows u start ++ column)
+-- values behind values
+fit_append : (u : Ty) (xs ys : List ScalarValue) → values_fit u xs ≡ true → values_fit u ys ≡ true → values_fit u (xs ++ ys) ≡ true
+fit_append u [] ys h k = k
+fit_append u (x ∷ xs) ys h k =
+    let parts = and_parts (fits (raw_view x) u) (values_fit u xs) h in
+    and_from (fits (raw_view x) u) (values_fit u (xs ++ ys)) parts.0 (fit_append u xs ys parts.1 k)
 
-pub pushed : (t : Ty) (column : List Val) (i : ℕ) (start old new : List ScalarValue) (v : ScalarValue) → i < length column → new ≡ old ++ v ∷ [] → fits (raw_view v) t ≡ true
-    → seen t v ≡ get_or column i null_val → ArePushed t column i start old → ArePushed t column (i + 1) start new
-pushed t column i start old new v l e f s before = λ u n.
-    let has = before u n in
-    let value : seen u v ≡ get_or column i null_val = sym (narrow_valued (raw_view v) t u n) ∙ s in
-    let more : drop i column ≡ get_or column i null_val ∷ drop (i + 1) column = drop_more column i null_val l in (
-      λ k. ap (values_fit u) e ∙ fit_more u old v (has.0 k) (narrow_fits (raw_view v) t u n f),
-      ap (λ (vs : List ScalarValue). seen_rows u vs ++ drop (i + 1) column) e
-          ∙ seen_more u old v (drop (i + 1) column)
-          ∙ ap (λ (x : Val). seen_rows u old ++ (x ∷ drop (i + 1) column)) value
-          ∙ ap (λ (xs : List Val). seen_rows u old ++ xs) (sym more)
-          ∙ has.1,
-    )
+seen_append : (u : Ty) (xs ys : List ScalarValue) → seen_rows u (xs ++ ys) ≡ seen_rows u xs ++ seen_rows u ys
+seen_append u [] ys = refl
+seen_append u (x ∷ xs) ys = λ i. seen u x ∷ seen_append u xs ys i
 
--- all of them
-pub all_pushed : (t : Ty) (column : List Val) (i : ℕ) (start now : List ScalarValue) → length column ≤ i → ArePushed t column i start now
-    → (u : Ty) → narrows t u ≡ true → seen_rows u now ≡ seen_rows u start ++ column
-all_pushed t column i start now l h u n =
-    sym (ap (λ (xs : List Val). seen_rows u now ++ xs) (drop_all i column l) ∙ append-nil (seen_rows u now)) ∙ (h u n).1
+-- a column's values behind others
+pub pushed_fit : (c : Column) (old new : List ScalarValue) (u : Ty) → narrows c.ty u ≡ true → values_fit u old ≡ true → AppendsRows c old new → values_fit u new ≡ true
+pushed_fit c old new u n k h = ap (values_fit u) h.behind ∙ fit_append u old h.more k (fit_wider c.ty u h.more n h.fit)
+
+pub pushed_rows : (c : Column) (old new : List ScalarValue) (u : Ty) → narrows c.ty u ≡ true → AppendsRows c old new → seen_rows u new ≡ seen_rows u old ++ c.rows
+pushed_rows c old new u n h =
+    ap (seen_rows u) h.behind ∙ seen_append u old h.more ∙ ap (λ rows. seen_rows u old ++ rows) (seen_wider c.ty u h.more n ∙ h.rows)
+
+-- what follows where a call answers
+pub where_ok : {A E : Type 0} {P Q : Type 0} (r : Result A E) → (P → Q) → IfOk r (λ _. P) → IfOk r (λ _. Q)
+where_ok (Ok a) f h = f h
+where_ok (Err e) f h = h

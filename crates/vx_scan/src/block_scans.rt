@@ -1,12 +1,10 @@
 // The scan of one block: its reads, and the rows that it gives.
 ghost use Rattle.std.specs.Prelude.{◌≡◌, ◌<◌, nat_eq, true, length, map, ◌++◌, IfOk};
 ghost use Rattle.std.specs.List.{list_all};
-ghost use Rattle.vx_dtype.specs.Fits.{fits};
-ghost use Rattle.vx_dtype.specs.RawViews.{raw_view};
 ghost use Rattle.vx_dtype.specs.TypeRules.{is_bool_ty};
 ghost use Rattle.vx_dtype.specs.TypeViews.{type_view};
 ghost use Rattle.vx_dtype.specs.Types.{Ty};
-ghost use Rattle.vx_column.specs.Columns.{row_at, seen, seen_rows, values_fit};
+ghost use Rattle.vx_column.specs.Columns.{seen_rows, values_fit};
 ghost use Rattle.vx_expr.specs.Trees.{Tree};
 ghost use Rattle.vx_laws_simplifying.specs.Narrowing.{narrows};
 ghost use Rattle.vx_semantics.specs.Scans.{reads_in, further_columns, matching_rows, block_rows};
@@ -118,19 +116,5 @@ fn push_values(alloc: Global, column: &ColumnRef, rows: &mut Vec<ScalarValue>) -
     ensures rows { (u : Ty) → narrows column.now.ty u ≡ true →
         IfOk result (λ _. seen_rows u rows.new.items ≡ seen_rows u rows.old.items ++ column.now.rows) }
 {
-    for i in 0..column.len() {
-        let value = value_at(alloc, column, i)?;
-        rows.push(value)?;
-    }
-    Ok(())
-}
-
-/// The value at this row, counted from 0.
-fn value_at(alloc: Global, column: &ColumnRef, i: usize) -> Mem<ScalarValue>
-    requires { i < length column.now.rows }
-    ensures fit { IfOk result (λ v. fits (raw_view v) column.now.ty ≡ true) }
-    ensures value { IfOk result (λ v. seen column.now.ty v ≡ row_at column.now i) }
-{
-    let scalar = column.scalar_at(alloc, i)?;
-    Ok(scalar.value().clone()?)
+    column.append_to(alloc, rows)
 }

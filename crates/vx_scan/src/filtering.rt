@@ -63,7 +63,7 @@ pub(crate) fn filter_block<S: ColumnStore>(
         unread.as_slice(),
     )?;
     let keep = evaluated(alloc, &scan.filter, columns.as_slice(), len, slots)?;
-    let count = keep.filter(alloc, &keep)?.len();
+    let count = keep.true_count();
     Ok(FilteredBlock {
         columns,
         keep,

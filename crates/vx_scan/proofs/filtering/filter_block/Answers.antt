@@ -1,17 +1,16 @@
 use Rattle.std.proofs.Common.{◌≡◌, ◌∙◌, sym, ap, List, [], length, Some, Ok, Err, subst}
 use Rattle.vx_dtype.specs.TypeViews.{type_view}
-use Rattle.vx_dtype.specs.Values.{Val}
 use Rattle.vx_column.specs.Columns.{Column}
+use Rattle.vx_column.proofs.TrueCounts.{length_kept_self}
 use Rattle.vx_semantics.specs.Asked.{asked_columns}
 use Rattle.vx_semantics.specs.Scans.{reads_in}
 use Rattle.vx_semantics.specs.Tables.{row_type}
 use Rattle.vx_scan.specs.Steps.{ending, AreColumnsOf, RunsPart}
-use Rattle.vx_scan.specs.declared.errors.ScanError.TheVariants.{NoMemory}
 use Rattle.vx_scan.proofs.ColumnLemmas.{columns_are}
 use Rattle.vx_scan.proofs.FilterLemmas.{asked_there, filter_reads, filter_columns, can_be_whole}
 use Rattle.vx_scan.proofs.GivenLemmas.{block_told, gives_whole, truths_of}
 use Rattle.vx_scan.proofs.NarrowLemmas.{narrow_is_bool}
-use Rattle.vx_scan.proofs.PartLemmas.{part_unread, part_cut, part_ran}
+use Rattle.vx_scan.proofs.PartLemmas.{part_unread, part_ran}
 use Rattle.vx_scan.proofs.ReadLemmas.{the_error}
 use Rattle.vx_scan.proofs.filtering.filter_block.Goals as goal
 
@@ -72,22 +71,8 @@ returns-in_err-keep-clause-runs g c = λ f p h.
     (c.in_err-keep.ensures.causes first.zones.columns f h.filter h.distinct (columns_are first block c.args.len scan.filter.columns c.as_slice-3.result.now c.requires.len columns))
     (gives_whole first slots f scan.filter block c.args.len c.as_slice-3.result.now (Err err) c.requires.len told columns h.filter h.distinct c.in_err-keep.ensures.told))
 
-pub filter-requires-clause-mask : goal.filter-requires-clause-mask
-filter-requires-clause-mask g c = narrow_is_bool c.in_ok-keep.keep.ty (type_view c.args.scan.now.filter.dtype) c.in_ok-keep.ensures.dtype c.requires.prepared.2.boolean
-
-pub returns-in_err-filter-clause-runs : goal.returns-in_err-filter-clause-runs
-returns-in_err-filter-clause-runs g c = λ f p h.
-    let first = g.S.ColumnStore.seen c.args.store.now in
-    let last = g.S.ColumnStore.seen c.read_columns.new.store in
-    let slots = c.args.slots.now in
-    let scan = c.args.scan.now in
-    let block = c.args.block in
-    let names : c.as_slice-names.result.now ≡ scan.filter.columns = c.as_slice-names.ensures ∙ c.columns.ensures in
-    let none : c.as_slice.result.now ≡ [] = c.as_slice.ensures.value ∙ c.new-none.ensures.items in
-    let told = block_told first block c.args.len c.requires.agrees c.requires.len in
-    let same = the_error c.from_residual-in_err-filter.result NoMemory c.from_residual-in_err-filter.ensures.0 c.from_residual-in_err-filter.ensures.1 in
-    let reads = filter_reads first last block c.as_slice.result.now c.as_slice-names.result.now scan.filter.columns (asked_columns (row_type first.zones.columns) f) (Ok tt) none names h.filter.columns c.in_ok-columns.ensures.reads in
-    subst (λ r. RunsPart slots f (reads_in block (asked_columns (row_type first.zones.columns) f)) block (λ rows. rows) first last (ending r)) (sym same) (part_cut slots f (reads_in block (asked_columns (row_type first.zones.columns) f)) block c.args.len (λ rows. rows) first last told reads)
+pub true_count-count-requires : goal.true_count-count-requires
+true_count-count-requires g c = narrow_is_bool c.in_ok-keep.keep.ty (type_view c.args.scan.now.filter.dtype) c.in_ok-keep.ensures.dtype c.requires.prepared.2.boolean
 
 pub returns-clause-runs : goal.returns-clause-runs
 returns-clause-runs g c = λ f p h.
@@ -127,6 +112,6 @@ returns-clause-filtered g c = λ f p h.
       columns = own;
       len = c.requires.len ∙ ap (λ n. Some n) (sym c.in_ok-keep.ensures.len);
       boolean = narrow_is_bool keep.ty (type_view scan.filter.dtype) c.in_ok-keep.ensures.dtype h.boolean;
-      count = c.len-count.ensures ∙ ap (λ (rows : List Val). length rows) c.in_ok-filter.ensures.rows;
+      count = c.true_count-count.ensures ∙ sym (length_kept_self keep.rows);
       told = truths_of first slots f block keep (gives_whole first slots f scan.filter block c.args.len c.as_slice-3.result.now (Ok keep) c.requires.len told columns h.filter h.distinct c.in_ok-keep.ensures.told);
     }
