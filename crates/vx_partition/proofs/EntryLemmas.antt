@@ -1,62 +1,198 @@
 -- The entries of a map of annotations: one that is looked up, and one that gets annotations; and sets that are joined.
-use Rattle.std.proofs.Common.{◌≡◌, ◌||◌, ℕ, ◌+◌, ◌<◌, ◌≤◌, Bool, true, false, cond, List, [], ◌∷◌, ◌++◌, length, map, drop, Option, Some, option_map, refl, ap, sym, ◌∙◌}
-use Rattle.std.specs.Prelude.{unwrap_or, is_some}
-use Rattle.std.specs.List.{list_any}
+use Rattle.std.proofs.Common.{◌≡◌, ◌||◌, ℕ, ◌+◌, ◌<◌, ◌≤◌, nat_eq, Bool, true, false, cond, List, [], ◌∷◌, ◌++◌, length, map, drop, Option, Some, None, option_map, refl, ap, sym, subst, ◌∙◌, true≢false}
+use Rattle.std.specs.Prelude.{unwrap_or, Decides}
+use Rattle.std.specs.Cmp.{unsigned_Decides}
+use Rattle.std.specs.List.{list_any, slice_get, flat_map}
 use Rattle.std.specs.Map.{lookup}
 use Rattle.std.proofs.Math.ListN.{get_or}
 use Rattle.std.proofs.lemmas.List.{drop_all, drop_more}
+use Rattle.std.proofs.lemmas.Option.{same_Some, none-some}
 use Rattle.indexmap.specs.IndexMap.{insert_entry}
+use Rattle.vx_expr.specs.Children.{one_of}
 use Rattle.vx_expr.specs.Equal.{tree_eq}
+use Rattle.vx_expr.specs.EqualLaws.{tree_decides}
 use Rattle.vx_expr.specs.Trees.{Tree}
 use Rattle.vx_passes.specs.Annotating.{Entry, entry_of, joined_sets, with_annotations}
+use Rattle.vx_transform.proofs.RebuildLemmas.{left_step}
+use Rattle.vx_partition.specs.Entries.{held_at, AreAtNumbers, IsSound, Extends}
+use Rattle.vx_partition.specs.Numbering.{known, AreNumbersOf, IsNumbering, KeepsNumbers, Grows}
+use Rattle.vx_partition.specs.Views.{entries_view, has_entry}
+use Rattle.vx_partition.specs.declared.annotations.Annotated.{Annotated}
+use Rattle.vx_partition.specs.declared.annotations.Annotations.{Annotations}
 
-module _ {A V : Type 0} (items : V → List A) where
-  -- the entries of pairs
-  abbrev pub as_entries : List (Tree × V) → List (Entry A)
-  as_entries es = map (λ e. record { expression = e.0; annotations = items e.1 }) es
+alike : (P Q : Type 0) (b c : Bool) → Decides b P → Decides c Q → (P → Q) → (Q → P) → b ≡ c
+alike P Q true true p q to from = refl
+alike P Q true false p q to from = absurd (true≢false (sym (q.1 (to (p.0 refl)))))
+alike P Q false true p q to from = absurd (true≢false (sym (p.1 (from (q.0 refl)))))
+alike P Q false false p q to from = refl
 
-  -- what an entry holds, and nothing where there is none
-  abbrev pub held_by : Option V → List A
-  held_by o = unwrap_or (option_map items o) []
+module _ {A : Type 0} where
+  -- the entries as a map sees them
+  abbrev pub as_entries : List (ℕ × Annotated A) → List (Entry A)
+  as_entries es = map (λ x. record { expression = x.1.expr; annotations = x.1.annotations.items }) es
 
-  found_by : (b : Bool) (v : V) (o : Option V) (more : List A) → held_by o ≡ more → held_by (cond b (Some v) o) ≡ cond b (items v) more
-  found_by true v o more h = refl
-  found_by false v o more h = h
+  -- the test by a number is at each entry the test by the expression
+  abbrev SameTest : ℕ → Tree → List (ℕ × Annotated A) → Type 0
+  SameTest n e [] = Unit {0}
+  SameTest n e (x ∷ es) = (nat_eq n x.0 ≡ tree_eq e x.1.expr) × SameTest n e es
 
-  -- what is looked up is what the entry holds
-  pub looked_up : (e : Tree) (es : List (Tree × V)) → held_by (lookup (tree_eq e) es) ≡ entry_of e (as_entries es)
-  looked_up e [] = refl
-  looked_up e (x ∷ es) = found_by (tree_eq e x.0) x.1 (lookup (tree_eq e) es) (entry_of e (as_entries es)) (looked_up e es)
+  module _ (known : List Tree) (once : (m n : ℕ) (e : Tree) → slice_get known m ≡ Some e → slice_get known n ≡ Some e → m ≡ n)
+      (n : ℕ) (e : Tree) (at : slice_get known n ≡ Some e) where
+    same_test : (es : List (ℕ × Annotated A)) → AreAtNumbers known es → SameTest n e es
+    same_test [] h = tt
+    same_test (x ∷ es) h = (
+      alike (n ≡ x.0) (e ≡ x.1.expr) (nat_eq n x.0) (tree_eq e x.1.expr) (unsigned_Decides n x.0) (tree_decides e x.1.expr)
+          (λ is. same_Some e x.1.expr (sym at ∙ ap (slice_get known) is ∙ h.0)) (λ is. once n x.0 e at (h.0 ∙ ap Some (sym is))),
+      same_test es h.1,
+    )
 
-  pub is_held : (e : Tree) (es : List (Tree × V)) (o : Option V) → o ≡ lookup (tree_eq e) es → held_by o ≡ entry_of e (as_entries es)
-  is_held e es o is = ap held_by is ∙ looked_up e es
+  held_where : (b : Bool) (x : Annotated A) (o : Option (Annotated A)) (more : List A)
+      → unwrap_or (option_map (λ y. y.annotations.items) o) [] ≡ more
+      → unwrap_or (option_map (λ y. y.annotations.items) (cond b (Some x) o)) [] ≡ cond b x.annotations.items more
+  held_where true x o more h = refl
+  held_where false x o more h = h
 
-  is_found_by : (b : Bool) (v : V) (o : Option V) (more : Bool) → is_some o ≡ more → is_some (cond b (Some v) o) ≡ (b || more)
-  is_found_by true v o more h = refl
-  is_found_by false v o more h = h
+  held_is : (n : ℕ) (e : Tree) (es : List (ℕ × Annotated A)) → SameTest n e es → held_at n es ≡ entry_of e (as_entries es)
+  held_is n e [] h = refl
+  held_is n e (x ∷ es) h =
+      held_where (nat_eq n x.0) x.1 (lookup (nat_eq n) es) (entry_of e (as_entries es)) (held_is n e es h.1)
+      ∙ ap (λ b. cond b x.1.annotations.items (entry_of e (as_entries es))) h.0
 
-  -- what is looked up is found where there is an entry
-  pub is_found : (e : Tree) (es : List (Tree × V)) → is_some (lookup (tree_eq e) es) ≡ list_any (λ x. tree_eq e x.expression) (as_entries es)
-  is_found e [] = refl
-  is_found e (x ∷ es) =
-      is_found_by (tree_eq e x.0) x.1 (lookup (tree_eq e) es) (list_any (λ y. tree_eq e y.expression) (as_entries es)) (is_found e es)
-
-  module _ (same : A → A → Bool) (e : Tree) (ys : List A) (v : V) where
-    here : (b : Bool) (x : Tree × V) (es with_v : List (Tree × V)) (rest : List (Entry A))
-        → (cond b (items x.1) (entry_of e (as_entries es)) ≡ entry_of e (as_entries (x ∷ es)))
-        → items v ≡ joined_sets same (cond b (items x.1) (entry_of e (as_entries es))) ys
-        → (items v ≡ joined_sets same (entry_of e (as_entries es)) ys → as_entries with_v ≡ rest)
+  module _ (same : A → A → Bool) (n : ℕ) (ys : List A) (v : Annotated A) where
+    here : (b : Bool) (x : ℕ × Annotated A) (es with_v : List (ℕ × Annotated A)) (rest : List (Entry A))
+        → (b ≡ true → v.expr ≡ x.1.expr)
+        → v.annotations.items ≡ joined_sets same (cond b x.1.annotations.items (entry_of v.expr (as_entries es))) ys
+        → (v.annotations.items ≡ joined_sets same (entry_of v.expr (as_entries es)) ys → as_entries with_v ≡ rest)
         → as_entries (cond b ((x.0, v) ∷ es) (x ∷ with_v))
-        ≡ cond b (record { expression = x.0; annotations = joined_sets same (items x.1) ys } ∷ as_entries es) (record { expression = x.0; annotations = items x.1 } ∷ rest)
-    here true x es with_v rest h joined next = ap (λ zs. record { expression = x.0; annotations = zs } ∷ as_entries es) joined
-    here false x es with_v rest h joined next = ap (λ zs. record { expression = x.0; annotations = items x.1 } ∷ zs) (next joined)
+        ≡ cond b (record { expression = x.1.expr; annotations = joined_sets same x.1.annotations.items ys } ∷ as_entries es)
+        (record { expression = x.1.expr; annotations = x.1.annotations.items } ∷ rest)
+    here true x es with_v rest is joined next = λ i. record { expression = is refl i; annotations = joined i } ∷ as_entries es
+    here false x es with_v rest is joined next = ap (λ zs. record { expression = x.1.expr; annotations = x.1.annotations.items } ∷ zs) (next joined)
 
     -- the entry with what it held, joined with more
-    pub added : (es : List (Tree × V)) → items v ≡ joined_sets same (entry_of e (as_entries es)) ys
-        → as_entries (insert_entry tree_eq es e v) ≡ with_annotations same e ys (as_entries es)
-    added [] joined = ap (λ zs. record { expression = e; annotations = zs } ∷ []) joined
-    added (x ∷ es) joined =
-        here (tree_eq e x.0) x es (insert_entry tree_eq es e v) (with_annotations same e ys (as_entries es)) refl joined (added es)
+    added_to : (es : List (ℕ × Annotated A)) → SameTest n v.expr es → v.annotations.items ≡ joined_sets same (entry_of v.expr (as_entries es)) ys
+        → as_entries (insert_entry nat_eq es n v) ≡ with_annotations same v.expr ys (as_entries es)
+    added_to [] h joined = ap (λ zs. record { expression = v.expr; annotations = zs } ∷ []) joined
+    added_to (x ∷ es) h joined =
+        ap (λ b. as_entries (cond b ((x.0, v) ∷ es) (x ∷ insert_entry nat_eq es n v))) h.0
+        ∙ here (tree_eq v.expr x.1.expr) x es (insert_entry nat_eq es n v) (with_annotations same v.expr ys (as_entries es)) (tree_decides v.expr x.1.expr).0 joined
+        (added_to es h.1)
+
+  at_where : (known : List Tree) (b : Bool) (x : ℕ × Annotated A) (v : Annotated A) (es with_v : List (ℕ × Annotated A))
+      → (b ≡ true → slice_get known x.0 ≡ Some v.expr) → AreAtNumbers known (x ∷ es) → AreAtNumbers known with_v
+      → AreAtNumbers known (cond b ((x.0, v) ∷ es) (x ∷ with_v))
+  at_where known true x v es with_v is h next = (is refl, h.1)
+  at_where known false x v es with_v is h next = (h.0, next)
+
+  -- entries stay at their numbers where one is made or changed
+  still_at : (known : List Tree) (n : ℕ) (v : Annotated A) (es : List (ℕ × Annotated A)) → slice_get known n ≡ Some v.expr → AreAtNumbers known es
+      → AreAtNumbers known (insert_entry nat_eq es n v)
+  still_at known n v [] at h = (at, tt)
+  still_at known n v (x ∷ es) at h =
+      at_where known (nat_eq n x.0) x v es (insert_entry nat_eq es n v) (λ b. ap (slice_get known) (sym ((unsigned_Decides n x.0).0 b)) ∙ at) h
+      (still_at known n v es at h.1)
+
+  kept_at : (old new : List Tree) → KeepsNumbers old new → (es : List (ℕ × Annotated A)) → AreAtNumbers old es → AreAtNumbers new es
+  kept_at old new kept [] h = tt
+  kept_at old new kept (x ∷ es) h = (kept x.0 x.1.expr h.0, kept_at old new kept es h.1)
+
+  -- ---- entry by entry
+
+  module _ (e : Tree) (es : List (ℕ × Annotated A)) (i : ℕ) (x : Annotated A) (at : option_map (λ y. y.1) (slice_get es i) ≡ Some x) where
+    left_with : (y : Option (ℕ × Annotated A)) → slice_get es i ≡ y → option_map (λ z. z.1) y ≡ Some x
+        → as_entries (drop i es) ≡ record { expression = x.expr; annotations = x.annotations.items } ∷ as_entries (drop (i + 1) es)
+    left_with None is h = absurd (none-some x h)
+    left_with (Some y) is h =
+        ap as_entries (left_step es i y is)
+        ∙ ap (λ z. record { expression = z.expr; annotations = z.annotations.items } ∷ as_entries (drop (i + 1) es)) (same_Some y.1 x h)
+
+    left_is : as_entries (drop i es) ≡ record { expression = x.expr; annotations = x.annotations.items } ∷ as_entries (drop (i + 1) es)
+    left_is = left_with (slice_get es i) refl at
+
+    pub held_here : tree_eq e x.expr ≡ true → entry_of e (as_entries (drop i es)) ≡ x.annotations.items
+    held_here is =
+        ap (entry_of e) left_is ∙ ap (λ b. cond b x.annotations.items (entry_of e (as_entries (drop (i + 1) es)))) is
+
+    pub has_here : tree_eq e x.expr ≡ true → has_entry e (as_entries (drop i es)) ≡ true
+    has_here is = ap (has_entry e) left_is ∙ ap (λ b. b || has_entry e (as_entries (drop (i + 1) es))) is
+
+    pub held_later : tree_eq e x.expr ≡ false → entry_of e (as_entries (drop i es)) ≡ entry_of e (as_entries (drop (i + 1) es))
+    held_later is =
+        ap (entry_of e) left_is ∙ ap (λ b. cond b x.annotations.items (entry_of e (as_entries (drop (i + 1) es)))) is
+
+    pub has_later : tree_eq e x.expr ≡ false → has_entry e (as_entries (drop i es)) ≡ has_entry e (as_entries (drop (i + 1) es))
+    has_later is = ap (has_entry e) left_is ∙ ap (λ b. b || has_entry e (as_entries (drop (i + 1) es))) is
+
+  -- ---- sound maps
+
+  -- what the entry at an expression's number holds is what the expression's entry holds
+  pub held_entry : (m : Annotations A) → IsSound m → (n : ℕ) (e : Tree) → slice_get (known m.numbers) n ≡ Some e
+      → held_at n m.entries.entries ≡ entry_of e (entries_view m)
+  held_entry m sound n e at =
+      held_is n e m.entries.entries (same_test (known m.numbers) sound.numbering.once n e at m.entries.entries sound.entries)
+
+  pub only_held : (m : Annotations A) → IsSound m → (n : ℕ) (e : Tree) → slice_get (known m.numbers) n ≡ Some e → (o : Option A)
+      → o ≡ one_of (held_at n m.entries.entries) → o ≡ one_of (entry_of e (entries_view m))
+  only_held m sound n e at o is = is ∙ ap one_of (held_entry m sound n e at)
+
+  -- the same of several, one after another
+  held_entries : (m : Annotations A) → IsSound m → (ns : List ℕ) (es : List Tree) → AreNumbersOf (known m.numbers) ns es
+      → flat_map (λ n. held_at n m.entries.entries) ns ≡ flat_map (λ e. entry_of e (entries_view m)) es
+  held_entries m sound [] [] h = refl
+  held_entries m sound [] (e ∷ es) h = absurd h
+  held_entries m sound (n ∷ ns) [] h = absurd h
+  held_entries m sound (n ∷ ns) (e ∷ es) h = λ i. held_entry m sound n e h.0 i ++ held_entries m sound ns es h.1 i
+
+  pub held_below : (m : Annotations A) → IsSound m → (ns : List ℕ) (es : List Tree) → AreNumbersOf (known m.numbers) ns es → (held : List A)
+      → held ≡ flat_map (λ n. held_at n m.entries.entries) ns → held ≡ flat_map (λ e. entry_of e (entries_view m)) es
+  held_below m sound ns es h held is = is ∙ held_entries m sound ns es h
+
+  -- the map with more annotations at an expression
+  module _ (same : A → A → Bool) (old : Annotations A) (sound : IsSound old) (n : ℕ) (e : Tree) (at : slice_get (known old.numbers) n ≡ Some e)
+      (v : Annotated A) (is : v.expr ≡ e) (ys : List A) (joined : v.annotations.items ≡ joined_sets same (held_at n old.entries.entries) ys)
+      (new : List (ℕ × Annotated A)) (inserted : new ≡ insert_entry nat_eq old.entries.entries n v) where
+    at_v : slice_get (known old.numbers) n ≡ Some v.expr
+    at_v = at ∙ ap Some (sym is)
+
+    pub entry_added : as_entries new ≡ with_annotations same e ys (entries_view old)
+    entry_added =
+        ap as_entries inserted
+        ∙ added_to same n ys v old.entries.entries (same_test (known old.numbers) sound.numbering.once n v.expr at_v old.entries.entries sound.entries)
+        (joined ∙ ap (λ xs. joined_sets same xs ys) (held_entry old sound n v.expr at_v))
+        ∙ ap (λ d. with_annotations same d ys (entries_view old)) is
+
+    pub entries_at : AreAtNumbers (known old.numbers) new
+    entries_at =
+        subst (AreAtNumbers (known old.numbers)) (sym inserted) (still_at (known old.numbers) n v old.entries.entries at_v sound.entries)
+
+  -- with more numbers a map is sound
+  pub sound_with : (old new : Annotations A) → IsSound old → Grows old.numbers new.numbers → new.entries.entries ≡ old.entries.entries → Extends old new
+  sound_with old new sound grown is =
+      record {
+        sound =
+            record {
+              numbering = grown.numbering;
+              entries =
+                  subst (AreAtNumbers (known new.numbers)) (sym is)
+                  (kept_at (known old.numbers) (known new.numbers) grown.kept old.entries.entries sound.entries);
+            };
+        kept = grown.kept;
+      }
+
+  -- with more entries at known numbers a map is sound
+  pub extended_with : (old new : Annotations A) → IsSound old → new.numbers ≡ old.numbers → AreAtNumbers (known old.numbers) new.entries.entries → Extends old new
+  extended_with old new sound is at =
+      record {
+        sound =
+            record {
+              numbering = subst (λ m. IsNumbering m.rows.entries) (sym is) sound.numbering;
+              entries = subst (λ m. AreAtNumbers (known m) new.entries.entries) (sym is) at;
+            };
+        kept = λ n e h. ap (λ m. slice_get (known m) n) is ∙ h;
+      }
+
+  pub extends_on : (old mid new : Annotations A) → Extends old mid → Extends mid new → Extends old new
+  extends_on old mid new first second = record { sound = second.sound; kept = λ n e at. second.kept n e (first.kept n e at) }
 
 -- ---- sets, annotation by annotation
 

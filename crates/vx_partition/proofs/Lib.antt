@@ -1,3 +1,5 @@
+mod NumberLemmas
+mod TableLemmas
 mod EntryLemmas
 mod VisitLemmas
 mod ScopeLemmas

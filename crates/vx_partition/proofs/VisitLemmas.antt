@@ -1,11 +1,12 @@
 -- A visit of an expression goes by its children.
-use Rattle.std.proofs.Common.{◌≡◌, ℕ, ◌+◌, ◌≤◌, Bool, List, [], ◌∷◌, ◌++◌, length, take, drop, Some, Ok, Err, Result, refl, sym, ap, ◌∙◌, append_assoc, append-nil, arith}
+use Rattle.std.proofs.Common.{◌≡◌, ℕ, ◌+◌, ◌<◌, ◌≤◌, Bool, List, [], ◌∷◌, ◌++◌, length, take, drop, Some, Ok, Err, Result, refl, sym, ap, ◌∙◌, append_assoc, append-nil, arith}
 use Rattle.std.specs.Prelude.{OnOk}
 use Rattle.std.specs.List.{slice_get, flat_map}
-use Rattle.std.proofs.lemmas.List.{drop_all, take_all}
+use Rattle.std.proofs.Math.ListN.{get_or}
+use Rattle.std.proofs.lemmas.List.{drop_all, take_all, take_more}
 use Rattle.vx_expr.specs.Trees.{Tree, root, literal, get_item, binary, not_of, is_null_of, like, between, cast, list_contains, pack, merge, select, dynamic, Trees, no_trees, tree, listed, children_of}
 use Rattle.vx_passes.specs.Annotating.{Entry, with_annotations, annotated_down, annotated_up, annotated_node, annotated_from, all_annotated_from}
-use Rattle.vx_transform.proofs.RebuildLemmas.{left_step, taken_step}
+use Rattle.vx_transform.proofs.RebuildLemmas.{left_step}
 use Rattle.vx_partition.specs.Visits.{visited_in_turn}
 
 module _ {A : Type 0} (same : A → A → Bool) (annotate : Tree → List A) where
@@ -72,11 +73,12 @@ flat_map_behind : {X Y : Type 0} (f : X → List Y) (xs : List X) (x : X) → fl
 flat_map_behind f [] x = append-nil (f x)
 flat_map_behind f (z ∷ xs) x = ap (λ ys. f z ++ ys) (flat_map_behind f xs x) ∙ sym (append_assoc (f z) (flat_map f xs) (f x))
 
--- what the children up to this one give
-pub next_held : {Y : Type 0} (f : Tree → List Y) (cs : List Tree) (i : ℕ) (c : Tree) (held held_with : List Y) → held ≡ flat_map f (take i cs)
-    → slice_get cs i ≡ Some c → held_with ≡ held ++ f c → held_with ≡ flat_map f (take (i + 1) cs)
-next_held f cs i c held held_with so_far at is =
-    is ∙ ap (λ ys. ys ++ f c) so_far ∙ sym (flat_map_behind f (take i cs) c) ∙ ap (flat_map f) (sym (taken_step cs i c at))
+-- what the elements up to this one give
+pub next_held : {X Y : Type 0} (f : X → List Y) (xs : List X) (i : ℕ) (x : X) (held held_with : List Y) → held ≡ flat_map f (take i xs)
+    → i < length xs → x ≡ get_or xs i x → held_with ≡ held ++ f x → held_with ≡ flat_map f (take (i + 1) xs)
+next_held f xs i x held held_with so_far within at is =
+    is ∙ ap (λ ys. ys ++ f x) so_far ∙ sym (flat_map_behind f (take i xs) x)
+    ∙ ap (flat_map f) (sym (take_more xs i x within ∙ ap (λ y. take i xs ++ y ∷ []) (sym at)))
 
-pub all_held : {Y : Type 0} (f : Tree → List Y) (cs : List Tree) (i : ℕ) (held : List Y) → held ≡ flat_map f (take i cs) → length cs ≤ i → held ≡ flat_map f cs
-all_held f cs i held so_far past = so_far ∙ ap (flat_map f) (take_all i cs past)
+pub all_held : {X Y : Type 0} (f : X → List Y) (xs : List X) (i : ℕ) (held : List Y) → held ≡ flat_map f (take i xs) → length xs ≤ i → held ≡ flat_map f xs
+all_held f xs i held so_far past = so_far ∙ ap (flat_map f) (take_all i xs past)

@@ -12,7 +12,7 @@ use Rattle.vx_partition.specs.declared.shares.Shares.{Shares}
 
 -- the entries of a map of annotations, in order
 abbrev pub entries_view : {A : Type 0} → Annotations A → List (Entry A)
-entries_view m = map (λ e. record { expression = e.0; annotations = e.1.items }) m.entries.entries
+entries_view m = map (λ e. record { expression = e.1.expr; annotations = e.1.annotations.items }) m.entries.entries
 
 -- whether an expression has an entry
 abbrev pub has_entry : {A : Type 0} → Tree → List (Entry A) → Bool

@@ -4,6 +4,7 @@
 mod annotating;
 mod annotation;
 mod annotations;
+mod numbers;
 mod partitions;
 mod scope_access;
 mod shares;

@@ -7,7 +7,7 @@ ghost use Rattle.vx_passes.specs.Annotating.{annotated, entry_of};
 ghost use Rattle.vx_partition.specs.Scopes.{access_scope, columns_of};
 ghost use Rattle.vx_partition.specs.Views.{entries_view};
 
-use crate::annotating::descendent_annotations;
+use crate::annotating::{descendent_annotations, numbered_annotations};
 use crate::annotation::AnnotationFn;
 use crate::annotations::{Annotations, push_clones};
 use std::alloc::Global;
@@ -84,8 +84,8 @@ pub fn immediate_scope_access(
 ) -> Mem<Vec<FieldName>>
     ensures { IfOk result (λ columns. columns.items ≡ entry_of expr.now (annotated bytes_eq (columns_of scope.now) expr.now)) }
 {
-    let found = immediate_scope_accesses(alloc, expr, scope)?;
+    let (found, number) = numbered_annotations(alloc, expr, &annotate_scope_access(scope))?;
     let mut columns = Vec::new(alloc);
-    found.push_held(expr, &mut columns)?;
+    found.push_held(number, &mut columns)?;
     Ok(columns)
 }

@@ -7,7 +7,7 @@ ghost use Rattle.vx_transform.specs.TransformAnswers.{AnswersBy};
 ghost use Rattle.vx_partition.specs.Splits.{first_of, in_columns, split_view};
 ghost use Rattle.vx_partition.specs.Views.{partition_view};
 
-use crate::annotating::descendent_annotations;
+use crate::annotating::numbered_annotations;
 use crate::annotation::{Annotation, AnnotationFn};
 use crate::partitions::{Partition, partitions_of};
 use crate::shares::{Shares, text_name};
@@ -48,7 +48,7 @@ fn place_of<A: Annotation>(id: &A, annotations: &[A]) -> Option<usize>
 }
 
 /// An expression over a scope of this type, split by the annotations of a rule. Going down from the root, left to right, each expression
-/// whose entry, as [`descendent_annotations`] makes it, has exactly one annotation becomes the next part of this annotation, and its
+/// whose entry, as [`crate::descendent_annotations`] makes it, has exactly one annotation becomes the next part of this annotation, and its
 /// place takes the part's field, `<annotation>_<number>` counted from 0, of the field `<annotation>` of the row. The parts of each
 /// annotation are packed under these names, not nullable, simplified by types over the scope and typed by the looser rules. The root is
 /// simplified by types over the struct, not nullable, of what the partitions give.
@@ -69,9 +69,9 @@ pub fn partition<F: AnnotationFn>(
         let told = split F.Annotation.eq text (F.annotated annotate_fn.now) (type_view scope.now) expr in
         AnswersBy split_view (and_then told (λ made. Ok (in_columns text made))) result }
 {
-    let found = descendent_annotations(alloc, &expr, annotate_fn)?;
+    let (found, number) = numbered_annotations(alloc, &expr, annotate_fn)?;
     let mut shares = Shares::new(alloc);
-    let made = take(alloc, &expr, &found, &mut shares)?;
+    let made = take(alloc, &expr, number, &found, &mut shares)?;
     let partitions = partitions_of(alloc, &shares, scope)?;
     with_root(alloc, made.unwrap_or(expr), partitions.as_slice())
 }

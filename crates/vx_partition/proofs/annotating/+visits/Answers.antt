@@ -1,10 +1,14 @@
-use Rattle.std.proofs.Common.{◌≡◌, arith, rules}
+use Rattle.std.proofs.Common.{arith, refl, rules}
 use Rattle.vx_expr.specs.Trees.{children_of}
-use Rattle.vx_passes.specs.Annotating.{annotated_from, annotated_up}
 use Rattle.vx_transform.proofs.RebuildLemmas.{child_lower}
+use Rattle.vx_partition.specs.Entries.{Extends}
+use Rattle.vx_partition.specs.Numbering.{known, Grows}
 use Rattle.vx_partition.specs.Views.{entries_view}
 use Rattle.vx_partition.specs.Visits.{visited_in_turn}
-use Rattle.vx_partition.proofs.VisitLemmas.{up_after, on_ok, next_visited}
+use Rattle.vx_partition.specs.declared.annotations.Annotations.{Annotations}
+use Rattle.vx_partition.proofs.EntryLemmas.{extends_on, sound_with}
+use Rattle.vx_partition.proofs.TableLemmas.{next_numbered}
+use Rattle.vx_partition.proofs.VisitLemmas.{up_after, next_visited, on_ok}
 use Rattle.vx_partition.proofs.annotating.+visits.Goals as goal
 
 pub visit-returns : goal.visit-returns
@@ -12,10 +16,14 @@ visit-returns g t c =
     let same = g.F.Annotation.PartialEq.eq in
     let rule = g.F.AnnotationFn.annotated c.args.annotate.now in
     let e = c.args.expr.now in
-    let down = entries_view c.visit_down.new.found in
-    let up = entries_view c.visit_up.new.found in
-    on_ok c.visit_up.result (up ≡ annotated_up same e down) (up ≡ annotated_from same rule e (entries_view c.args.found.now))
-    (up_after same rule e (entries_view c.args.found.now) down up c.in_ok-visit_down.ensures) c.visit_up.ensures
+    let old = c.args.found.now in
+    let down = c.visit_down.new.found in
+    let up = c.visit_up.new.found in
+    record {
+      entries = up_after same rule e (entries_view old) (entries_view down) (entries_view up) c.in_ok-number.ensures.entries c.in_ok-visit_up.ensures.entries;
+      extended = extends_on old down up c.in_ok-number.ensures.extended c.in_ok-visit_up.ensures.extended;
+      number = c.in_ok-visit_up.ensures.extended.kept c.in_ok-number.number e c.in_ok-number.ensures.number;
+    }
 
 pub visit_children-visit-requires : goal.visit_children-visit-requires
 visit_children-visit-requires g t c κs within =
@@ -26,5 +34,27 @@ visit_children-loop-i-preserved g t c =
     let same = g.F.Annotation.PartialEq.eq in
     let rule = g.F.AnnotationFn.annotated c.args.annotate.now in
     let cs = children_of c.args.expr.now in
-    next_visited same rule cs c.loop-i.i (visited_in_turn same rule cs (entries_view c.args.found.now)) (entries_view c.loop-i.found) c.loop-i.invariant
-    c.child_at.result.now (entries_view c.visit.new.found) c.child_at.ensures c.in_ok-visit.ensures
+    let extended = c.in_ok-visit.ensures.extended in (
+      next_visited same rule cs c.loop-i.i (visited_in_turn same rule cs (entries_view c.args.found.now)) (entries_view c.loop-i.found) c.loop-i.invariant.0
+          c.child_at.result.now (entries_view c.visit.new.found) c.child_at.ensures c.in_ok-visit.ensures.entries,
+      (
+        extends_on c.args.found.now c.loop-i.found c.visit.new.found c.loop-i.invariant.1.0 extended,
+        next_numbered (known c.loop-i.found.numbers) (known c.visit.new.found.numbers) extended.kept c.loop-i.below.items c.push.new.self.items cs c.loop-i.i
+            c.loop-i.invariant.1.1 c.in_ok-visit.field-0 c.child_at.result.now c.child_at.ensures c.in_ok-visit.ensures.number c.in_ok-push.ensures.items,
+      ),
+    )
+
+pub visit_children-returns-clause-extended : goal.visit_children-returns-clause-extended
+visit_children-returns-clause-extended g t c =
+    let old = c.args.found.now in
+    let mid = c.loop-i.found in
+    let new : Annotations g.row.F-Annotation.Denot = record { numbers = c.number.new.self; entries = mid.entries } in
+    let so_far = c.loop-i.invariant.1.0 in
+    on_ok c.number.result (Grows mid.numbers c.number.new.self) (Extends old new)
+    (λ grown. extends_on old mid new so_far (sound_with mid new so_far.sound grown refl)) c.number.ensures.grown
+
+pub visit_down-add-requires-clause-sound : goal.visit_down-add-requires-clause-sound
+visit_down-add-requires-clause-sound g t c =
+    let old = c.args.found.now in
+    let new : Annotations g.row.F-Annotation.Denot = record { numbers = c.number_whole.new.self; entries = old.entries } in
+    (sound_with old new c.requires c.in_ok-number.ensures.grown refl).sound

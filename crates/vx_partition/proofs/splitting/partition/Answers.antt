@@ -19,7 +19,7 @@ returns g c =
     let items = c.in_ok-partitions.partitions.items in
     let whole =
     taken_whole text same (annotated same rule e) (entries_view c.in_ok-found.found) e (shares_view c.new-shares.result) c.in_ok-made.made ss
-    c.in_ok-found.ensures c.new-shares.ensures c.in_ok-made.ensures in
+    c.in_ok-found.ensures.entries c.new-shares.ensures c.in_ok-made.ensures in
     let split_so =
     split_by text (type_view c.args.scope.now) (taken_from same text (annotated same rule e) e []) (or_same e c.in_ok-made.made) ss whole
     (map partition_view items) c.in_ok-partitions.ensures in

@@ -1,17 +1,25 @@
-use Rattle.std.proofs.Common.{◌∙◌, ◌++◌, ap}
-use Rattle.indexmap.specs.IndexMap.{insert_entry}
-use Rattle.vx_expr.specs.Equal.{tree_eq}
-use Rattle.vx_passes.specs.Annotating.{entry_of, joined_sets}
-use Rattle.vx_partition.specs.Views.{entries_view}
-use Rattle.vx_partition.proofs.EntryLemmas.{as_entries, added}
+use Rattle.std.proofs.Common.{◌∙◌, ◌++◌, ap, refl}
+use Rattle.vx_passes.specs.Annotating.{joined_sets}
+use Rattle.vx_partition.specs.Entries.{held_at}
+use Rattle.vx_partition.specs.declared.annotations.Annotated.{Annotated}
+use Rattle.vx_partition.specs.declared.annotations.Annotations.{Annotations}
+use Rattle.vx_partition.proofs.EntryLemmas.{entry_added, entries_at, extended_with}
 use Rattle.vx_partition.proofs.annotations.Annotations.add.Goals as goal
 
 pub returns : goal.returns
 returns g c =
-    let e = c.args.expr.now in
-    let old = c.args.self.now.entries.entries in
-    let held = c.in_ok-push_held.ensures ∙ ap (λ xs. xs ++ entry_of e (entries_view c.args.self.now)) c.new-joined.ensures.items in
-    let joined = c.in_ok-join.ensures ∙ ap (λ xs. joined_sets g.A.PartialEq.eq xs c.args.more.now) held in
-    ap (as_entries (λ v. v.items)) c.in_ok-insert.ensures.entries
-    ∙ ap (λ k. as_entries (λ v. v.items) (insert_entry tree_eq old k c.join.new.set)) c.in_ok-clone.ensures.cases
-    ∙ added (λ v. v.items) g.A.PartialEq.eq e c.args.more.now c.join.new.set old joined
+    let same = g.A.PartialEq.eq in
+    let old = c.args.self.now in
+    let n = c.args.number in
+    let more = c.args.more.now in
+    let held = c.in_ok-push_held.ensures ∙ ap (λ xs. xs ++ held_at n old.entries.entries) c.new-annotations.ensures.items in
+    let joined = c.in_ok-join.ensures ∙ ap (λ xs. joined_sets same xs more) held in
+    let v : Annotated g.row.A.Denot = record { expr = c.in_ok-clone.field-0; annotations = c.join.new.set } in
+    let inserted = c.in_ok-insert.ensures.entries in
+    let new : Annotations g.row.A.Denot = record { numbers = old.numbers; entries = c.insert.new.self } in
+    record {
+      entries = entry_added same old c.requires.sound n c.args.expr.now c.requires.number v c.in_ok-clone.ensures.cases more joined c.insert.new.self.entries inserted;
+      extended =
+          extended_with old new c.requires.sound refl
+          (entries_at same old c.requires.sound n c.args.expr.now c.requires.number v c.in_ok-clone.ensures.cases more joined c.insert.new.self.entries inserted);
+    }

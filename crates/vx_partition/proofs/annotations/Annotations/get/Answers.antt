@@ -1,17 +1,24 @@
-use Rattle.std.proofs.Common.{◌∙◌, ap, Some, None}
-use Rattle.std.specs.Prelude.{is_some}
-use Rattle.vx_partition.proofs.EntryLemmas.{is_held, is_found}
+use Rattle.std.proofs.Common.{sym, ◌∙◌}
+use Rattle.vx_partition.proofs.EntryLemmas.{held_here, has_here, held_later, has_later}
 use Rattle.vx_partition.proofs.annotations.Annotations.get.Goals as goal
 
-pub returns-in-Some : goal.returns-in-Some
-returns-in-Some g c = record {
-  held = c.as_slice.ensures.value
-      ∙ is_held (λ v. v.items) c.args.expr.now c.args.self.now.entries.entries (Some c.in-Some.held.now) c.in-Some.ensures.value;
-  known = ap is_some c.in-Some.ensures.value ∙ is_found (λ v. v.items) c.args.expr.now c.args.self.now.entries.entries;
-}
+pub returns-then-eq-clause-held : goal.returns-then-eq-clause-held
+returns-then-eq-clause-held g c =
+    let is = sym c.eq.ensures.gives ∙ c.if-eq.true in
+    let entries = c.args.self.now.entries.entries in
+    c.as_slice.ensures.value
+    ∙ sym (c.loop-place.invariant.0 ∙ held_here c.args.expr.now entries c.loop-place.place c.entry_at-entry.result.now c.entry_at-entry.ensures is)
 
-pub returns-in-None : goal.returns-in-None
-returns-in-None g c = record {
-  held = is_held (λ v. v.items) c.args.expr.now c.args.self.now.entries.entries None c.in-None.ensures.value;
-  known = ap is_some c.in-None.ensures.value ∙ is_found (λ v. v.items) c.args.expr.now c.args.self.now.entries.entries;
-}
+pub returns-then-eq-clause-known : goal.returns-then-eq-clause-known
+returns-then-eq-clause-known g c =
+    let is = sym c.eq.ensures.gives ∙ c.if-eq.true in
+    let entries = c.args.self.now.entries.entries in
+    sym (c.loop-place.invariant.1 ∙ has_here c.args.expr.now entries c.loop-place.place c.entry_at-entry.result.now c.entry_at-entry.ensures is)
+
+pub loop-place-preserved : goal.loop-place-preserved
+loop-place-preserved g c =
+    let is = sym c.eq.ensures.gives ∙ c.if-eq.false in
+    let entries = c.args.self.now.entries.entries in (
+      c.loop-place.invariant.0 ∙ held_later c.args.expr.now entries c.loop-place.place c.entry_at-entry.result.now c.entry_at-entry.ensures is,
+      c.loop-place.invariant.1 ∙ has_later c.args.expr.now entries c.loop-place.place c.entry_at-entry.result.now c.entry_at-entry.ensures is,
+    )

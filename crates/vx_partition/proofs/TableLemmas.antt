@@ -1,0 +1,233 @@
+-- Tables of numbered expressions: what a row says, and what a row that is new adds.
+use Rattle.std.proofs.Common.{◌≡◌, ℕ, zero, suc, ◌+◌, Bool, true, false, cond, List, [], ◌∷◌, ◌++◌, length, take, Option, Some, None, ◌⊎◌, inl, inr, refl, sym, ap, subst, ◌∙◌, true≢false}
+use Rattle.std.specs.List.{slice_get}
+use Rattle.std.specs.Map.{lookup, lookup_key}
+use Rattle.std.proofs.lemmas.Option.{same_Some, none-some}
+use Rattle.indexmap.specs.IndexMap.{insert_entry}
+use Rattle.vx_expr.specs.Equal.{tree_eq}
+use Rattle.vx_expr.specs.EqualLaws.{tree_decides}
+use Rattle.vx_expr.specs.Trees.{Tree, children_of}
+use Rattle.vx_partition.specs.Numbering.{over_numbers, exprs_of, AreNumbersOf, IsNumbering, KeepsNumbers, Grows}
+use Rattle.vx_partition.specs.declared.numbers.Numbered.{Numbered}
+use Rattle.vx_partition.specs.declared.numbers.Numbers.{Numbers}
+use Rattle.vx_transform.proofs.RebuildLemmas.{taken_step}
+use Rattle.vx_partition.proofs.NumberLemmas.{same_numbers, same_node}
+
+-- ---- lists
+
+kept_before : {X : Type 0} (xs zs : List X) (n : ℕ) (x : X) → slice_get xs n ≡ Some x → slice_get (xs ++ zs) n ≡ Some x
+kept_before [] zs n x at = absurd (none-some x at)
+kept_before (y ∷ xs) zs zero x at = at
+kept_before (y ∷ xs) zs (suc n) x at = kept_before xs zs n x at
+
+pub last_at : {X : Type 0} (xs : List X) (x : X) → slice_get (xs ++ x ∷ []) (length xs) ≡ Some x
+last_at [] x = refl
+last_at (y ∷ xs) x = last_at xs x
+
+before_or_last : {X : Type 0} (xs : List X) (x y : X) (n : ℕ) → slice_get (xs ++ x ∷ []) n ≡ Some y
+    → (slice_get xs n ≡ Some y) ⊎ ((n ≡ length xs) × (x ≡ y))
+before_or_last [] x y zero at = inr (refl, same_Some x y at)
+before_or_last [] x y (suc n) at = absurd (none-some y at)
+before_or_last (z ∷ xs) x y zero at = inl at
+before_or_last (z ∷ xs) x y (suc n) at = elim (before_or_last xs x y n at) [ inl a ↦ inl a | inr b ↦ inr (ap suc b.0, b.1) ]
+
+-- ---- the numbers of a list of expressions
+
+pub as_many_numbers : (known : List Tree) (ns : List ℕ) (es : List Tree) → AreNumbersOf known ns es → length ns ≡ length es
+as_many_numbers known [] [] h = refl
+as_many_numbers known [] (e ∷ es) h = absurd h
+as_many_numbers known (n ∷ ns) [] h = absurd h
+as_many_numbers known (n ∷ ns) (e ∷ es) h = ap suc (as_many_numbers known ns es h.1)
+
+pub kept_numbers : (old new : List Tree) (ns : List ℕ) (es : List Tree) → KeepsNumbers old new → AreNumbersOf old ns es → AreNumbersOf new ns es
+kept_numbers old new [] [] kept h = tt
+kept_numbers old new [] (e ∷ es) kept h = absurd h
+kept_numbers old new (n ∷ ns) [] kept h = absurd h
+kept_numbers old new (n ∷ ns) (e ∷ es) kept h = (kept n e h.0, kept_numbers old new ns es kept h.1)
+
+one_more : (known : List Tree) (ns : List ℕ) (es : List Tree) (n : ℕ) (e : Tree) → AreNumbersOf known ns es → slice_get known n ≡ Some e
+    → AreNumbersOf known (ns ++ n ∷ []) (es ++ e ∷ [])
+one_more known [] [] n e h at = (at, tt)
+one_more known [] (d ∷ es) n e h at = absurd h
+one_more known (m ∷ ns) [] n e h at = absurd h
+one_more known (m ∷ ns) (d ∷ es) n e h at = (h.0, one_more known ns es n e h.1 at)
+
+-- the number at a place is that of the expression there
+pub number_of_place : (known : List Tree) (ns : List ℕ) (es : List Tree) (i n : ℕ) (e : Tree) → AreNumbersOf known ns es
+    → slice_get ns i ≡ Some n → slice_get es i ≡ Some e → slice_get known n ≡ Some e
+number_of_place known [] [] i n e h at_n at_e = absurd (none-some n at_n)
+number_of_place known [] (d ∷ es) i n e h at_n at_e = absurd h
+number_of_place known (m ∷ ns) [] i n e h at_n at_e = absurd h
+number_of_place known (m ∷ ns) (d ∷ es) zero n e h at_n at_e =
+    ap (slice_get known) (sym (same_Some m n at_n)) ∙ h.0 ∙ at_e
+number_of_place known (m ∷ ns) (d ∷ es) (suc i) n e h at_n at_e = number_of_place known ns es i n e h.1 at_n at_e
+
+same_exprs : (known : List Tree) (ns : List ℕ) (ds es : List Tree) → AreNumbersOf known ns ds → AreNumbersOf known ns es → ds ≡ es
+same_exprs known [] [] [] h k = refl
+same_exprs known [] [] (e ∷ es) h k = absurd k
+same_exprs known [] (d ∷ ds) es h k = absurd h
+same_exprs known (n ∷ ns) [] es h k = absurd h
+same_exprs known (n ∷ ns) (d ∷ ds) [] h k = absurd k
+same_exprs known (n ∷ ns) (d ∷ ds) (e ∷ es) h k = λ i. same_Some d e (sym h.0 ∙ k.0) i ∷ same_exprs known ns ds es h.1 k.1 i
+
+only_numbers : (known : List Tree) → ((m n : ℕ) (e : Tree) → slice_get known m ≡ Some e → slice_get known n ≡ Some e → m ≡ n)
+    → (ms ns : List ℕ) (es : List Tree) → AreNumbersOf known ms es → AreNumbersOf known ns es → ms ≡ ns
+only_numbers known once [] [] [] h k = refl
+only_numbers known once [] [] (e ∷ es) h k = absurd h
+only_numbers known once [] (n ∷ ns) [] h k = absurd k
+only_numbers known once [] (n ∷ ns) (e ∷ es) h k = absurd h
+only_numbers known once (m ∷ ms) [] [] h k = absurd h
+only_numbers known once (m ∷ ms) [] (e ∷ es) h k = absurd k
+only_numbers known once (m ∷ ms) (n ∷ ns) [] h k = absurd h
+only_numbers known once (m ∷ ms) (n ∷ ns) (e ∷ es) h k = λ i. once m n e h.0 k.0 i ∷ only_numbers known once ms ns es h.1 k.1 i
+
+-- ---- rows
+
+abbrev Row : Type 0
+Row = Tree × Numbered
+
+pub expr_at : (rows : List Row) (n : ℕ) (r : Row) → slice_get rows n ≡ Some r → slice_get (exprs_of rows) n ≡ Some r.1.expr
+expr_at [] n r at = absurd (none-some r at)
+expr_at (x ∷ rows) zero r at = ap (λ y. Some y.1.expr) (same_Some x r at)
+expr_at (x ∷ rows) (suc n) r at = expr_at rows n r at
+
+row_at : (rows : List Row) (n : ℕ) (e : Tree) → slice_get (exprs_of rows) n ≡ Some e → (r : Row) × (slice_get rows n ≡ Some r) × (r.1.expr ≡ e)
+row_at [] n e at = absurd (none-some e at)
+row_at (x ∷ rows) zero e at = (x, refl, same_Some x.1.expr e at)
+row_at (x ∷ rows) (suc n) e at = row_at rows n e at
+
+pub as_many_rows : (rows : List Row) → length (exprs_of rows) ≡ length rows
+as_many_rows [] = refl
+as_many_rows (x ∷ rows) = ap suc (as_many_rows rows)
+
+exprs_behind : (rows : List Row) (r : Row) → exprs_of (rows ++ r ∷ []) ≡ exprs_of rows ++ r.1.expr ∷ []
+exprs_behind [] r = refl
+exprs_behind (x ∷ rows) r = ap (λ es. x.1.expr ∷ es) (exprs_behind rows r)
+
+-- the numbers of the children of a row's expression
+pub numbers_below : (rows : List Row) → IsNumbering rows → (n : ℕ) (r : Row) → slice_get rows n ≡ Some r
+    → (e : Tree) → slice_get (exprs_of rows) n ≡ Some e → AreNumbersOf (exprs_of rows) r.1.below.items (children_of e)
+numbers_below rows is n r at e at_e =
+    subst (λ d. AreNumbersOf (exprs_of rows) r.1.below.items (children_of d)) (same_Some r.1.expr e (sym (expr_at rows n r at) ∙ at_e)) (is.numbered n r at)
+
+-- an expression is that of the row that stands under its node over numbers
+pub is_found : (rows : List Row) → IsNumbering rows → (n : ℕ) (r : Row) → slice_get rows n ≡ Some r → (e : Tree) (ns : List ℕ)
+    → AreNumbersOf (exprs_of rows) ns (children_of e) → over_numbers e ns ≡ r.0 → slice_get (exprs_of rows) n ≡ Some e
+is_found rows is n r at e ns numbers key =
+    let known = exprs_of rows in
+    let d = r.1.expr in
+    let ms = r.1.below.items in
+    let same : over_numbers e ns ≡ over_numbers d ms = key ∙ is.keyed n r at in
+    let many_e : length ns ≡ length (children_of e) = as_many_numbers known ns (children_of e) numbers in
+    let many_d : length ms ≡ length (children_of d) = as_many_numbers known ms (children_of d) (is.numbered n r at) in
+    let alike : children_of e ≡ children_of d =
+    same_exprs known ms (children_of e) (children_of d)
+    (subst (λ ks. AreNumbersOf known ks (children_of e)) (same_numbers e d ns ms many_e many_d same) numbers) (is.numbered n r at) in
+    expr_at rows n r at ∙ ap Some (sym (same_node e d ns ms many_e many_d same alike))
+
+-- ---- looking up
+
+key_where : (b : Bool) (test : Tree → Bool) (x k : Tree) (o : Option Tree) → test x ≡ b → (o ≡ Some k → test k ≡ true) → cond b (Some x) o ≡ Some k → test k ≡ true
+key_where true test x k o is next h = ap test (sym (same_Some x k h)) ∙ is
+key_where false test x k o is next h = next h
+
+key_passes : (test : Tree → Bool) (rows : List Row) (k : Tree) → lookup_key test rows ≡ Some k → test k ≡ true
+key_passes test [] k h = absurd (none-some k h)
+key_passes test (x ∷ rows) k h = key_where (test x.0) test x.0 k (lookup_key test rows) refl (key_passes test rows k) h
+
+-- the key that was found is the one that was looked for
+pub same_key : (key k : Tree) (rows : List Row) → lookup_key (tree_eq key) rows ≡ Some k → key ≡ k
+same_key key k rows h = (tree_decides key k).0 (key_passes (tree_eq key) rows k h)
+
+none_where : (b : Bool) (r : Numbered) (o : Option Numbered) → cond b (Some r) o ≡ None → (b ≡ false) × (o ≡ None)
+none_where true r o h = absurd (none-some r (sym h))
+none_where false r o h = (refl, h)
+
+no_row : (key : Tree) (rows : List Row) (n : ℕ) (r : Row) → lookup (tree_eq key) rows ≡ None → slice_get rows n ≡ Some r → key ≡ r.0 → ⊥
+no_row key [] n r h at is = absurd (none-some r at)
+no_row key (x ∷ rows) zero r h at is =
+    true≢false (sym ((tree_decides key x.0).1 (is ∙ ap (λ y. y.0) (sym (same_Some x r at)))) ∙ (none_where (tree_eq key x.0) x.1 (lookup (tree_eq key) rows) h).0)
+no_row key (x ∷ rows) (suc n) r h at is =
+    no_row key rows n r (none_where (tree_eq key x.0) x.1 (lookup (tree_eq key) rows) h).1 at is
+
+goes_last : (key : Tree) (v : Numbered) (rows : List Row) → lookup (tree_eq key) rows ≡ None → insert_entry tree_eq rows key v ≡ rows ++ (key, v) ∷ []
+goes_last key v [] h = refl
+goes_last key v (x ∷ rows) h =
+    let none = none_where (tree_eq key x.0) x.1 (lookup (tree_eq key) rows) h in
+    ap (λ b. cond b ((x.0, v) ∷ rows) (x ∷ insert_entry tree_eq rows key v)) none.0 ∙ ap (λ rs. x ∷ rs) (goes_last key v rows none.1)
+
+-- ---- a row that is new
+
+module _ (rows : List Row) (is : IsNumbering rows) (key : Tree) (v : Numbered)
+    (numbers : AreNumbersOf (exprs_of rows) v.below.items (children_of v.expr)) (key_is : key ≡ over_numbers v.expr v.below.items)
+    (absent : lookup (tree_eq key) rows ≡ None) where
+  -- the expression had no number
+  is_new : (m : ℕ) → slice_get (exprs_of rows) m ≡ Some v.expr → ⊥
+  is_new m at =
+      let known = exprs_of rows in
+      let r = row_at rows m v.expr at in
+      let same : r.0.1.below.items ≡ v.below.items =
+      only_numbers known is.once r.0.1.below.items v.below.items (children_of v.expr) (numbers_below rows is m r.0 r.1 v.expr at) numbers in
+      no_row key rows m r.0 absent r.1
+      (key_is ∙ sym (is.keyed m r.0 r.1 ∙ ap (over_numbers r.0.1.expr) same ∙ ap (λ e. over_numbers e v.below.items) r.2))
+
+  abbrev more : List Row
+  more = rows ++ (key, v) ∷ []
+
+  known_before : KeepsNumbers (exprs_of rows) (exprs_of more)
+  known_before n e at = ap (λ es. slice_get es n) (exprs_behind rows (key, v)) ∙ kept_before (exprs_of rows) (v.expr ∷ []) n e at
+
+  before_or_new : (n : ℕ) (e : Tree) → slice_get (exprs_of more) n ≡ Some e → (slice_get (exprs_of rows) n ≡ Some e) ⊎ ((n ≡ length (exprs_of rows)) × (v.expr ≡ e))
+  before_or_new n e at = before_or_last (exprs_of rows) v.expr e n (ap (λ es. slice_get es n) (sym (exprs_behind rows (key, v))) ∙ at)
+
+  one_place : (m n : ℕ) (e : Tree) → (slice_get (exprs_of rows) m ≡ Some e) ⊎ ((m ≡ length (exprs_of rows)) × (v.expr ≡ e))
+      → (slice_get (exprs_of rows) n ≡ Some e) ⊎ ((n ≡ length (exprs_of rows)) × (v.expr ≡ e)) → m ≡ n
+  one_place m n e (inl a) (inl b) = is.once m n e a b
+  one_place m n e (inl a) (inr b) = absurd (is_new m (a ∙ ap Some (sym b.1)))
+  one_place m n e (inr a) (inl b) = absurd (is_new n (b ∙ ap Some (sym a.1)))
+  one_place m n e (inr a) (inr b) = a.0 ∙ sym b.0
+
+  numbering_more : IsNumbering more
+  numbering_more =
+      record {
+        keyed = λ n r at.
+            elim (before_or_last rows (key, v) r n at) [
+              | inl a ↦ is.keyed n r a
+              | inr b ↦ subst (λ x. x.0 ≡ over_numbers x.1.expr x.1.below.items) b.1 key_is
+            ];
+        numbered = λ n r at.
+            elim (before_or_last rows (key, v) r n at) [
+              | inl a ↦ kept_numbers (exprs_of rows) (exprs_of more) r.1.below.items (children_of r.1.expr) known_before (is.numbered n r a)
+              | inr b ↦
+                  subst (λ x. AreNumbersOf (exprs_of more) x.1.below.items (children_of x.1.expr)) b.1
+                  (kept_numbers (exprs_of rows) (exprs_of more) v.below.items (children_of v.expr) known_before numbers)
+            ];
+        once = λ m n e at_m at_n. one_place m n e (before_or_new m e at_m) (before_or_new n e at_n);
+      }
+
+  module _ (new : List Row) (inserted : new ≡ insert_entry tree_eq rows key v) where
+    new_is : more ≡ new
+    new_is = sym (inserted ∙ goes_last key v rows absent)
+
+    pub still_numbering : IsNumbering new
+    still_numbering = subst IsNumbering new_is numbering_more
+
+    pub still_known : KeepsNumbers (exprs_of rows) (exprs_of new)
+    still_known n e at = ap (λ rs. slice_get (exprs_of rs) n) (sym new_is) ∙ known_before n e at
+
+    pub new_number : slice_get (exprs_of new) (length rows) ≡ Some v.expr
+    new_number = expr_at new (length rows) (key, v) (ap (λ rs. slice_get rs (length rows)) (sym new_is) ∙ last_at rows (key, v))
+
+-- ---- the children, place by place
+
+module _ (old new : List Tree) (kept : KeepsNumbers old new) (ns ns_with : List ℕ) (cs : List Tree) (i : ℕ) where
+  -- with the number of the next child
+  pub next_numbered : AreNumbersOf old ns (take i cs) → (n : ℕ) (c : Tree) → slice_get cs i ≡ Some c → slice_get new n ≡ Some c → ns_with ≡ ns ++ n ∷ []
+      → AreNumbersOf new ns_with (take (i + 1) cs)
+  next_numbered so_far n c at number is =
+      subst (λ ks. AreNumbersOf new ks (take (i + 1) cs)) (sym is)
+      (subst (AreNumbersOf new (ns ++ n ∷ [])) (sym (taken_step cs i c at))
+      (one_more new ns (take i cs) n c (kept_numbers old new ns (take i cs) kept so_far) number))
+
+pub grows_on : (old mid new : Numbers) → Grows old mid → Grows mid new → Grows old new
+grows_on old mid new first second = record { numbering = second.numbering; kept = λ n e at. second.kept n e (first.kept n e at) }

@@ -1,0 +1,28 @@
+-- For the checker: no public clause cites this.
+-- Entries of annotations under the numbers of their expressions.
+use Rattle.std.specs.Prelude.{◌≡◌, ℕ, nat_eq, List, [], ◌∷◌, Some, option_map, unwrap_or}
+use Rattle.std.specs.List.{slice_get}
+use Rattle.std.specs.Map.{lookup}
+use Rattle.vx_expr.specs.Trees.{Tree}
+use Rattle.vx_partition.specs.Numbering.{known, IsNumbering, KeepsNumbers}
+use Rattle.vx_partition.specs.declared.annotations.Annotated.{Annotated}
+use Rattle.vx_partition.specs.declared.annotations.Annotations.{Annotations}
+
+-- what the entry at a number holds; nothing where there is no entry
+abbrev pub held_at : {A : Type 0} → ℕ → List (ℕ × Annotated A) → List A
+held_at n entries = unwrap_or (option_map (λ x. x.annotations.items) (lookup (nat_eq n) entries)) []
+
+-- each entry stands at the number of its expression
+abbrev pub AreAtNumbers : {A : Type 0} → List Tree → List (ℕ × Annotated A) → Type 0
+AreAtNumbers known [] = Unit {0}
+AreAtNumbers known (x ∷ entries) = (slice_get known x.0 ≡ Some x.1.expr) × AreAtNumbers known entries
+
+-- the numbers are a numbering, and the entries stand at those of their expressions
+pub record IsSound {A : Type 0} (m : Annotations A) : Type 0 where
+  pub numbering : IsNumbering m.numbers.rows.entries
+  pub entries : AreAtNumbers (known m.numbers) m.entries.entries
+
+-- the map is sound again, and each expression keeps its number
+pub record Extends {A : Type 0} (old new : Annotations A) : Type 0 where
+  pub sound : IsSound new
+  pub kept : KeepsNumbers (known old.numbers) (known new.numbers)
