@@ -44,6 +44,15 @@ appends_all c start new i h all = record {
   rows = all.rows ∙ take_all i c.rows h;
 }
 
+-- the same values behind other ones
+pub appends_behind : (c : Column) (start new : List ScalarValue) → AppendsRows c [] new → AppendsRows c start (start ++ new)
+appends_behind c start new all = record {
+  more = all.more;
+  behind = ap (λ xs. start ++ xs) all.behind;
+  fit = all.fit;
+  rows = all.rows;
+}
+
 -- the rows of clones
 pub appends_clones : (t : Ty) (old new xs : List ScalarValue) → values_fit t xs ≡ true → AppendsClones (λ x y. raw_view y ≡ raw_view x) old new xs → AppendsRows (column t (seen_rows t xs)) old new
 appends_clones t old new xs f (ys, e, same) =

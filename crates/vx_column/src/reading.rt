@@ -1,5 +1,5 @@
 // Reading the rows of columns, whatever parts they are kept in.
-ghost use Rattle.std.specs.Prelude.{◌≡◌, ◌<◌, true, length, IfOk, IfSome, option_copied};
+ghost use Rattle.std.specs.Prelude.{◌≡◌, ◌<◌, true, length, OnErr, IfOk, IfSome, option_copied};
 ghost use Rattle.std.specs.List.{All, AllZip};
 ghost use Rattle.std.proofs.Math.ListN.{replicate};
 ghost use Rattle.vx_dtype.specs.declared.Nullability.TheVariants.{Nullable};
@@ -46,9 +46,11 @@ impl ColumnRef {
         }
     }
 
-    /// Puts the values of all rows at the end of a list, in order. They are values of the column's type.
+    /// Puts the values of all rows at the end of a list, in order. They are values of the column's type. Where memory runs out
+    /// the list is as it was.
     pub fn append_to(&self, alloc: Global, values: &mut Vec<ScalarValue>) -> Mem<()>
-        ensures { IfOk result (λ _. AppendsRows self.now values.old.items values.new.items) }
+        ensures rows { IfOk result (λ _. AppendsRows self.now values.old.items values.new.items) }
+        ensures kept { OnErr result (values.new.items ≡ values.old.items) }
     {
         match self.cells() {
             Cells::Constant { value, len } => append_repeated(value, *len, values),
@@ -84,8 +86,9 @@ impl ColumnRef {
 
 /// Puts clones of a value at the end of a list.
 fn append_repeated(value: &ScalarValue, len: usize, values: &mut Vec<ScalarValue>) -> Mem<()>
-    ensures { (t : Ty) → fits (raw_view value.now) t ≡ true →
+    ensures rows { (t : Ty) → fits (raw_view value.now) t ≡ true →
         IfOk result (λ _. AppendsRows (column t (replicate len (seen t value.now))) values.old.items values.new.items) }
+    ensures kept { OnErr result (values.new.items ≡ values.old.items) }
 {
     values.reserve(len)?;
     values.resize(values.len() + len, value.clone()?)?;
@@ -94,8 +97,9 @@ fn append_repeated(value: &ScalarValue, len: usize, values: &mut Vec<ScalarValue
 
 /// Puts clones of values at the end of a list.
 fn append_clones(rows: &[ScalarValue], values: &mut Vec<ScalarValue>) -> Mem<()>
-    ensures { (t : Ty) → values_fit t rows.now ≡ true →
+    ensures rows { (t : Ty) → values_fit t rows.now ≡ true →
         IfOk result (λ _. AppendsRows (column t (seen_rows t rows.now)) values.old.items values.new.items) }
+    ensures kept { OnErr result (values.new.items ≡ values.old.items) }
 {
     values.extend_from_slice(rows)?;
     Ok(())
@@ -103,12 +107,14 @@ fn append_clones(rows: &[ScalarValue], values: &mut Vec<ScalarValue>) -> Mem<()>
 
 /// Puts the values of all rows at the end of a list, each made for itself.
 fn append_made(alloc: Global, column: &ColumnRef, values: &mut Vec<ScalarValue>) -> Mem<()>
-    ensures { IfOk result (λ _. AppendsRows column.now values.old.items values.new.items) }
+    ensures rows { IfOk result (λ _. AppendsRows column.now values.old.items values.new.items) }
+    ensures kept { OnErr result (values.new.items ≡ values.old.items) }
 {
-    values.reserve(column.len())?;
+    let mut made = Vec::with_capacity(alloc, column.len())?;
     for i in 0..column.len() {
-        values.push(made_at(alloc, column, i)?)?;
+        made.push(made_at(alloc, column, i)?)?;
     }
+    values.append(&mut made)?;
     Ok(())
 }
 

@@ -6,8 +6,8 @@ use Rattle.vx_dtype.specs.declared.values.ScalarValue.{ScalarValue}
 use Rattle.vx_column.proofs.AppendLemmas.{appends_repeated}
 use Rattle.vx_column.proofs.reading.append_repeated.Goals as goal
 
-pub returns : goal.returns
-returns c t f =
+pub returns-clause-rows : goal.returns-clause-rows
+returns-clause-rows c t f =
     let old = c.args.values.now.items in
     let new = c.resize.new.self.items in
     let reserved = c.reserve.new.self.items in
