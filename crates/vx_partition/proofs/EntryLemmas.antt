@@ -185,7 +185,7 @@ module _ {A : Type 0} where
       record {
         sound =
             record {
-              numbering = subst (λ m. IsNumbering m.rows.entries) (sym is) sound.numbering;
+              numbering = subst (λ m. IsNumbering m.nodes.entries) (sym is) sound.numbering;
               entries = subst (λ m. AreAtNumbers (known m) new.entries.entries) (sym is) at;
             };
         kept = λ n e h. ap (λ m. slice_get (known m) n) is ∙ h;

@@ -1,4 +1,4 @@
--- Tables of numbered expressions: what a row says, and what a row that is new adds.
+-- Tables of numbered expressions: what an entry says, and what an entry that is new adds.
 use Rattle.std.proofs.Common.{◌≡◌, ℕ, zero, suc, ◌+◌, Bool, true, false, cond, List, [], ◌∷◌, ◌++◌, length, take, Option, Some, None, ◌⊎◌, inl, inr, refl, sym, ap, subst, ◌∙◌, true≢false}
 use Rattle.std.specs.List.{slice_get}
 use Rattle.std.specs.Map.{lookup, lookup_key}
@@ -81,40 +81,40 @@ only_numbers known once (m ∷ ms) [] (e ∷ es) h k = absurd k
 only_numbers known once (m ∷ ms) (n ∷ ns) [] h k = absurd h
 only_numbers known once (m ∷ ms) (n ∷ ns) (e ∷ es) h k = λ i. once m n e h.0 k.0 i ∷ only_numbers known once ms ns es h.1 k.1 i
 
--- ---- rows
+-- ---- entries
 
-abbrev Row : Type 0
-Row = Tree × Numbered
+abbrev Node : Type 0
+Node = Tree × Numbered
 
-pub expr_at : (rows : List Row) (n : ℕ) (r : Row) → slice_get rows n ≡ Some r → slice_get (exprs_of rows) n ≡ Some r.1.expr
+pub expr_at : (nodes : List Node) (n : ℕ) (r : Node) → slice_get nodes n ≡ Some r → slice_get (exprs_of nodes) n ≡ Some r.1.expr
 expr_at [] n r at = absurd (none-some r at)
-expr_at (x ∷ rows) zero r at = ap (λ y. Some y.1.expr) (same_Some x r at)
-expr_at (x ∷ rows) (suc n) r at = expr_at rows n r at
+expr_at (x ∷ nodes) zero r at = ap (λ y. Some y.1.expr) (same_Some x r at)
+expr_at (x ∷ nodes) (suc n) r at = expr_at nodes n r at
 
-row_at : (rows : List Row) (n : ℕ) (e : Tree) → slice_get (exprs_of rows) n ≡ Some e → (r : Row) × (slice_get rows n ≡ Some r) × (r.1.expr ≡ e)
-row_at [] n e at = absurd (none-some e at)
-row_at (x ∷ rows) zero e at = (x, refl, same_Some x.1.expr e at)
-row_at (x ∷ rows) (suc n) e at = row_at rows n e at
+node_at : (nodes : List Node) (n : ℕ) (e : Tree) → slice_get (exprs_of nodes) n ≡ Some e → (r : Node) × (slice_get nodes n ≡ Some r) × (r.1.expr ≡ e)
+node_at [] n e at = absurd (none-some e at)
+node_at (x ∷ nodes) zero e at = (x, refl, same_Some x.1.expr e at)
+node_at (x ∷ nodes) (suc n) e at = node_at nodes n e at
 
-pub as_many_rows : (rows : List Row) → length (exprs_of rows) ≡ length rows
-as_many_rows [] = refl
-as_many_rows (x ∷ rows) = ap suc (as_many_rows rows)
+pub as_many_nodes : (nodes : List Node) → length (exprs_of nodes) ≡ length nodes
+as_many_nodes [] = refl
+as_many_nodes (x ∷ nodes) = ap suc (as_many_nodes nodes)
 
-exprs_behind : (rows : List Row) (r : Row) → exprs_of (rows ++ r ∷ []) ≡ exprs_of rows ++ r.1.expr ∷ []
+exprs_behind : (nodes : List Node) (r : Node) → exprs_of (nodes ++ r ∷ []) ≡ exprs_of nodes ++ r.1.expr ∷ []
 exprs_behind [] r = refl
-exprs_behind (x ∷ rows) r = ap (λ es. x.1.expr ∷ es) (exprs_behind rows r)
+exprs_behind (x ∷ nodes) r = ap (λ es. x.1.expr ∷ es) (exprs_behind nodes r)
 
--- the numbers of the children of a row's expression
-pub numbers_below : (rows : List Row) → IsNumbering rows → (n : ℕ) (r : Row) → slice_get rows n ≡ Some r
-    → (e : Tree) → slice_get (exprs_of rows) n ≡ Some e → AreNumbersOf (exprs_of rows) r.1.below.items (children_of e)
-numbers_below rows is n r at e at_e =
-    subst (λ d. AreNumbersOf (exprs_of rows) r.1.below.items (children_of d)) (same_Some r.1.expr e (sym (expr_at rows n r at) ∙ at_e)) (is.numbered n r at)
+-- the numbers of the children of an entry's expression
+pub numbers_below : (nodes : List Node) → IsNumbering nodes → (n : ℕ) (r : Node) → slice_get nodes n ≡ Some r
+    → (e : Tree) → slice_get (exprs_of nodes) n ≡ Some e → AreNumbersOf (exprs_of nodes) r.1.below.items (children_of e)
+numbers_below nodes is n r at e at_e =
+    subst (λ d. AreNumbersOf (exprs_of nodes) r.1.below.items (children_of d)) (same_Some r.1.expr e (sym (expr_at nodes n r at) ∙ at_e)) (is.numbered n r at)
 
--- an expression is that of the row that stands under its node over numbers
-pub is_found : (rows : List Row) → IsNumbering rows → (n : ℕ) (r : Row) → slice_get rows n ≡ Some r → (e : Tree) (ns : List ℕ)
-    → AreNumbersOf (exprs_of rows) ns (children_of e) → over_numbers e ns ≡ r.0 → slice_get (exprs_of rows) n ≡ Some e
-is_found rows is n r at e ns numbers key =
-    let known = exprs_of rows in
+-- an expression is that of the entry that stands under its node over numbers
+pub is_found : (nodes : List Node) → IsNumbering nodes → (n : ℕ) (r : Node) → slice_get nodes n ≡ Some r → (e : Tree) (ns : List ℕ)
+    → AreNumbersOf (exprs_of nodes) ns (children_of e) → over_numbers e ns ≡ r.0 → slice_get (exprs_of nodes) n ≡ Some e
+is_found nodes is n r at e ns numbers key =
+    let known = exprs_of nodes in
     let d = r.1.expr in
     let ms = r.1.below.items in
     let same : over_numbers e ns ≡ over_numbers d ms = key ∙ is.keyed n r at in
@@ -123,7 +123,7 @@ is_found rows is n r at e ns numbers key =
     let alike : children_of e ≡ children_of d =
     same_exprs known ms (children_of e) (children_of d)
     (subst (λ ks. AreNumbersOf known ks (children_of e)) (same_numbers e d ns ms many_e many_d same) numbers) (is.numbered n r at) in
-    expr_at rows n r at ∙ ap Some (sym (same_node e d ns ms many_e many_d same alike))
+    expr_at nodes n r at ∙ ap Some (sym (same_node e d ns ms many_e many_d same alike))
 
 -- ---- looking up
 
@@ -131,57 +131,57 @@ key_where : (b : Bool) (test : Tree → Bool) (x k : Tree) (o : Option Tree) →
 key_where true test x k o is next h = ap test (sym (same_Some x k h)) ∙ is
 key_where false test x k o is next h = next h
 
-key_passes : (test : Tree → Bool) (rows : List Row) (k : Tree) → lookup_key test rows ≡ Some k → test k ≡ true
+key_passes : (test : Tree → Bool) (nodes : List Node) (k : Tree) → lookup_key test nodes ≡ Some k → test k ≡ true
 key_passes test [] k h = absurd (none-some k h)
-key_passes test (x ∷ rows) k h = key_where (test x.0) test x.0 k (lookup_key test rows) refl (key_passes test rows k) h
+key_passes test (x ∷ nodes) k h = key_where (test x.0) test x.0 k (lookup_key test nodes) refl (key_passes test nodes k) h
 
 -- the key that was found is the one that was looked for
-pub same_key : (key k : Tree) (rows : List Row) → lookup_key (tree_eq key) rows ≡ Some k → key ≡ k
-same_key key k rows h = (tree_decides key k).0 (key_passes (tree_eq key) rows k h)
+pub same_key : (key k : Tree) (nodes : List Node) → lookup_key (tree_eq key) nodes ≡ Some k → key ≡ k
+same_key key k nodes h = (tree_decides key k).0 (key_passes (tree_eq key) nodes k h)
 
 none_where : (b : Bool) (r : Numbered) (o : Option Numbered) → cond b (Some r) o ≡ None → (b ≡ false) × (o ≡ None)
 none_where true r o h = absurd (none-some r (sym h))
 none_where false r o h = (refl, h)
 
-no_row : (key : Tree) (rows : List Row) (n : ℕ) (r : Row) → lookup (tree_eq key) rows ≡ None → slice_get rows n ≡ Some r → key ≡ r.0 → ⊥
-no_row key [] n r h at is = absurd (none-some r at)
-no_row key (x ∷ rows) zero r h at is =
-    true≢false (sym ((tree_decides key x.0).1 (is ∙ ap (λ y. y.0) (sym (same_Some x r at)))) ∙ (none_where (tree_eq key x.0) x.1 (lookup (tree_eq key) rows) h).0)
-no_row key (x ∷ rows) (suc n) r h at is =
-    no_row key rows n r (none_where (tree_eq key x.0) x.1 (lookup (tree_eq key) rows) h).1 at is
+no_node : (key : Tree) (nodes : List Node) (n : ℕ) (r : Node) → lookup (tree_eq key) nodes ≡ None → slice_get nodes n ≡ Some r → key ≡ r.0 → ⊥
+no_node key [] n r h at is = absurd (none-some r at)
+no_node key (x ∷ nodes) zero r h at is =
+    true≢false (sym ((tree_decides key x.0).1 (is ∙ ap (λ y. y.0) (sym (same_Some x r at)))) ∙ (none_where (tree_eq key x.0) x.1 (lookup (tree_eq key) nodes) h).0)
+no_node key (x ∷ nodes) (suc n) r h at is =
+    no_node key nodes n r (none_where (tree_eq key x.0) x.1 (lookup (tree_eq key) nodes) h).1 at is
 
-goes_last : (key : Tree) (v : Numbered) (rows : List Row) → lookup (tree_eq key) rows ≡ None → insert_entry tree_eq rows key v ≡ rows ++ (key, v) ∷ []
+goes_last : (key : Tree) (v : Numbered) (nodes : List Node) → lookup (tree_eq key) nodes ≡ None → insert_entry tree_eq nodes key v ≡ nodes ++ (key, v) ∷ []
 goes_last key v [] h = refl
-goes_last key v (x ∷ rows) h =
-    let none = none_where (tree_eq key x.0) x.1 (lookup (tree_eq key) rows) h in
-    ap (λ b. cond b ((x.0, v) ∷ rows) (x ∷ insert_entry tree_eq rows key v)) none.0 ∙ ap (λ rs. x ∷ rs) (goes_last key v rows none.1)
+goes_last key v (x ∷ nodes) h =
+    let none = none_where (tree_eq key x.0) x.1 (lookup (tree_eq key) nodes) h in
+    ap (λ b. cond b ((x.0, v) ∷ nodes) (x ∷ insert_entry tree_eq nodes key v)) none.0 ∙ ap (λ rs. x ∷ rs) (goes_last key v nodes none.1)
 
--- ---- a row that is new
+-- ---- an entry that is new
 
-module _ (rows : List Row) (is : IsNumbering rows) (key : Tree) (v : Numbered)
-    (numbers : AreNumbersOf (exprs_of rows) v.below.items (children_of v.expr)) (key_is : key ≡ over_numbers v.expr v.below.items)
-    (absent : lookup (tree_eq key) rows ≡ None) where
+module _ (nodes : List Node) (is : IsNumbering nodes) (key : Tree) (v : Numbered)
+    (numbers : AreNumbersOf (exprs_of nodes) v.below.items (children_of v.expr)) (key_is : key ≡ over_numbers v.expr v.below.items)
+    (absent : lookup (tree_eq key) nodes ≡ None) where
   -- the expression had no number
-  is_new : (m : ℕ) → slice_get (exprs_of rows) m ≡ Some v.expr → ⊥
+  is_new : (m : ℕ) → slice_get (exprs_of nodes) m ≡ Some v.expr → ⊥
   is_new m at =
-      let known = exprs_of rows in
-      let r = row_at rows m v.expr at in
+      let known = exprs_of nodes in
+      let r = node_at nodes m v.expr at in
       let same : r.0.1.below.items ≡ v.below.items =
-      only_numbers known is.once r.0.1.below.items v.below.items (children_of v.expr) (numbers_below rows is m r.0 r.1 v.expr at) numbers in
-      no_row key rows m r.0 absent r.1
+      only_numbers known is.once r.0.1.below.items v.below.items (children_of v.expr) (numbers_below nodes is m r.0 r.1 v.expr at) numbers in
+      no_node key nodes m r.0 absent r.1
       (key_is ∙ sym (is.keyed m r.0 r.1 ∙ ap (over_numbers r.0.1.expr) same ∙ ap (λ e. over_numbers e v.below.items) r.2))
 
-  abbrev more : List Row
-  more = rows ++ (key, v) ∷ []
+  abbrev more : List Node
+  more = nodes ++ (key, v) ∷ []
 
-  known_before : KeepsNumbers (exprs_of rows) (exprs_of more)
-  known_before n e at = ap (λ es. slice_get es n) (exprs_behind rows (key, v)) ∙ kept_before (exprs_of rows) (v.expr ∷ []) n e at
+  known_before : KeepsNumbers (exprs_of nodes) (exprs_of more)
+  known_before n e at = ap (λ es. slice_get es n) (exprs_behind nodes (key, v)) ∙ kept_before (exprs_of nodes) (v.expr ∷ []) n e at
 
-  before_or_new : (n : ℕ) (e : Tree) → slice_get (exprs_of more) n ≡ Some e → (slice_get (exprs_of rows) n ≡ Some e) ⊎ ((n ≡ length (exprs_of rows)) × (v.expr ≡ e))
-  before_or_new n e at = before_or_last (exprs_of rows) v.expr e n (ap (λ es. slice_get es n) (sym (exprs_behind rows (key, v))) ∙ at)
+  before_or_new : (n : ℕ) (e : Tree) → slice_get (exprs_of more) n ≡ Some e → (slice_get (exprs_of nodes) n ≡ Some e) ⊎ ((n ≡ length (exprs_of nodes)) × (v.expr ≡ e))
+  before_or_new n e at = before_or_last (exprs_of nodes) v.expr e n (ap (λ es. slice_get es n) (sym (exprs_behind nodes (key, v))) ∙ at)
 
-  one_place : (m n : ℕ) (e : Tree) → (slice_get (exprs_of rows) m ≡ Some e) ⊎ ((m ≡ length (exprs_of rows)) × (v.expr ≡ e))
-      → (slice_get (exprs_of rows) n ≡ Some e) ⊎ ((n ≡ length (exprs_of rows)) × (v.expr ≡ e)) → m ≡ n
+  one_place : (m n : ℕ) (e : Tree) → (slice_get (exprs_of nodes) m ≡ Some e) ⊎ ((m ≡ length (exprs_of nodes)) × (v.expr ≡ e))
+      → (slice_get (exprs_of nodes) n ≡ Some e) ⊎ ((n ≡ length (exprs_of nodes)) × (v.expr ≡ e)) → m ≡ n
   one_place m n e (inl a) (inl b) = is.once m n e a b
   one_place m n e (inl a) (inr b) = absurd (is_new m (a ∙ ap Some (sym b.1)))
   one_place m n e (inr a) (inl b) = absurd (is_new n (b ∙ ap Some (sym a.1)))
@@ -191,32 +191,32 @@ module _ (rows : List Row) (is : IsNumbering rows) (key : Tree) (v : Numbered)
   numbering_more =
       record {
         keyed = λ n r at.
-            elim (before_or_last rows (key, v) r n at) [
+            elim (before_or_last nodes (key, v) r n at) [
               | inl a ↦ is.keyed n r a
               | inr b ↦ subst (λ x. x.0 ≡ over_numbers x.1.expr x.1.below.items) b.1 key_is
             ];
         numbered = λ n r at.
-            elim (before_or_last rows (key, v) r n at) [
-              | inl a ↦ kept_numbers (exprs_of rows) (exprs_of more) r.1.below.items (children_of r.1.expr) known_before (is.numbered n r a)
+            elim (before_or_last nodes (key, v) r n at) [
+              | inl a ↦ kept_numbers (exprs_of nodes) (exprs_of more) r.1.below.items (children_of r.1.expr) known_before (is.numbered n r a)
               | inr b ↦
                   subst (λ x. AreNumbersOf (exprs_of more) x.1.below.items (children_of x.1.expr)) b.1
-                  (kept_numbers (exprs_of rows) (exprs_of more) v.below.items (children_of v.expr) known_before numbers)
+                  (kept_numbers (exprs_of nodes) (exprs_of more) v.below.items (children_of v.expr) known_before numbers)
             ];
         once = λ m n e at_m at_n. one_place m n e (before_or_new m e at_m) (before_or_new n e at_n);
       }
 
-  module _ (new : List Row) (inserted : new ≡ insert_entry tree_eq rows key v) where
+  module _ (new : List Node) (inserted : new ≡ insert_entry tree_eq nodes key v) where
     new_is : more ≡ new
-    new_is = sym (inserted ∙ goes_last key v rows absent)
+    new_is = sym (inserted ∙ goes_last key v nodes absent)
 
     pub still_numbering : IsNumbering new
     still_numbering = subst IsNumbering new_is numbering_more
 
-    pub still_known : KeepsNumbers (exprs_of rows) (exprs_of new)
+    pub still_known : KeepsNumbers (exprs_of nodes) (exprs_of new)
     still_known n e at = ap (λ rs. slice_get (exprs_of rs) n) (sym new_is) ∙ known_before n e at
 
-    pub new_number : slice_get (exprs_of new) (length rows) ≡ Some v.expr
-    new_number = expr_at new (length rows) (key, v) (ap (λ rs. slice_get rs (length rows)) (sym new_is) ∙ last_at rows (key, v))
+    pub new_number : slice_get (exprs_of new) (length nodes) ≡ Some v.expr
+    new_number = expr_at new (length nodes) (key, v) (ap (λ rs. slice_get rs (length nodes)) (sym new_is) ∙ last_at nodes (key, v))
 
 -- ---- the children, place by place
 

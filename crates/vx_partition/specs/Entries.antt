@@ -19,7 +19,7 @@ AreAtNumbers known (x ∷ entries) = (slice_get known x.0 ≡ Some x.1.expr) × 
 
 -- the numbers are a numbering, and the entries stand at those of their expressions
 pub record IsSound {A : Type 0} (m : Annotations A) : Type 0 where
-  pub numbering : IsNumbering m.numbers.rows.entries
+  pub numbering : IsNumbering m.numbers.nodes.entries
   pub entries : AreAtNumbers (known m.numbers) m.entries.entries
 
 -- the map is sound again, and each expression keeps its number

@@ -20,13 +20,13 @@ number_tree n = literal (typed (int_ty U64 NonNullable) (raw_int (pos n)))
 abbrev pub over_numbers : Tree → List ℕ → Tree
 over_numbers e ns = with_these e (map number_tree ns)
 
--- the expressions of a table's rows; the place of each is its number
+-- the expressions of a table's entries; the place of each is its number
 abbrev pub exprs_of : List (Tree × Numbered) → List Tree
-exprs_of rows = map (λ r. r.1.expr) rows
+exprs_of nodes = map (λ r. r.1.expr) nodes
 
 -- the expressions that have numbers
 abbrev pub known : Numbers → List Tree
-known numbers = exprs_of numbers.rows.entries
+known numbers = exprs_of numbers.nodes.entries
 
 -- these are the numbers of the expressions of a list, one by one
 abbrev pub AreNumbersOf : List Tree → List ℕ → List Tree → Type 0
@@ -34,11 +34,11 @@ AreNumbersOf known [] [] = Unit {0}
 AreNumbersOf known (n ∷ ns) (e ∷ es) = (slice_get known n ≡ Some e) × AreNumbersOf known ns es
 AreNumbersOf known _ _ = ⊥
 
--- each row has the numbers of its expression's children and stands under the node over these, and no expression has two numbers
-pub record IsNumbering (rows : List (Tree × Numbered)) : Type 0 where
-  pub keyed : (n : ℕ) (r : Tree × Numbered) → slice_get rows n ≡ Some r → r.0 ≡ over_numbers r.1.expr r.1.below.items
-  pub numbered : (n : ℕ) (r : Tree × Numbered) → slice_get rows n ≡ Some r → AreNumbersOf (exprs_of rows) r.1.below.items (children_of r.1.expr)
-  pub once : (m n : ℕ) (e : Tree) → slice_get (exprs_of rows) m ≡ Some e → slice_get (exprs_of rows) n ≡ Some e → m ≡ n
+-- each entry has the numbers of its expression's children and stands under the node over these, and no expression has two numbers
+pub record IsNumbering (nodes : List (Tree × Numbered)) : Type 0 where
+  pub keyed : (n : ℕ) (r : Tree × Numbered) → slice_get nodes n ≡ Some r → r.0 ≡ over_numbers r.1.expr r.1.below.items
+  pub numbered : (n : ℕ) (r : Tree × Numbered) → slice_get nodes n ≡ Some r → AreNumbersOf (exprs_of nodes) r.1.below.items (children_of r.1.expr)
+  pub once : (m n : ℕ) (e : Tree) → slice_get (exprs_of nodes) m ≡ Some e → slice_get (exprs_of nodes) n ≡ Some e → m ≡ n
 
 -- each expression keeps its number
 abbrev pub KeepsNumbers : List Tree → List Tree → Type 0
@@ -46,5 +46,5 @@ KeepsNumbers old new = (n : ℕ) (e : Tree) → slice_get old n ≡ Some e → s
 
 -- the table is a numbering again, and each expression keeps its number
 pub record Grows (old new : Numbers) : Type 0 where
-  pub numbering : IsNumbering new.rows.entries
+  pub numbering : IsNumbering new.nodes.entries
   pub kept : KeepsNumbers (known old) (known new)

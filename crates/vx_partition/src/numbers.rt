@@ -23,40 +23,40 @@ pub(crate) struct Numbered {
 /// node with the numbers of its children in the children's place, so that the node alone is hashed and compared, and nothing below it.
 #[derive(Drop)]
 pub(crate) struct Numbers {
-    rows: IndexMap<ExprRef, Numbered>,
+    nodes: IndexMap<ExprRef, Numbered>,
 }
 
 impl Numbers {
     /// Without any expression.
     pub(crate) fn new(alloc: Global) -> Numbers
-        ensures { IsNumbering result.rows.entries }
+        ensures { IsNumbering result.nodes.entries }
     {
         Numbers {
-            rows: IndexMap::new(alloc),
+            nodes: IndexMap::new(alloc),
         }
     }
 
     /// The numbers of the children of the expression with this number.
     pub(crate) fn below(&self, number: usize) -> &[usize]
-        requires numbering { IsNumbering self.now.rows.entries }
+        requires numbering { IsNumbering self.now.nodes.entries }
         requires known { number < length (known self.now) }
         ensures { (e : Tree) → slice_get (known self.now) number ≡ Some e → AreNumbersOf (known self.now) result.now (children_of e) }
     {
-        match self.rows.get_index(number) {
-            Some((_, row)) => row.below.as_slice(),
+        match self.nodes.get_index(number) {
+            Some((_, node)) => node.below.as_slice(),
             None => unreachable!(),
         }
     }
 
     /// The number of an expression whose children have these numbers; a new one where it has none.
     pub(crate) fn number(&mut self, alloc: Global, expr: &ExprRef, below: Vec<usize>) -> Mem<usize>
-        requires numbering { IsNumbering self.old.rows.entries }
+        requires numbering { IsNumbering self.old.nodes.entries }
         requires below { AreNumbersOf (known self.old) below.items (children_of expr.now) }
         ensures number { IfOk result (λ number. slice_get (known self.new) number ≡ Some expr.now) }
         ensures grown { OnOk result (Grows self.old self.new) }
     {
         let key = over_numbers(alloc, expr, below.as_slice())?;
-        match self.rows.get_full(&key) {
+        match self.nodes.get_full(&key) {
             Some((number, _, _)) => Ok(number),
             None => self.add(key, expr.clone()?, below),
         }
@@ -64,21 +64,21 @@ impl Numbers {
 
     /// Gives an expression that has none the next number.
     fn add(&mut self, key: ExprRef, expr: ExprRef, below: Vec<usize>) -> Mem<usize>
-        requires numbering { IsNumbering self.old.rows.entries }
+        requires numbering { IsNumbering self.old.nodes.entries }
         requires below { AreNumbersOf (known self.old) below.items (children_of expr) }
         requires key { key ≡ over_numbers expr below.items }
-        requires absent { lookup (tree_eq key) self.old.rows.entries ≡ None }
+        requires absent { lookup (tree_eq key) self.old.nodes.entries ≡ None }
         ensures number { IfOk result (λ number. slice_get (known self.new) number ≡ Some expr) }
         ensures grown { OnOk result (Grows self.old self.new) }
     {
-        let number = self.rows.len();
-        self.rows.insert(key, Numbered { expr, below })?;
+        let number = self.nodes.len();
+        self.nodes.insert(key, Numbered { expr, below })?;
         Ok(number)
     }
 
     /// The number of an expression, after those that stand below it have got theirs.
     pub(crate) fn number_whole(&mut self, alloc: Global, expr: &ExprRef) -> Mem<usize>
-        requires { IsNumbering self.old.rows.entries }
+        requires { IsNumbering self.old.nodes.entries }
         ensures number { IfOk result (λ number. slice_get (known self.new) number ≡ Some expr.now) }
         ensures grown { OnOk result (Grows self.old self.new) }
     {

@@ -1,4 +1,4 @@
-use Rattle.std.proofs.Common.{◌≡◌, ◌∙◌, sym, ap, List, [], length, Some, Ok, Err, subst}
+use Rattle.std.proofs.Common.{◌≡◌, ◌∙◌, sym, ap, List, [], Some, Ok, Err, subst}
 use Rattle.vx_dtype.specs.TypeViews.{type_view}
 use Rattle.vx_column.specs.Columns.{Column}
 use Rattle.vx_column.proofs.TrueCounts.{length_kept_self}

@@ -7,16 +7,16 @@ use Rattle.vx_partition.proofs.numbers.Numbers.add.Goals as goal
 
 pub returns : goal.returns
 returns c =
-    let rows = c.args.self.now.rows.entries in
+    let nodes = c.args.self.now.nodes.entries in
     let v : Numbered = record { expr = c.args.expr; below = c.args.below } in
     let new = c.insert.new.self.entries in
     record {
       number =
           ap (slice_get (exprs_of new)) c.len-number.ensures.len
-          ∙ new_number rows c.requires.numbering c.args.key v c.requires.below c.requires.key c.requires.absent new c.in_ok-insert.ensures.entries;
+          ∙ new_number nodes c.requires.numbering c.args.key v c.requires.below c.requires.key c.requires.absent new c.in_ok-insert.ensures.entries;
       grown =
           record {
-            numbering = still_numbering rows c.requires.numbering c.args.key v c.requires.below c.requires.key c.requires.absent new c.in_ok-insert.ensures.entries;
-            kept = still_known rows c.requires.numbering c.args.key v c.requires.below c.requires.key c.requires.absent new c.in_ok-insert.ensures.entries;
+            numbering = still_numbering nodes c.requires.numbering c.args.key v c.requires.below c.requires.key c.requires.absent new c.in_ok-insert.ensures.entries;
+            kept = still_known nodes c.requires.numbering c.args.key v c.requires.below c.requires.key c.requires.absent new c.in_ok-insert.ensures.entries;
           };
     }

@@ -7,11 +7,11 @@ use Rattle.vx_partition.proofs.numbers.Numbers.number.Goals as goal
 pub over_numbers-requires : goal.over_numbers-requires
 over_numbers-requires c =
     ap length c.as_slice.ensures.value
-    ∙ as_many_numbers (exprs_of c.args.self.now.rows.entries) c.args.below.items (children_of c.args.expr.now) c.requires.below
+    ∙ as_many_numbers (exprs_of c.args.self.now.nodes.entries) c.args.below.items (children_of c.args.expr.now) c.requires.below
 
 pub returns-in-Some-clause-number : goal.returns-in-Some-clause-number
 returns-in-Some-clause-number c =
-    let rows = c.args.self.now.rows.entries in
+    let nodes = c.args.self.now.nodes.entries in
     let key_is = c.in_ok-key.ensures ∙ ap (over_numbers c.args.expr.now) c.as_slice.ensures.value in
-    is_found rows c.requires.numbering c.in-Some.number (c.in-Some.field-0-1.now, c.in-Some.field-0-2.now) c.in-Some.ensures.entry c.args.expr.now
-    c.args.below.items c.requires.below (sym key_is ∙ same_key c.in_ok-key.key c.in-Some.field-0-1.now rows (sym c.in-Some.ensures.key))
+    is_found nodes c.requires.numbering c.in-Some.number (c.in-Some.field-0-1.now, c.in-Some.field-0-2.now) c.in-Some.ensures.entry c.args.expr.now
+    c.args.below.items c.requires.below (sym key_is ∙ same_key c.in_ok-key.key c.in-Some.field-0-1.now nodes (sym c.in-Some.ensures.key))
