@@ -1,222 +1,203 @@
 //! With memory at hand each call that may lack it answers.
 
+use crate::appended::appends_to;
+use crate::calls::*;
 use crate::columns::*;
+use crate::structs::{made_of, with};
 use std::alloc::Global;
 use std::rc::Rc;
-use std::test::Fail;
-use vx_column::{ColumnRef, is_null};
+use vx_column::ColumnRef;
 use vx_dtype::{
-    BetweenOptions, CompareOperator, DType, FieldNames, Nullability, PType, Scalar, ScalarValue,
+    BetweenOptions, CompareOperator, DType, Mem, Nullability, PType, Scalar, ScalarValue,
     StrictComparison,
 };
 
 /// A column of one number, never null.
-fn one(alloc: Global, i: i128) -> Result<ColumnRef, Fail> {
-    let values = Vec::from_slice(alloc, [Some(i)].as_slice())?;
-    Ok(ColumnRef::primitive(alloc, PType::U8, values, Nullability::NonNullable)?)
+fn one(alloc: Global, i: i128) -> Made {
+    numbers_of(
+        alloc,
+        PType::U8,
+        [Some(i)].as_slice(),
+        Nullability::NonNullable,
+    )
 }
 
 /// A column of one truth, never null.
-fn sure(alloc: Global, b: bool) -> Result<ColumnRef, Fail> {
-    let values = Vec::from_slice(alloc, [Some(b)].as_slice())?;
-    Ok(ColumnRef::bool(alloc, values, Nullability::NonNullable)?)
+fn sure(alloc: Global, b: bool) -> Made {
+    truths_of(alloc, [Some(b)].as_slice(), Nullability::NonNullable)
+}
+
+/// The type of those numbers.
+fn byte() -> DType {
+    DType::Primitive(PType::U8, Nullability::NonNullable)
 }
 
 /// A vector of one number.
-fn four(alloc: Global) -> Result<Vec<ScalarValue>, Fail> {
-    let mut values = Vec::new(alloc);
-    values.push(ScalarValue::Int(4))?;
-    Ok(values)
+fn four(alloc: Global) -> Mem<Vec<ScalarValue>> {
+    only(alloc, ScalarValue::Int(4))
 }
 
-fn from_values_answers(alloc: Global) -> Result<bool, Fail> {
-    let dtype = DType::Primitive(PType::U8, Nullability::NonNullable);
-    let c = ColumnRef::from_values(alloc, dtype.clone()?, four(alloc)?.as_slice())?;
-    let kept = ColumnRef::of_values(alloc, dtype, four(alloc)?)?;
-    Ok(c == one(alloc, 4)? && c == kept)
+/// The column of that vector's values.
+fn copied(alloc: Global) -> Made {
+    typed(alloc, byte(), four(alloc))
 }
 
-fn constant_answers(alloc: Global) -> Result<bool, Fail> {
-    let number = ColumnRef::constant(alloc, &Scalar::from(4u8), 1)?;
-    let truth = ColumnRef::constant(alloc, &Scalar::from(true), 1)?;
-    Ok(number == one(alloc, 4)? && truth == sure(alloc, true)?)
+/// The column of that vector, which it keeps.
+fn kept(alloc: Global) -> Made {
+    ColumnRef::of_values(alloc, byte(), four(alloc)?)
 }
 
-fn utf8_answers(alloc: Global) -> Result<bool, Fail> {
-    let c = texts(alloc, [Some("a")].as_slice())?;
-    let a = Scalar::utf8(alloc, "a", Nullability::Nullable)?;
-    Ok(c == ColumnRef::constant(alloc, &a, 1)?)
+fn utf8_answers(alloc: Global) -> bool {
+    gives(
+        texts(alloc, [Some("a")].as_slice()),
+        constant_text(alloc, "a", 1),
+    )
 }
 
 /// A column of the list of 4.
-fn listed(alloc: Global) -> Result<ColumnRef, Fail> {
-    let dtype = DType::Primitive(PType::U8, Nullability::NonNullable);
-    let mut items = Vec::new(alloc);
-    items.push(Some(four(alloc)?))?;
-    Ok(ColumnRef::list(alloc, dtype, items, Nullability::NonNullable)?)
+fn listed(alloc: Global) -> Made {
+    let item = four(alloc)?;
+    one_list(alloc, byte(), Some(item), Nullability::NonNullable)
 }
 
-fn list_answers(alloc: Global) -> Result<bool, Fail> {
-    let c = listed(alloc)?;
-    let value = ScalarValue::List(Rc::new(alloc, four(alloc)?)?);
-    let mut values = Vec::new(alloc);
-    values.push(value)?;
-    Ok(c == ColumnRef::from_values(alloc, c.dtype().clone()?, values.as_slice())?)
+/// A vector of the list of 4.
+fn list_of_four(alloc: Global) -> Mem<Vec<ScalarValue>> {
+    let list = Rc::new(alloc, four(alloc)?)?;
+    only(alloc, ScalarValue::List(list))
 }
 
-fn clone_answers(alloc: Global) -> Result<bool, Fail> {
-    let c = one(alloc, 4)?;
-    Ok(c.clone()? == c)
+/// The column of that vector's values, of a column's type.
+fn typed_as(alloc: Global, c: &ColumnRef) -> Made {
+    typed(alloc, c.dtype().clone()?, list_of_four(alloc))
 }
 
-fn scalar_at_answers(alloc: Global) -> Result<bool, Fail> {
-    let c = one(alloc, 4)?;
-    if c.len() != 1 {
-        return Ok(false);
+fn list_answers(alloc: Global) -> bool {
+    match listed(alloc) {
+        Ok(c) => gives(typed_as(alloc, &c), Ok(c)),
+        Err(_) => false,
     }
-    Ok(c.scalar_at(alloc, 0)? == Scalar::from(4u8))
 }
 
-fn append_to_answers(alloc: Global) -> Result<bool, Fail> {
-    let c = one(alloc, 4)?;
-    let mut values = Vec::new(alloc);
-    c.append_to(alloc, &mut values)?;
-    Ok(ColumnRef::from_values(alloc, c.dtype().clone()?, values.as_slice())? == c)
+/// A copy of a column.
+fn copy_of(c: &ColumnRef) -> Mem<ColumnRef> {
+    Ok(c.clone()?)
+}
+
+fn clone_answers(alloc: Global) -> bool {
+    match one(alloc, 4) {
+        Ok(c) => gives(answered(copy_of(&c)), Ok(c)),
+        Err(_) => false,
+    }
+}
+
+/// Whether a column has this value at its only row.
+fn has_only(alloc: Global, c: &ColumnRef, want: &Scalar) -> bool {
+    if c.len() != 1 {
+        return false;
+    }
+    match &c.scalar_at(alloc, 0) {
+        Ok(value) => *value == *want,
+        Err(_) => false,
+    }
+}
+
+fn scalar_at_answers(alloc: Global) -> bool {
+    match &one(alloc, 4) {
+        Ok(c) => has_only(alloc, c, &Scalar::from(4u8)),
+        Err(_) => false,
+    }
 }
 
 /// A struct column of one field.
-fn boxed(alloc: Global) -> Result<ColumnRef, Fail> {
-    let mut fields = Vec::new(alloc);
-    fields.push(one(alloc, 4)?)?;
-    let names = FieldNames::new(alloc, names(alloc, ["a"].as_slice())?)?;
-    Ok(ColumnRef::struct_(alloc, names, fields, 1, None)?)
+fn boxed(alloc: Global) -> Made {
+    let fields = with(Ok(Vec::new(alloc)), one(alloc, 4));
+    made_of(alloc, ["a"].as_slice(), fields, 1, None)
 }
 
-fn field_answers(alloc: Global) -> Result<bool, Fail> {
-    let c = boxed(alloc)?;
-    let want = one(alloc, 4)?;
-    field_gives(alloc, &c, "a", Ok(&want))
+fn project_answers(alloc: Global) -> bool {
+    project_gives(alloc, boxed(alloc), ["a"].as_slice(), boxed(alloc))
 }
 
-fn project_answers(alloc: Global) -> Result<bool, Fail> {
-    let c = boxed(alloc)?;
-    project_gives(alloc, &c, ["a"].as_slice(), Ok(&c))
+fn mask_answers(alloc: Global) -> bool {
+    let want = numbers(alloc, PType::U8, [None].as_slice());
+    mask_gives(alloc, one(alloc, 4), sure(alloc, true), want)
 }
 
-fn filter_answers(alloc: Global) -> Result<bool, Fail> {
-    let c = one(alloc, 4)?;
-    let by = sure(alloc, true)?;
-    filter_gives(alloc, &c, &by, &c)
+fn compare_answers(alloc: Global) -> bool {
+    let want = sure(alloc, true);
+    compare_gives(
+        alloc,
+        one(alloc, 3),
+        one(alloc, 2),
+        CompareOperator::Gt,
+        want,
+    )
 }
 
-fn mask_answers(alloc: Global) -> Result<bool, Fail> {
-    let c = one(alloc, 4)?;
-    let by = sure(alloc, true)?;
-    let want = numbers(alloc, PType::U8, [None].as_slice())?;
-    mask_gives(alloc, &c, &by, &want)
-}
-
-fn compare_answers(alloc: Global) -> Result<bool, Fail> {
-    let l = one(alloc, 3)?;
-    let r = one(alloc, 2)?;
-    let want = sure(alloc, true)?;
-    compare_gives(alloc, &l, &r, CompareOperator::Gt, &want)
-}
-
-fn between_answers(alloc: Global) -> Result<bool, Fail> {
+fn between_answers(alloc: Global) -> bool {
     let options = BetweenOptions {
         lower_strict: StrictComparison::Strict,
         upper_strict: StrictComparison::NonStrict,
     };
-    let l = one(alloc, 3)?;
-    let r = one(alloc, 2)?;
-    let want = sure(alloc, true)?;
-    between_gives(alloc, &l, &r, &l, options, &want)
+    let want = sure(alloc, true);
+    between_gives(
+        alloc,
+        one(alloc, 3),
+        one(alloc, 2),
+        one(alloc, 3),
+        options,
+        want,
+    )
 }
 
-fn and_kleene_answers(alloc: Global) -> Result<bool, Fail> {
-    let l = sure(alloc, true)?;
-    let r = sure(alloc, false)?;
-    and_gives(alloc, &l, &r, &r)
+fn and_answers(alloc: Global) -> bool {
+    let want = sure(alloc, false);
+    and_gives(alloc, sure(alloc, true), sure(alloc, false), want)
 }
 
-fn or_kleene_answers(alloc: Global) -> Result<bool, Fail> {
-    let l = sure(alloc, true)?;
-    let r = sure(alloc, false)?;
-    or_gives(alloc, &l, &r, &l)
+fn or_answers(alloc: Global) -> bool {
+    let want = sure(alloc, true);
+    or_gives(alloc, sure(alloc, true), sure(alloc, false), want)
 }
 
-fn invert_answers(alloc: Global) -> Result<bool, Fail> {
-    let c = sure(alloc, true)?;
-    let want = sure(alloc, false)?;
-    invert_gives(alloc, &c, &want)
+fn like_answers(alloc: Global) -> bool {
+    let c = texts(alloc, [Some("abc")].as_slice());
+    let pattern = texts(alloc, [Some("a%")].as_slice());
+    let want = truths(alloc, [Some(true)].as_slice());
+    like_gives(alloc, c, pattern, false, false, want)
 }
 
-fn is_null_answers(alloc: Global) -> Result<bool, Fail> {
-    let c = sure(alloc, true)?;
-    let want = sure(alloc, false)?;
-    Ok(is_null(alloc, &c)? == want)
-}
-
-fn like_answers(alloc: Global) -> Result<bool, Fail> {
-    let c = texts(alloc, [Some("abc")].as_slice())?;
-    let pattern = texts(alloc, [Some("a%")].as_slice())?;
-    let want = truths(alloc, [Some(true)].as_slice())?;
-    like_gives(alloc, &c, &pattern, false, false, &want)
-}
-
-fn list_contains_answers(alloc: Global) -> Result<bool, Fail> {
-    let lists = listed(alloc)?;
-    let values = one(alloc, 4)?;
-    let want = sure(alloc, true)?;
-    contains_gives(alloc, &lists, &values, &want)
-}
-
-fn checked_add_answers(alloc: Global) -> Result<bool, Fail> {
-    let l = one(alloc, 3)?;
-    let r = one(alloc, 2)?;
-    let want = one(alloc, 5)?;
-    Ok(add_gives(alloc, &l, &r, Ok(&want)))
-}
-
-fn checked_sub_answers(alloc: Global) -> Result<bool, Fail> {
-    let l = one(alloc, 3)?;
-    let r = one(alloc, 2)?;
-    let want = one(alloc, 1)?;
-    Ok(sub_gives(alloc, &l, &r, Ok(&want)))
-}
-
-fn cast_answers(alloc: Global) -> Result<bool, Fail> {
+fn cast_answers(alloc: Global) -> bool {
     let target = DType::Primitive(PType::I64, Nullability::Nullable);
-    let c = one(alloc, 4)?;
-    let want = numbers(alloc, PType::I64, [Some(4)].as_slice())?;
-    Ok(cast_gives(alloc, &c, &target, Ok(&want)))
+    let want = numbers(alloc, PType::I64, [Some(4)].as_slice());
+    cast_gives(alloc, one(alloc, 4), &target, want)
 }
 
 #[test]
-fn ample(rt: HostRuntime) -> Result<(), Fail> {
+fn ample(rt: HostRuntime) {
     let alloc = rt.alloc();
-    assert!(rt; from_values_answers(alloc)?);
-    assert!(rt; constant_answers(alloc)?);
-    assert!(rt; utf8_answers(alloc)?);
-    assert!(rt; list_answers(alloc)?);
-    assert!(rt; clone_answers(alloc)?);
-    assert!(rt; scalar_at_answers(alloc)?);
-    assert!(rt; append_to_answers(alloc)?);
-    assert!(rt; field_answers(alloc)?);
-    assert!(rt; project_answers(alloc)?);
-    assert!(rt; filter_answers(alloc)?);
-    assert!(rt; mask_answers(alloc)?);
-    assert!(rt; compare_answers(alloc)?);
-    assert!(rt; between_answers(alloc)?);
-    assert!(rt; and_kleene_answers(alloc)?);
-    assert!(rt; or_kleene_answers(alloc)?);
-    assert!(rt; invert_answers(alloc)?);
-    assert!(rt; is_null_answers(alloc)?);
-    assert!(rt; like_answers(alloc)?);
-    assert!(rt; list_contains_answers(alloc)?);
-    assert!(rt; checked_add_answers(alloc)?);
-    assert!(rt; checked_sub_answers(alloc)?);
-    assert!(rt; cast_answers(alloc)?);
-    Ok(())
+    assert!(rt; gives(copied(alloc), one(alloc, 4)));
+    assert!(rt; gives(copied(alloc), kept(alloc)));
+    assert!(rt; gives(constant(alloc, Scalar::from(4u8), 1), one(alloc, 4)));
+    assert!(rt; gives(constant(alloc, Scalar::from(true), 1), sure(alloc, true)));
+    assert!(rt; utf8_answers(alloc));
+    assert!(rt; list_answers(alloc));
+    assert!(rt; clone_answers(alloc));
+    assert!(rt; scalar_at_answers(alloc));
+    assert!(rt; appends_to(alloc, Ok(Vec::new(alloc)), one(alloc, 4), one(alloc, 4)));
+    assert!(rt; field_gives(alloc, boxed(alloc), "a", one(alloc, 4)));
+    assert!(rt; project_answers(alloc));
+    assert!(rt; filter_gives(alloc, one(alloc, 4), sure(alloc, true), one(alloc, 4)));
+    assert!(rt; mask_answers(alloc));
+    assert!(rt; compare_answers(alloc));
+    assert!(rt; between_answers(alloc));
+    assert!(rt; and_answers(alloc));
+    assert!(rt; or_answers(alloc));
+    assert!(rt; invert_gives(alloc, sure(alloc, true), sure(alloc, false)));
+    assert!(rt; is_null_gives(alloc, sure(alloc, true), sure(alloc, false)));
+    assert!(rt; like_answers(alloc));
+    assert!(rt; contains_gives(alloc, listed(alloc), one(alloc, 4), sure(alloc, true)));
+    assert!(rt; add_gives(alloc, one(alloc, 3), one(alloc, 2), one(alloc, 5)));
+    assert!(rt; sub_gives(alloc, one(alloc, 3), one(alloc, 2), one(alloc, 1)));
+    assert!(rt; cast_answers(alloc));
 }

@@ -1,52 +1,68 @@
 //! The values of a column, put behind those of a list.
 
-use crate::columns::{numbers, texts};
+use crate::columns::{Made, gives, numbers, only, texts, typed};
 use crate::kept::{columns, thrice};
-use crate::structs::{pair, pairs, text};
+use crate::structs::{Pair, pair, pairs, text};
 use std::alloc::Global;
-use std::test::Fail;
 use vx_column::ColumnRef;
-use vx_dtype::{Nullability, PType, ScalarValue};
+use vx_dtype::{Mem, Nullability, PType, ScalarValue};
 
-/// Whether a column's values, put behind a list of one value, make this column with it.
+/// The column of a list's values, with a column's behind them.
+fn appended(alloc: Global, values: Vec<ScalarValue>, c: &ColumnRef) -> Made {
+    let mut values = values;
+    c.append_to(alloc, &mut values)?;
+    typed(alloc, c.dtype().clone()?, Ok(values))
+}
+
+/// Whether a column's values, put behind these, make this column with them.
 pub(crate) fn appends_to(
     alloc: Global,
-    first: ScalarValue,
-    c: &ColumnRef,
-    want: &ColumnRef,
-) -> Result<bool, Fail> {
-    let mut values = Vec::new(alloc);
-    values.push(first)?;
-    c.append_to(alloc, &mut values)?;
-    let made = ColumnRef::from_values(alloc, c.dtype().clone()?, values.as_slice())?;
-    Ok(made == *want)
+    values: Mem<Vec<ScalarValue>>,
+    c: Made,
+    want: Made,
+) -> bool {
+    match (values, &c) {
+        (Ok(values), Ok(c)) => gives(appended(alloc, values, c), want),
+        _ => false,
+    }
+}
+
+/// Whether a column's numbers, put behind 9, are these.
+fn follow_nine(alloc: Global, rows: &[Option<i128>], want: &[Option<i128>]) -> bool {
+    let nine = only(alloc, ScalarValue::Int(9));
+    let want = numbers(alloc, PType::I8, want);
+    appends_to(alloc, nine, numbers(alloc, PType::I8, rows), want)
 }
 
 #[test]
-fn values_of_columns(rt: HostRuntime) -> Result<(), Fail> {
+fn values_of_columns(rt: HostRuntime) {
     let alloc = rt.alloc();
     let rows = [Some(1), None, Some(3)];
-    let c = numbers(alloc, PType::I8, rows.as_slice())?;
-    let rows = [Some(9), Some(1), None, Some(3)];
-    let want = numbers(alloc, PType::I8, rows.as_slice())?;
-    assert!(rt; appends_to(alloc, ScalarValue::Int(9), &c, &want)?);
-    let none = numbers(alloc, PType::I8, [].as_slice())?;
-    let want = numbers(alloc, PType::I8, [Some(9)].as_slice())?;
-    assert!(rt; appends_to(alloc, ScalarValue::Int(9), &none, &want)?);
-    Ok(())
+    let want = [Some(9), Some(1), None, Some(3)];
+    assert!(rt; follow_nine(alloc, rows.as_slice(), want.as_slice()));
+    assert!(rt; follow_nine(alloc, [].as_slice(), [Some(9)].as_slice()));
+}
+
+/// A list of one text.
+fn one_text(alloc: Global, s: &str) -> Mem<Vec<ScalarValue>> {
+    only(alloc, text(alloc, Some(s))?)
 }
 
 #[test]
-fn values_of_columns_of_one_value(rt: HostRuntime) -> Result<(), Fail> {
+fn values_of_columns_of_one_value(rt: HostRuntime) {
     let alloc = rt.alloc();
     let rows = [Some("a"), Some("x"), Some("x"), Some("x")];
-    let want = texts(alloc, rows.as_slice())?;
-    assert!(rt; appends_to(alloc, text(alloc, Some("a"))?, &thrice(alloc)?, &want)?);
-    Ok(())
+    let want = texts(alloc, rows.as_slice());
+    assert!(rt; appends_to(alloc, one_text(alloc, "a"), thrice(alloc), want));
+}
+
+/// A list of one struct.
+fn one_pair(alloc: Global, row: Option<Pair<'_>>) -> Mem<Vec<ScalarValue>> {
+    only(alloc, pair(alloc, row)?)
 }
 
 #[test]
-fn values_of_structs_of_columns(rt: HostRuntime) -> Result<(), Fail> {
+fn values_of_structs_of_columns(rt: HostRuntime) {
     let alloc = rt.alloc();
     let first = Some((Some(7), Some("z")));
     let rows = [
@@ -55,7 +71,6 @@ fn values_of_structs_of_columns(rt: HostRuntime) -> Result<(), Fail> {
         Some((None, Some("y"))),
         Some((Some(3), None)),
     ];
-    let want = pairs(alloc, rows.as_slice(), Nullability::NonNullable)?;
-    assert!(rt; appends_to(alloc, pair(alloc, first)?, &columns(alloc)?, &want)?);
-    Ok(())
+    let want = pairs(alloc, rows.as_slice(), Nullability::NonNullable);
+    assert!(rt; appends_to(alloc, one_pair(alloc, first), columns(alloc), want));
 }

@@ -1,12 +1,12 @@
 //! Columns of one value and structs of columns: they are the same as their rows written out, and hash equally.
 
-use crate::columns::{answers, field_gives, filter_gives, numbers, project_gives, texts, truths};
-use crate::structs::{made_of, pairs, parts};
+use crate::calls::{field_gives, filter_gives, project_gives};
+use crate::columns::{Made, constant_text, numbers, texts, truths};
+use crate::structs::{both, made_of, pairs, parts};
 use std::alloc::Global;
 use std::hash::{DefaultHasher, Hash, Hasher};
-use std::test::Fail;
 use vx_column::{ColumnError, ColumnRef};
-use vx_dtype::{Nullability, PType, Scalar};
+use vx_dtype::{Mem, Nullability, PType, Scalar};
 
 /// The hash of a column.
 fn hash_of(c: &ColumnRef) -> u64 {
@@ -20,34 +20,52 @@ fn are_one(a: &ColumnRef, b: &ColumnRef) -> bool {
     a == b && b == a && hash_of(a) == hash_of(b)
 }
 
+/// Whether two columns are made and are one.
+fn same(a: Made, b: Made) -> bool {
+    match (&a, &b) {
+        (Ok(a), Ok(b)) => are_one(a, b),
+        _ => false,
+    }
+}
+
+/// Whether two columns are made and differ.
+fn differ(a: Made, b: Made) -> bool {
+    match (&a, &b) {
+        (Ok(a), Ok(b)) => *a != *b,
+        _ => false,
+    }
+}
+
 /// The text `x` at three rows, as one value.
-pub(crate) fn thrice(alloc: Global) -> Result<ColumnRef, Fail> {
-    let x = Scalar::utf8(alloc, "x", Nullability::Nullable)?;
-    Ok(ColumnRef::constant(alloc, &x, 3)?)
+pub(crate) fn thrice(alloc: Global) -> Made {
+    constant_text(alloc, "x", 3)
 }
 
 #[test]
-fn columns_of_one_value(rt: HostRuntime) -> Result<(), Fail> {
+fn columns_of_one_value(rt: HostRuntime) {
     let alloc = rt.alloc();
-    let c = thrice(alloc)?;
     let x = Some("x");
-    assert!(rt; are_one(&c, &texts(alloc, [x, x, x].as_slice())?));
-    assert!(rt; c != texts(alloc, [x, x].as_slice())?);
-    assert!(rt; c != texts(alloc, [x, Some("y"), x].as_slice())?);
-    assert!(rt; c != texts(alloc, [x, x, None].as_slice())?);
-    let keep = truths(alloc, [Some(true), None, Some(true)].as_slice())?;
-    assert!(rt; filter_gives(alloc, &c, &keep, &texts(alloc, [x, x].as_slice())?)?);
-    Ok(())
+    assert!(rt; same(thrice(alloc), texts(alloc, [x, x, x].as_slice())));
+    assert!(rt; differ(thrice(alloc), texts(alloc, [x, x].as_slice())));
+    assert!(rt; differ(thrice(alloc), texts(alloc, [x, Some("y"), x].as_slice())));
+    assert!(rt; differ(thrice(alloc), texts(alloc, [x, x, None].as_slice())));
+}
+
+#[test]
+fn kept_columns_of_one_value(rt: HostRuntime) {
+    let alloc = rt.alloc();
+    let keep = truths(alloc, [Some(true), None, Some(true)].as_slice());
+    let want = texts(alloc, [Some("x"), Some("x")].as_slice());
+    assert!(rt; filter_gives(alloc, thrice(alloc), keep, want));
 }
 
 /// The structs of the numbers 1, null and 3, and the texts `x`, `y` and null, kept as two columns.
-pub(crate) fn columns(alloc: Global) -> Result<ColumnRef, Fail> {
-    let names = ["a", "b"];
-    Ok(made_of(alloc, names.as_slice(), parts(alloc)?, 3, None)??)
+pub(crate) fn columns(alloc: Global) -> Made {
+    made_of(alloc, ["a", "b"].as_slice(), parts(alloc), 3, None)
 }
 
 /// The same structs, row by row.
-fn rows(alloc: Global) -> Result<ColumnRef, Fail> {
+fn rows(alloc: Global) -> Made {
     let rows = [
         Some((Some(1), Some("x"))),
         Some((None, Some("y"))),
@@ -57,7 +75,7 @@ fn rows(alloc: Global) -> Result<ColumnRef, Fail> {
 }
 
 /// Other structs, row by row: the last text is empty, and not null.
-fn other_rows(alloc: Global) -> Result<ColumnRef, Fail> {
+fn other_rows(alloc: Global) -> Made {
     let rows = [
         Some((Some(1), Some("x"))),
         Some((None, Some("y"))),
@@ -67,68 +85,78 @@ fn other_rows(alloc: Global) -> Result<ColumnRef, Fail> {
 }
 
 #[test]
-fn structs_of_columns(rt: HostRuntime) -> Result<(), Fail> {
+fn structs_of_columns(rt: HostRuntime) {
     let alloc = rt.alloc();
-    let c = columns(alloc)?;
-    assert!(rt; are_one(&c, &rows(alloc)?));
-    assert!(rt; are_one(&c, &columns(alloc)?));
-    let other = other_rows(alloc)?;
-    assert!(rt; c != other);
-    assert!(rt; other != c);
-    Ok(())
+    assert!(rt; same(columns(alloc), rows(alloc)));
+    assert!(rt; same(columns(alloc), columns(alloc)));
+    assert!(rt; differ(columns(alloc), other_rows(alloc)));
+    assert!(rt; differ(other_rows(alloc), columns(alloc)));
 }
 
 #[test]
-fn fields_of_structs_of_columns(rt: HostRuntime) -> Result<(), Fail> {
+fn fields_of_structs_of_columns(rt: HostRuntime) {
     let alloc = rt.alloc();
-    let c = columns(alloc)?;
-    let a = numbers(alloc, PType::I8, [Some(1), None, Some(3)].as_slice())?;
-    let b = texts(alloc, [Some("x"), Some("y"), None].as_slice())?;
-    assert!(rt; field_gives(alloc, &c, "a", Ok(&a))?);
-    assert!(rt; field_gives(alloc, &c, "b", Ok(&b))?);
-    assert!(rt; field_gives(alloc, &c, "c", Err(ColumnError::UnknownField))?);
-    Ok(())
+    let a = numbers(alloc, PType::I8, [Some(1), None, Some(3)].as_slice());
+    assert!(rt; field_gives(alloc, columns(alloc), "a", a));
+    let b = texts(alloc, [Some("x"), Some("y"), None].as_slice());
+    assert!(rt; field_gives(alloc, columns(alloc), "b", b));
+    assert!(rt; field_gives(alloc, columns(alloc), "c", Err(ColumnError::UnknownField)));
 }
 
 #[test]
-fn kept_structs_of_columns(rt: HostRuntime) -> Result<(), Fail> {
+fn kept_structs_of_columns(rt: HostRuntime) {
     let alloc = rt.alloc();
-    let c = columns(alloc)?;
-    let keep = truths(alloc, [None, Some(true), Some(false)].as_slice())?;
+    let keep = truths(alloc, [None, Some(true), Some(false)].as_slice());
     let middle = [Some((None, Some("y")))];
-    let want = pairs(alloc, middle.as_slice(), Nullability::NonNullable)?;
-    assert!(rt; filter_gives(alloc, &c, &keep, &want)?);
-    Ok(())
+    let want = pairs(alloc, middle.as_slice(), Nullability::NonNullable);
+    assert!(rt; filter_gives(alloc, columns(alloc), keep, want));
 }
 
 /// The same columns, the texts before the numbers.
-fn turned(alloc: Global) -> Result<ColumnRef, Fail> {
-    let mut fields = Vec::new(alloc);
-    fields.push(texts(alloc, [Some("x"), Some("y"), None].as_slice())?)?;
-    fields.push(numbers(alloc, PType::I8, [Some(1), None, Some(3)].as_slice())?)?;
+fn turned(alloc: Global) -> Made {
+    let b = texts(alloc, [Some("x"), Some("y"), None].as_slice());
+    let a = numbers(alloc, PType::I8, [Some(1), None, Some(3)].as_slice());
+    made_of(alloc, ["b", "a"].as_slice(), both(alloc, b, a), 3, None)
+}
+
+#[test]
+fn projected_structs_of_columns(rt: HostRuntime) {
+    let alloc = rt.alloc();
     let names = ["b", "a"];
-    Ok(made_of(alloc, names.as_slice(), fields, 3, None)??)
+    assert!(rt; project_gives(alloc, columns(alloc), names.as_slice(), turned(alloc)));
 }
 
-#[test]
-fn projected_structs_of_columns(rt: HostRuntime) -> Result<(), Fail> {
-    let alloc = rt.alloc();
-    let c = columns(alloc)?;
-    let want = turned(alloc)?;
-    assert!(rt; project_gives(alloc, &c, ["b", "a"].as_slice(), Ok(&want))?);
-    Ok(())
-}
-
-#[test]
-fn values_of_structs_of_columns(rt: HostRuntime) -> Result<(), Fail> {
-    let alloc = rt.alloc();
-    let c = columns(alloc)?;
-    let want = rows(alloc)?;
-    for i in 0..3 {
-        if i < c.len() && i < want.len() {
-            assert!(rt; c.scalar_at(alloc, i)? == want.scalar_at(alloc, i)?);
-            assert!(rt; c.is_valid(i));
-        }
+/// Whether two values are made and are equal.
+fn equal(a: Mem<Scalar>, b: Mem<Scalar>) -> bool {
+    match (&a, &b) {
+        (Ok(a), Ok(b)) => *a == *b,
+        _ => false,
     }
-    Ok(())
+}
+
+/// As below, for columns that are made.
+fn have_value(alloc: Global, a: &ColumnRef, b: &ColumnRef, i: usize) -> bool {
+    if i >= a.len() {
+        return false;
+    }
+    if i >= b.len() {
+        return false;
+    }
+    a.is_valid(i) && equal(a.scalar_at(alloc, i), b.scalar_at(alloc, i))
+}
+
+/// Whether two columns have the same value at a row, and it isn't null.
+fn share_value(alloc: Global, a: Made, b: Made, i: usize) -> bool {
+    match (&a, &b) {
+        (Ok(a), Ok(b)) => have_value(alloc, a, b, i),
+        _ => false,
+    }
+}
+
+#[test]
+fn values_of_structs_of_columns(rt: HostRuntime) {
+    let alloc = rt.alloc();
+    for i in 0..3 {
+        assert!(rt; share_value(alloc, columns(alloc), rows(alloc), i));
+    }
 }

@@ -6,11 +6,15 @@ mod ample;
 #[cfg(test)]
 mod appended;
 #[cfg(test)]
+mod calls;
+#[cfg(test)]
 mod columns;
 #[cfg(test)]
 mod counted;
 #[cfg(test)]
 mod kept;
+#[cfg(test)]
+mod kinds;
 #[cfg(test)]
 mod structs;
 #[cfg(test)]

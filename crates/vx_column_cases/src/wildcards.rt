@@ -1,8 +1,8 @@
 //! LIKE at texts, patterns and cases.
 
-use crate::columns::{like_gives, texts, truths};
+use crate::calls::like_gives;
+use crate::columns::{texts, truths};
 use std::alloc::Global;
-use std::test::Fail;
 
 /// Texts and patterns, whether they match, and whether they do so without regard to case.
 const MATCHES: [(&str, &str, bool, bool); 40] = [
@@ -56,21 +56,20 @@ fn match_gives(
     negated: bool,
     case_insensitive: bool,
     want: bool,
-) -> Result<bool, Fail> {
-    let c = texts(alloc, [Some(text), None, Some(text), None].as_slice())?;
-    let p = texts(alloc, [Some(pattern), Some(pattern), None, None].as_slice())?;
-    let rows = truths(alloc, [Some(want), None, None, None].as_slice())?;
-    like_gives(alloc, &c, &p, negated, case_insensitive, &rows)
+) -> bool {
+    let c = texts(alloc, [Some(text), None, Some(text), None].as_slice());
+    let p = texts(alloc, [Some(pattern), Some(pattern), None, None].as_slice());
+    let rows = truths(alloc, [Some(want), None, None, None].as_slice());
+    like_gives(alloc, c, p, negated, case_insensitive, rows)
 }
 
 #[test]
-fn texts_and_patterns(rt: HostRuntime) -> Result<(), Fail> {
+fn texts_and_patterns(rt: HostRuntime) {
     let alloc = rt.alloc();
     for (text, pattern, exact, folded) in MATCHES {
-        assert!(rt; match_gives(alloc, text, pattern, false, false, exact)?);
-        assert!(rt; match_gives(alloc, text, pattern, true, false, !exact)?);
-        assert!(rt; match_gives(alloc, text, pattern, false, true, folded)?);
-        assert!(rt; match_gives(alloc, text, pattern, true, true, !folded)?);
+        assert!(rt; match_gives(alloc, text, pattern, false, false, exact));
+        assert!(rt; match_gives(alloc, text, pattern, true, false, !exact));
+        assert!(rt; match_gives(alloc, text, pattern, false, true, folded));
+        assert!(rt; match_gives(alloc, text, pattern, true, true, !folded));
     }
-    Ok(())
 }
