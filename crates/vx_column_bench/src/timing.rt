@@ -1,0 +1,93 @@
+// Times of calls, and their answers kept.
+use crate::kernels::is_truth;
+use crate::word_lists::{Logic, Sides};
+use crate::works::Work;
+use anyhow::Result;
+use std::time::Instant;
+use vx_column::ColumnRef;
+
+/// Times a kernel over so many rows, so many times.
+pub(crate) fn time(rt: &HostRuntime, kernel: &str, rows: usize, times: usize) -> Result<()> {
+    match kernel {
+        "and_words" => time_words(rt, kernel, Logic::And, rows, times),
+        "or_words" => time_words(rt, kernel, Logic::Or, rows, times),
+        "not_words" => time_words(rt, kernel, Logic::Not, rows, times),
+        _ => time_columns(rt, kernel, rows, times),
+    }
+}
+
+/// Prints the nanoseconds since a start under a name.
+fn print_since(rt: &HostRuntime, name: &str, start: &Instant) -> Result<()> {
+    let nanoseconds = start.elapsed(rt)?.as_nanos();
+    println!(rt; "{name} {nanoseconds}")?;
+    Ok(())
+}
+
+/// Times a kernel of words of bits.
+fn time_words(
+    rt: &HostRuntime,
+    kernel: &str,
+    logic: Logic,
+    rows: usize,
+    times: usize,
+) -> Result<()> {
+    let mut sides = Sides::new(rt.alloc(), rows)?;
+    for _ in 0..times {
+        time_logic(rt, kernel, logic, &mut sides)?;
+    }
+    println!(rt; "answer {}", sides.true_count())?;
+    Ok(())
+}
+
+/// Times one call of a kernel of words of bits.
+fn time_logic(rt: &HostRuntime, kernel: &str, logic: Logic, sides: &mut Sides) -> Result<()> {
+    let start = Instant::now(rt)?;
+    sides.make(logic)?;
+    print_since(rt, kernel, &start)
+}
+
+/// Times a kernel of columns.
+fn time_columns(rt: &HostRuntime, kernel: &str, rows: usize, times: usize) -> Result<()> {
+    let work = Work::named(rt.alloc(), kernel, rows)?;
+    for _ in 0..times {
+        time_work(rt, kernel, &work)?;
+    }
+    print_answer(rt, &work)
+}
+
+/// Times one call of a kernel of columns.
+fn time_work(rt: &HostRuntime, kernel: &str, work: &Work) -> Result<()> {
+    let start = Instant::now(rt)?;
+    let _answer = work.answer(rt.alloc())?;
+    print_since(rt, kernel, &start)
+}
+
+/// Prints at how many rows an answer of truths is true, or how many rows another one has.
+fn print_answer(rt: &HostRuntime, work: &Work) -> Result<()> {
+    let answer = work.answer(rt.alloc())?;
+    println!(rt; "answer {}", size(&answer))?;
+    Ok(())
+}
+
+/// At how many rows a column of truths is true, or how many rows another one has.
+fn size(column: &ColumnRef) -> usize {
+    if is_truth(column.dtype()) {
+        return column.true_count();
+    }
+    column.len()
+}
+
+/// Keeps the answers of so many calls of a kernel of columns until it has printed how many rows each has.
+pub(crate) fn keep(rt: &HostRuntime, kernel: &str, rows: usize, times: usize) -> Result<()> {
+    let work = Work::named(rt.alloc(), kernel, rows)?;
+    let kept = work.answers(rt.alloc(), times)?;
+    print_rows(rt, kept.as_slice())
+}
+
+/// Prints how many rows each column has.
+fn print_rows(rt: &HostRuntime, columns: &[ColumnRef]) -> Result<()> {
+    for column in columns {
+        println!(rt; "rows {}", column.len())?;
+    }
+    Ok(())
+}
