@@ -1,29 +1,17 @@
--- Matching by a table of states.
-use Rattle.std.proofs.Common.{◌≡◌, refl, ap, ◌∙◌, sym, subst, ℕ, zero, suc, ◌+◌, ◌-◌, ◌<◌, ◌≤◌, ◌==◌, nat_eq, nat_lt, nat_le, Bool, true, false, cond, ◌&&◌, List, [], ◌∷◌, ◌++◌, map, drop, take, length, get_or, arith, inl, inr}
-use Rattle.std.proofs.Math.ListN.{set}
-use Rattle.std.proofs.lemmas.List.{drop_more, drop_all, take_all, append-nil, get_or-set_other}
-use Rattle.std.proofs.lemmas.Grind.{get_or-set_at}
-use Rattle.std.proofs.lemmas.Bool.{cases_lt}
-use Rattle.std.proofs.lemmas.List.Edits.{map_over_more}
-use Rattle.std.specs.Str.{chars}
-use Rattle.vx_dtype.specs.Types.{Bytes}
-use Rattle.std.specs.Char.{to_ascii_lowercase}
-use Rattle.vx_dtype.specs.Like.{Wildcard, any_run, any_one, just, plain_wildcard, wildcards, matches, is_empty, folded, folded_wildcard, text_matches}
-use Rattle.vx_column.specs.Patterns.{part_view, folded_if, is_run, takes, state_before, state_at_end, IsTable}
+-- Patterns of LIKE: reading them, and going back to the last run alone.
+use Rattle.std.proofs.Common.{◌≡◌, refl, ap, ◌∙◌, sym, subst, ℕ, ◌+◌, ◌-◌, ◌<◌, ◌≤◌, ◌==◌, nat_le, Bool, true, false, cond, ◌&&◌, ◌||◌, List, [], ◌∷◌, ◌++◌, map, length, drop, take, get_or, arith}
+use Rattle.std.proofs.lemmas.List.{append-nil, take_all}
+use Rattle.std.proofs.lemmas.Bool.Decides.{Decides-eqb}
+use Rattle.std.proofs.lemmas.Str.{chars_past_char, encodes-chars}
+use Rattle.std.specs.Str.{chars, IsUtf8}
+use Rattle.std.specs.Char.{encode_utf8}
+use lib.Utf8.{encodes}
+use Rattle.vx_dtype.specs.Types.{Ty, text_ty, Bytes}
+use Rattle.vx_dtype.specs.TypeRules.{is_text_ty, nullability_of}
+use Rattle.vx_dtype.specs.Like.{Wildcard, any_run, any_one, just, plain_wildcard, wildcards, matches, some_suffix, is_empty, folded, folded_wildcard, text_matches}
+use Rattle.vx_column.specs.Patterns.{part_view, letter, letters, folded_if, is_run, takes, IsRunBehind, IsPattern}
 use Rattle.vx_column.specs.declared.patterns.Part.{Part}
-
--- the letter of std in small is the folded one
-fold_step : (c : ℕ) (a b d e : Bool) → nat_lt c 65 ≡ a → nat_lt c 91 ≡ b → nat_le 65 c ≡ d → nat_le c 90 ≡ e → cond a c (cond b (c + 32) c) ≡ cond (d && e) (c + 32) c
-fold_step c true b true e p q r s = absurd (grind (arith, p, r))
-fold_step c true b false e p q r s = refl
-fold_step c false true true true p q r s = refl
-fold_step c false true true false p q r s = absurd (grind (arith, q, s))
-fold_step c false b false e p q r s = absurd (grind (arith, p, r))
-fold_step c false false true true p q r s = absurd (grind (arith, q, s))
-fold_step c false false true false p q r s = refl
-
-pub lowercase_folds : (c : ℕ) → to_ascii_lowercase c ≡ folded c
-lowercase_folds c = fold_step c (nat_lt c 65) (nat_lt c 91) (nat_le 65 c) (nat_le c 90) refl refl refl refl
+use Rattle.vx_column.specs.declared.patterns.Pattern.{Pattern}
 
 -- none of the three characters that mean something in a pattern is a letter
 folded_step : (c m : ℕ) (d e : Bool) → nat_le 65 c ≡ d → nat_le c 90 ≡ e → ((nat_le 65 c ≡ true) → (nat_le c 90 ≡ true) → (((c + 32) == m) ≡ false) × ((c == m) ≡ false)) → (cond (d && e) (c + 32) c == m) ≡ (c == m)
@@ -65,6 +53,22 @@ pub folded_matches : (b : Bool) (s p : Bytes) → matches (wildcards (folded_if 
 folded_matches false s p = refl
 folded_matches true s p = ap (λ ws. matches ws (map folded (chars s))) (wildcards_folded (chars p))
 
+-- the first character of a text, and what stands behind it
+pub letters_front : (fold : Bool) (text rest : Bytes) (c : ℕ) → IsUtf8 text → text ≡ encode_utf8 c ++ rest → letters fold text ≡ letter fold c ∷ letters fold rest
+letters_front true text rest c u e = ap (map folded) (chars_past_char text rest c u e)
+letters_front false text rest c u e = chars_past_char text rest c u e
+
+-- the parts that begin with a character that isn't `\`, and with one behind it
+pub plain_first : (c : ℕ) (cs : List ℕ) → (c == 92) ≡ false → wildcards (c ∷ cs) ≡ plain_wildcard c ∷ wildcards cs
+plain_first c [] e = refl
+plain_first c (d ∷ cs) e = ap (λ b. cond b (just d ∷ wildcards cs) (plain_wildcard c ∷ wildcards (d ∷ cs))) e
+
+pub escaped_first : (c d : ℕ) (cs ds : List ℕ) → (c == 92) ≡ true → cs ≡ d ∷ ds → wildcards (c ∷ cs) ≡ just d ∷ wildcards ds
+escaped_first c d cs ds e h = ap (λ xs. wildcards (c ∷ xs)) h ∙ ap (λ b. cond b (just d ∷ wildcards ds) (plain_wildcard c ∷ wildcards (d ∷ ds))) e
+
+pub last_first : (c : ℕ) (cs : List ℕ) → cs ≡ [] → wildcards (c ∷ cs) ≡ plain_wildcard c ∷ wildcards cs
+last_first c cs e = ap (λ xs. wildcards (c ∷ xs)) e ∙ ap (λ xs. plain_wildcard c ∷ wildcards xs) (sym e)
+
 -- a part that isn't a run, and the characters that it may take
 pub taken : (w : Wildcard) (ws : List Wildcard) (c : ℕ) (cs : List ℕ) → takes w c ≡ true → matches (w ∷ ws) (c ∷ cs) ≡ matches ws cs
 unfolding matches
@@ -84,151 +88,238 @@ none_left any_run ws e = absurd cc
 none_left any_one ws e = refl
 none_left (just d) ws e = refl
 
--- no part matches no character
-pub empty_rest : (i : ℕ) (cs : List ℕ) → i ≤ length cs → is_empty (drop i cs) ≡ nat_eq i (length cs)
-empty_rest zero [] h = refl
-empty_rest zero (c ∷ cs) h = grind arith
-empty_rest (suc i) [] h = absurd (omega arith)
-empty_rest (suc i) (c ∷ cs) h = empty_rest i cs (omega arith) ∙ grind arith
+second_of : (a b : Bool) → (a && b) ≡ true → b ≡ true
+second_of true b e = e
+second_of false b e = absurd cc
 
-pub all_parts_taken : (ps : List Part) (i : ℕ) (cs : List ℕ) → length ps ≤ i → i ≤ length cs → matches (map part_view (drop i ps)) (drop i cs) ≡ nat_eq i (length cs)
+rest_matches : (w : Wildcard) (ws : List Wildcard) (c : ℕ) (cs : List ℕ) → is_run w ≡ false → matches (w ∷ ws) (c ∷ cs) ≡ true → matches ws cs ≡ true
 unfolding matches
-all_parts_taken ps i cs h k = ap (λ qs. matches (map part_view qs) (drop i cs)) (drop_all i ps h) ∙ empty_rest i cs k
+rest_matches any_run ws c cs e h = absurd cc
+rest_matches any_one ws c cs e h = h
+rest_matches (just d) ws c cs e h = second_of (c == d) (matches ws cs) h
 
--- the state where no character is left
-pub end_step : (w : Wildcard) (ws : List Wildcard) → matches (w ∷ ws) [] ≡ state_at_end w (matches ws [])
+-- the suffixes of which a test holds
+either_first : (a b : Bool) → a ≡ true → (a || b) ≡ true
+either_first true b e = refl
+either_first false b e = absurd cc
+
+either_second : (a b : Bool) → b ≡ true → (a || b) ≡ true
+either_second true b e = refl
+either_second false b e = e
+
+either_again : (a b : Bool) → ((a || b) || b) ≡ (a || b)
+either_again true b = refl
+either_again false true = refl
+either_again false false = refl
+
+pub some_suffix_first : (test : List ℕ → Bool) (cs : List ℕ) → test cs ≡ true → some_suffix test cs ≡ true
+some_suffix_first test [] e = e
+some_suffix_first test (c ∷ cs) e = either_first (test (c ∷ cs)) (some_suffix test cs) e
+
+neither : (a b : Bool) → (a || b) ≡ false → a ≡ false
+neither true b h = absurd cc
+neither false b h = refl
+
+pub some_suffix_none : (test : List ℕ → Bool) (cs : List ℕ) → some_suffix test cs ≡ false → test cs ≡ false
+some_suffix_none test [] e = e
+some_suffix_none test (c ∷ cs) e = neither (test (c ∷ cs)) (some_suffix test cs) e
+
+-- a suffix of a suffix is a suffix
+some_suffix_again : (test : List ℕ → Bool) (cs : List ℕ) → some_suffix (some_suffix test) cs ≡ some_suffix test cs
+some_suffix_again test [] = refl
+some_suffix_again test (c ∷ cs) = ap (λ b. (test (c ∷ cs) || some_suffix test cs) || b) (some_suffix_again test cs) ∙ either_again (test (c ∷ cs)) (some_suffix test cs)
+
+-- the empty suffix is always there
+some_suffix_empty : (cs : List ℕ) → some_suffix (matches []) cs ≡ true
 unfolding matches
-end_step any_run ws = refl
-end_step any_one ws = refl
-end_step (just d) ws = refl
+some_suffix_empty [] = refl
+some_suffix_empty (c ∷ cs) = some_suffix_empty cs
 
--- what is left from a part on
-pub parts_from : (ps : List Part) (k : ℕ) (d : Part) → k < length ps → map part_view (drop k ps) ≡ part_view (get_or ps k d) ∷ map part_view (drop (k + 1) ps)
-parts_from ps k d h = ap (map part_view) (drop_more ps k d h)
+false_is_true : false ≡ true → ⊥
+false_is_true e = absurd cc
 
--- a part that isn't a run matches nothing behind the last character, and nothing that begins with a character that it doesn't take
-pub no_text : (ps : List Part) (cs : List ℕ) (i : ℕ) (d : Part) → i < length ps → i ≡ length cs → matches (map part_view ps) cs ≡ matches (map part_view (drop i ps)) (drop i cs) → false ≡ is_run (part_view (get_or ps i d)) → false ≡ matches (map part_view ps) cs
-no_text ps cs i d h e inv r =
-    let rest : drop i cs ≡ [] = drop_all i cs (omega (arith, e)) in
-    sym (inv ∙ (λ j. matches (parts_from ps i d h j) (rest j)) ∙ none_left (part_view (get_or ps i d)) (map part_view (drop (i + 1) ps)) (sym r))
+cases_either : (a b : Bool) (P : Type 0) → (a || b) ≡ true → (a ≡ true → P) → (b ≡ true → P) → P
+cases_either true b P e f g = f refl
+cases_either false b P e f g = g e
 
-text_from : (ps : List Part) (cs : List ℕ) (i : ℕ) (d : Part) (c : ℕ) → i < length ps → i < length cs → c ≡ get_or cs i c → matches (map part_view (drop i ps)) (drop i cs) ≡ matches (part_view (get_or ps i d) ∷ map part_view (drop (i + 1) ps)) (c ∷ drop (i + 1) cs)
-text_from ps cs i d c h k e =
-    let rest : drop i cs ≡ c ∷ drop (i + 1) cs = drop_more cs i c k ∙ ap (λ x. x ∷ drop (i + 1) cs) (sym e) in
-    λ j. matches (parts_from ps i d h j) (rest j)
+-- where a suffix matches parts of which the first takes one character, a suffix of what stands behind the first character matches the others
+some_suffix_behind : (w : Wildcard) (ws : List Wildcard) (c : ℕ) (cs : List ℕ) → is_run w ≡ false → some_suffix (matches (w ∷ ws)) (c ∷ cs) ≡ true → some_suffix (matches ws) cs ≡ true
+some_suffix_behind w ws c [] e h =
+    let none : matches (w ∷ ws) [] ≡ false = none_left w ws e in
+    cases_either (matches (w ∷ ws) (c ∷ [])) (matches (w ∷ ws) []) (some_suffix (matches ws) [] ≡ true) h (λ p. rest_matches w ws c [] e p) (λ q. absurd (false_is_true (sym none ∙ q)))
+some_suffix_behind w ws c (d ∷ cs) e h =
+    cases_either (matches (w ∷ ws) (c ∷ d ∷ cs)) (some_suffix (matches (w ∷ ws)) (d ∷ cs)) (some_suffix (matches ws) (d ∷ cs) ≡ true) h
+    (λ p. some_suffix_first (matches ws) (d ∷ cs) (rest_matches w ws c (d ∷ cs) e p))
+    (λ q. either_second (matches ws (d ∷ cs)) (some_suffix (matches ws) cs) (some_suffix_behind w ws d cs e q))
 
-pub refused : (ps : List Part) (cs : List ℕ) (i : ℕ) (d : Part) (c : ℕ) → i < length ps → i < length cs → c ≡ get_or cs i c → matches (map part_view ps) cs ≡ matches (map part_view (drop i ps)) (drop i cs) → false ≡ is_run (part_view (get_or ps i d)) → false ≡ takes (part_view (get_or ps i d)) c → false ≡ matches (map part_view ps) cs
-refused ps cs i d c h k e inv r t =
-    sym (inv ∙ text_from ps cs i d c h k e ∙ not_taken (part_view (get_or ps i d)) (map part_view (drop (i + 1) ps)) c (drop (i + 1) cs) (sym r) (sym t))
+-- two truths are equal where each follows from the other
+same_truth : (a b : Bool) → (a ≡ true → b ≡ true) → (b ≡ true → a ≡ true) → a ≡ b
+same_truth true b f g = sym (f refl)
+same_truth false true f g = g refl
+same_truth false false f g = refl
 
--- and with a character that it takes, what is left is the rest of both
-pub one_more : (ps : List Part) (cs : List ℕ) (i : ℕ) (d : Part) (c : ℕ) → i < length ps → i < length cs → c ≡ get_or cs i c → matches (map part_view ps) cs ≡ matches (map part_view (drop i ps)) (drop i cs) → true ≡ takes (part_view (get_or ps i d)) c → matches (map part_view ps) cs ≡ matches (map part_view (drop (i + 1) ps)) (drop (i + 1) cs)
-one_more ps cs i d c h k e inv t =
-    inv ∙ text_from ps cs i d c h k e ∙ taken (part_view (get_or ps i d)) (map part_view (drop (i + 1) ps)) c (drop (i + 1) cs) (sym t)
+never : (a b : Bool) → (a ≡ true → b ≡ true) → b ≡ false → a ≡ false
+never true b f e = sym (f refl) ∙ e
+never false b f e = refl
 
--- the state before a character
-pub state_step : (w : Wildcard) (ws : List Wildcard) (c : ℕ) (cs : List ℕ) → matches (w ∷ ws) (c ∷ cs) ≡ state_before w c (matches ws (c ∷ cs)) (matches (w ∷ ws) cs) (matches ws cs)
+-- the parts so far take the characters so far: whether the parts match is whether those left match the characters left, and where they match
+-- a later suffix, those left match a suffix of the characters left
+pub record IsUnderway (ws vs : List Wildcard) (cs ds : List ℕ) : Type 0 where
+  pub same : matches ws cs ≡ matches vs ds
+  pub later : some_suffix (matches ws) cs ≡ true → some_suffix (matches vs) ds ≡ true
+  pub fewer : length vs ≤ length ws
+  pub behind : length ds ≤ length cs
+
+pub underway_first : (ws : List Wildcard) (cs : List ℕ) → IsUnderway ws ws cs cs
+underway_first ws cs = record {
+  same = refl;
+  later = λ h. h;
+  fewer = omega arith;
+  behind = omega arith;
+}
+
+-- one part more, which takes a character
+pub underway_more : (ws : List Wildcard) (w : Wildcard) (vs : List Wildcard) (cs : List ℕ) (c : ℕ) (ds : List ℕ) → is_run w ≡ false → takes w c ≡ true → IsUnderway ws (w ∷ vs) cs (c ∷ ds) → IsUnderway ws vs cs ds
+underway_more ws w vs cs c ds e t before = record {
+  same = before.same ∙ taken w vs c ds t;
+  later = λ h. some_suffix_behind w vs c ds e (before.later h);
+  fewer = omega (arith, before.fewer);
+  behind = omega (arith, before.behind);
+}
+
+-- a last run takes all that is left
+run_step : (w : Wildcard) (vs : List Wildcard) (cs : List ℕ) → is_run w ≡ true → matches (w ∷ vs) cs ≡ some_suffix (matches vs) cs
 unfolding matches
-state_step any_run ws c cs = refl
-state_step any_one ws c cs = refl
-state_step (just d) ws c cs = refl
+run_step any_run vs cs e = refl
+run_step any_one vs cs e = absurd cc
+run_step (just d) vs cs e = absurd cc
 
--- states while a table is brought one character earlier: from a part on they are those before the character, from the parts before it those behind it
-pub record IsStepped (ps : List Part) (c : ℕ) (cs : List ℕ) (n : ℕ) (bs : List Bool) (next_both : Bool) : Type 0 where
-  pub both : next_both ≡ matches (map part_view (drop n ps)) cs
-  pub old : (k : ℕ) → k < n → get_or bs k false ≡ matches (map part_view (drop k ps)) cs
-  pub new : (k : ℕ) → n ≤ k → k ≤ length ps → get_or bs k false ≡ matches (map part_view (drop k ps)) (c ∷ cs)
+pub underway_last_run : (ws : List Wildcard) (w : Wildcard) (vs : List Wildcard) (cs ds : List ℕ) → is_run w ≡ true → vs ≡ [] → IsUnderway ws (w ∷ vs) cs ds → matches ws cs ≡ true
+underway_last_run ws w vs cs ds e h before =
+    before.same ∙ run_step w vs ds e ∙ ap (λ us. some_suffix (matches us) ds) h ∙ some_suffix_empty ds
 
-set_other : (bs : List Bool) (i k : ℕ) (b : Bool) → (k ≡ i → ⊥) → get_or (set bs i b) k false ≡ get_or bs k false
-set_other bs i k b h = get_or-set_other bs i k b false h
+-- another run takes what a later start would leave out, so the starts before it need no second try
+run_again : (w : Wildcard) (vs : List Wildcard) (cs : List ℕ) → is_run w ≡ true → some_suffix (matches (w ∷ vs)) cs ≡ some_suffix (matches vs) cs
+unfolding matches
+run_again any_run vs cs e = some_suffix_again (matches vs) cs
+run_again any_one vs cs e = absurd cc
+run_again (just d) vs cs e = absurd cc
 
--- a table with one more state, which is the first
-first_or_later : (bs : List Bool) (b : Bool) (k n j : ℕ) (f : ℕ → Bool) → k < length bs → k ≤ j → b ≡ f k → (k + 1 ≤ j → get_or bs j false ≡ f j) → get_or (set bs k b) j false ≡ f j
-first_or_later bs b k n j f h a e later = elim (cases_lt k j) [
-  | inl more ↦ set_other bs k j b (λ q. omega (arith, more, q)) ∙ later (omega (arith, more))
-  | inr less ↦
-      let same : j ≡ k = omega (arith, a, less) in
-      get_or-set_at bs k j b false same h ∙ e ∙ ap f (sym same)
-]
-
-pub stepped_more : (ps : List Part) (c : ℕ) (cs : List ℕ) (n k : ℕ) (bs : List Bool) (d : Part) (next_both b : Bool) → k + 1 ≡ n → n ≤ length ps → length bs ≡ length ps + 1 → b ≡ state_before (part_view (get_or ps k d)) c (get_or bs (k + 1) false) (get_or bs k false) next_both → IsStepped ps c cs n bs next_both → IsStepped ps c cs k (set bs k b) (get_or bs k false)
-stepped_more ps c cs n k bs d next_both b e h l s before =
-    let within : k < length ps = omega (arith, e, h) in
-    let inside : k < length bs = omega (arith, within, l) in
-    let first : k < n = omega (arith, e) in
-    let from = parts_from ps k d within in
-    let next_part : get_or bs (k + 1) false ≡ matches (map part_view (drop (k + 1) ps)) (c ∷ cs) = before.new (k + 1) (omega (arith, e)) (omega (arith, e, h)) in
-    let next_character : get_or bs k false ≡ matches (map part_view (drop k ps)) cs = before.old k first in
-    let both : next_both ≡ matches (map part_view (drop (k + 1) ps)) cs = before.both ∙ ap (λ m. matches (map part_view (drop m ps)) cs) (sym e) in
-    let here : get_or bs k false ≡ matches (part_view (get_or ps k d) ∷ map part_view (drop (k + 1) ps)) cs = next_character ∙ ap (λ ws. matches ws cs) from in
-    let told : b ≡ matches (map part_view (drop k ps)) (c ∷ cs) = s ∙ (λ j. state_before (part_view (get_or ps k d)) c (next_part j) (here j) (both j)) ∙ sym (state_step (part_view (get_or ps k d)) (map part_view (drop (k + 1) ps)) c cs) ∙ ap (λ ws. matches ws (c ∷ cs)) (sym from) in
+pub underway_run : (ws : List Wildcard) (w : Wildcard) (vs : List Wildcard) (cs ds : List ℕ) → is_run w ≡ true → IsUnderway ws (w ∷ vs) cs ds → IsRunBehind ws vs cs ds
+underway_run ws w vs cs ds e before =
+    let first : matches ws cs ≡ some_suffix (matches vs) ds = before.same ∙ run_step w vs ds e in
     record {
-      both = next_character;
-      old = λ j a. set_other bs k j b (λ r. omega (arith, a, r)) ∙ before.old j (omega (arith, a, e));
-      new = λ j a u. first_or_later bs b k n j (λ m. matches (map part_view (drop m ps)) (c ∷ cs)) inside a told (λ v. before.new j (omega (arith, v, e)) u);
+      first = first;
+      later = same_truth (some_suffix (matches ws) cs) (some_suffix (matches vs) ds) (λ h. sym (run_again w vs ds e) ∙ before.later h) (λ h. some_suffix_first (matches ws) cs (first ∙ h));
+      fewer = omega (arith, before.fewer);
+      behind = before.behind;
     }
 
--- at first the state behind the last part alone is before the character
-pub stepped_first : (ps : List Part) (c : ℕ) (cs : List ℕ) (bs : List Bool) → IsTable ps cs bs → IsStepped ps c cs (length ps) (set bs (length ps) false) (get_or bs (length ps) false)
+-- where no character is left for a part, no later start leaves one
+pub underway_text_ends : (ws : List Wildcard) (w : Wildcard) (vs : List Wildcard) (cs ds : List ℕ) → is_run w ≡ false → ds ≡ [] → IsUnderway ws (w ∷ vs) cs ds → some_suffix (matches ws) cs ≡ false
+underway_text_ends ws w vs cs ds e h before =
+    never (some_suffix (matches ws) cs) (some_suffix (matches (w ∷ vs)) ds) before.later (ap (λ xs. some_suffix (matches (w ∷ vs)) xs) h ∙ none_left w vs e)
+
+pub underway_differs : (ws : List Wildcard) (w : Wildcard) (vs : List Wildcard) (cs : List ℕ) (c : ℕ) (ds : List ℕ) → is_run w ≡ false → takes w c ≡ false → IsUnderway ws (w ∷ vs) cs (c ∷ ds) → matches ws cs ≡ false
+underway_differs ws w vs cs c ds e t before = before.same ∙ not_taken w vs c ds e t
+
+-- where no part is left, the parts match where no character is
+pub underway_done : (ws vs : List Wildcard) (cs ds : List ℕ) → vs ≡ [] → IsUnderway ws vs cs ds → matches ws cs ≡ is_empty ds
 unfolding matches
-stepped_first ps c cs bs t =
-    let inside : length ps < length bs = omega (arith, t.0) in
-    let nothing : false ≡ matches (map part_view (drop (length ps) ps)) (c ∷ cs) = ap (λ qs. matches (map part_view qs) (c ∷ cs)) (sym (drop_all (length ps) ps (omega arith))) in
-    record {
-      both = t.1 (length ps) (omega arith);
-      old = λ j a. set_other bs (length ps) j false (λ r. omega (arith, a, r)) ∙ t.1 j (omega (arith, a));
-      new = λ j a u. first_or_later bs false (length ps) (length ps) j (λ m. matches (map part_view (drop m ps)) (c ∷ cs)) inside a nothing (λ v. absurd (omega (arith, v, u)));
-    }
+underway_done ws vs cs ds e before = before.same ∙ ap (λ us. matches us ds) e
 
--- states behind the last character, from a part on
-pub ended_more : (ps : List Part) (n k : ℕ) (bs : List Bool) (d : Part) (b : Bool) → k + 1 ≡ n → n ≤ length ps → length bs ≡ length ps + 1 → b ≡ state_at_end (part_view (get_or ps k d)) (get_or bs (k + 1) false) → ((j : ℕ) → n ≤ j → j ≤ length ps → get_or bs j false ≡ matches (map part_view (drop j ps)) []) → (j : ℕ) → k ≤ j → j ≤ length ps → get_or (set bs k b) j false ≡ matches (map part_view (drop j ps)) []
-ended_more ps n k bs d b e h l s before j a u =
-    let within : k < length ps = omega (arith, e, h) in
-    let inside : k < length bs = omega (arith, within, l) in
-    let next_part : get_or bs (k + 1) false ≡ matches (map part_view (drop (k + 1) ps)) [] = before (k + 1) (omega (arith, e)) (omega (arith, e, h)) in
-    let told : b ≡ matches (map part_view (drop k ps)) [] = s ∙ ap (state_at_end (part_view (get_or ps k d))) next_part ∙ sym (end_step (part_view (get_or ps k d)) (map part_view (drop (k + 1) ps))) ∙ ap (λ ws. matches ws []) (sym (parts_from ps k d within)) in
-    first_or_later bs b k n j (λ m. matches (map part_view (drop m ps)) []) inside a told (λ v. before j (omega (arith, v, e)) u)
+-- where the parts don't match, a suffix that they match begins behind the first character
+pub some_suffix_later : (ws : List Wildcard) (cs : List ℕ) (c : ℕ) (ds : List ℕ) → cs ≡ c ∷ ds → matches ws cs ≡ false → some_suffix (matches ws) cs ≡ some_suffix (matches ws) ds
+some_suffix_later ws cs c ds e h =
+    let here : matches ws (c ∷ ds) ≡ false = ap (matches ws) (sym e) ∙ h in
+    ap (some_suffix (matches ws)) e ∙ ap (λ b. b || some_suffix (matches ws) ds) here
 
-last_of : (bs : List Bool) (b : Bool) → get_or (bs ++ b ∷ []) (length bs) false ≡ b
-last_of [] b = refl
-last_of (c ∷ bs) b = last_of bs b
+pub some_suffix_ends : (ws : List Wildcard) (cs : List ℕ) → cs ≡ [] → matches ws cs ≡ false → some_suffix (matches ws) cs ≡ false
+some_suffix_ends ws cs e h = ap (some_suffix (matches ws)) e ∙ ap (matches ws) (sym e) ∙ h
 
-pub ended_first : (ps : List Part) (bs : List Bool) → length bs ≡ length ps → (j : ℕ) → length ps ≤ j → j ≤ length ps → get_or (bs ++ true ∷ []) j false ≡ matches (map part_view (drop j ps)) []
-unfolding matches
-ended_first ps bs e j a u =
-    let same : j ≡ length bs = omega (arith, e, a, u) in
-    ap (λ m. get_or (bs ++ true ∷ []) m false) same ∙ last_of bs true ∙ ap (λ qs. matches (map part_view qs) []) (sym (drop_all j ps a))
+-- a text has a character exactly where it has a byte
+some_char : (cs text : List ℕ) → encodes cs ≡ text → false ≡ (length text == 0) → is_empty cs ≡ false
+some_char [] text e h = absurd (false_is_true (h ∙ ap (λ t. length t == 0) (sym e)))
+some_char (c ∷ cs) text e h = refl
 
--- what a whole vector's slice was made to is what the vector is
-pub written : (bs cs : List Bool) (n : ℕ) → length cs ≡ length bs → n ≡ length bs → take n (cs ++ drop (length cs) bs) ≡ cs
-written bs cs n e h =
-    let rest : drop (length cs) bs ≡ [] = drop_all (length cs) bs (omega (arith, e)) in
-    ap (λ ds. take n (cs ++ ds)) rest ∙ ap (take n) (append-nil cs) ∙ take_all n cs (omega (arith, e, h))
+is_empty-map : (cs : List ℕ) → is_empty (map folded cs) ≡ is_empty cs
+is_empty-map [] = refl
+is_empty-map (c ∷ cs) = refl
 
--- an element within is itself by any default
-pub default_free : {A : Type 0} (cs : List A) (i : ℕ) (d e : A) → i < length cs → get_or cs i d ≡ get_or cs i e
-default_free [] i d e h = absurd (omega arith)
-default_free (c ∷ cs) zero d e h = refl
-default_free (c ∷ cs) (suc i) d e h = default_free cs i d e (omega arith)
+pub letters_some : (fold : Bool) (text : Bytes) → IsUtf8 text → false ≡ (length text == 0) → is_empty (letters fold text) ≡ false
+letters_some true text u h = is_empty-map (chars text) ∙ some_char (chars text) text (encodes-chars text u) h
+letters_some false text u h = some_char (chars text) text (encodes-chars text u) h
 
-pub get_or_own : (cs : List ℕ) (i d : ℕ) → i < length cs → get_or cs i d ≡ get_or cs i (get_or cs i d)
-get_or_own [] i d h = absurd (omega arith)
-get_or_own (c ∷ cs) zero d h = refl
-get_or_own (c ∷ cs) (suc i) d h = default_free cs i d (get_or cs i d) (omega arith)
+pub zero_length : (text : Bytes) → true ≡ (length text == 0) → length text ≡ 0
+zero_length text e = (Decides-eqb (length text) 0).0 (sym e)
 
--- one more character is folded
-pub fold_more : (cs ds : List ℕ) (i c : ℕ) → i < length cs → length ds ≡ length cs → ds ≡ map folded (take i cs) ++ drop i cs → c ≡ to_ascii_lowercase (get_or ds i 0) → set ds i c ≡ map folded (take (i + 1) cs) ++ drop (i + 1) cs
-fold_more cs ds i c h l e q =
-    let told : c ≡ folded (get_or ds i 0) = q ∙ lowercase_folds (get_or ds i 0) in
-    ap (set ds i) told ∙ map_over_more folded cs ds i (get_or ds i 0) h e (get_or_own ds i 0 (omega (arith, h, l)))
+pub letters_none : (fold : Bool) (text : Bytes) → length text ≡ 0 → letters fold text ≡ []
+unfolding chars
+letters_none true [] e = refl
+letters_none false [] e = refl
+letters_none fold (b ∷ bs) e = absurd (omega (arith, e))
 
--- the table of one character more
-pub rest_more : (ps : List Part) (text : List ℕ) (i c : ℕ) (bs new : List Bool) (n : ℕ) → i < length text → c ≡ get_or text (length text - 1 - i) c → n ≡ length bs → IsTable ps (drop (length text - i) text) bs → IsTable ps (c ∷ drop (length text - i) text) new → IsTable ps (drop (length text - (i + 1)) text) (take n (new ++ drop (length new) bs))
-rest_more ps text i c bs new n h e q old t =
-    let k = length text - 1 - i in
-    let within : length text - 1 - i < length text = omega (arith, h) in
-    let one : length text - 1 - i + 1 ≡ length text - i = omega (arith, h) in
-    let other : length text - 1 - i ≡ length text - (i + 1) = omega (arith, h) in
-    let rest : c ∷ drop (length text - i) text ≡ drop (length text - (i + 1)) text = (λ j. e j ∷ drop (sym one j) text) ∙ sym (drop_more text (length text - 1 - i) c within) ∙ ap (λ m. drop m text) other in
-    let whole : take n (new ++ drop (length new) bs) ≡ new = written bs new n (t.0 ∙ sym old.0) q in
-    subst (λ cs. IsTable ps cs (take n (new ++ drop (length new) bs))) rest (subst (IsTable ps (c ∷ drop (length text - i) text)) (sym whole) t)
+-- the parts behind the first
+abbrev pub parts_behind : List Part → List Part
+parts_behind ps = take (length ps - 1) (drop 1 ps)
+
+first_part : (ps : List Part) (d : Part) → 1 ≤ length ps → map part_view ps ≡ part_view (get_or ps 0 d) ∷ map part_view (parts_behind ps)
+first_part [] d h = absurd (omega arith)
+first_part (p ∷ ps) d h = ap (λ qs. part_view p ∷ map part_view qs) (sym (take_all (length (p ∷ ps) - 1) ps (omega arith)))
+
+none_of : (ps : List Part) → true ≡ (length ps == 0) → ps ≡ []
+none_of [] e = refl
+none_of (p ∷ ps) e = absurd (omega (arith, (Decides-eqb (length (p ∷ ps)) 0).0 (sym e)))
+
+-- the parts of the code, the first of which is looked at
+pub reach_last_run : (ws : List Wildcard) (ps : List Part) (d : Part) (cs ds : List ℕ) → 1 ≤ length ps → true ≡ is_run (part_view (get_or ps 0 d)) → true ≡ (length (parts_behind ps) == 0) → IsUnderway ws (map part_view ps) cs ds → matches ws cs ≡ true
+reach_last_run ws ps d cs ds h r e before =
+    underway_last_run ws (part_view (get_or ps 0 d)) (map part_view (parts_behind ps)) cs ds (sym r) (ap (map part_view) (none_of (parts_behind ps) e)) (subst (λ vs. IsUnderway ws vs cs ds) (first_part ps d h) before)
+
+pub reach_run : (ws : List Wildcard) (ps : List Part) (d : Part) (cs ds : List ℕ) → 1 ≤ length ps → true ≡ is_run (part_view (get_or ps 0 d)) → IsUnderway ws (map part_view ps) cs ds → IsRunBehind ws (map part_view (parts_behind ps)) cs ds
+reach_run ws ps d cs ds h r before =
+    underway_run ws (part_view (get_or ps 0 d)) (map part_view (parts_behind ps)) cs ds (sym r) (subst (λ vs. IsUnderway ws vs cs ds) (first_part ps d h) before)
+
+pub reach_text_ends : (ws : List Wildcard) (ps : List Part) (d : Part) (cs ds : List ℕ) → 1 ≤ length ps → false ≡ is_run (part_view (get_or ps 0 d)) → ds ≡ [] → IsUnderway ws (map part_view ps) cs ds → some_suffix (matches ws) cs ≡ false
+reach_text_ends ws ps d cs ds h r e before =
+    underway_text_ends ws (part_view (get_or ps 0 d)) (map part_view (parts_behind ps)) cs ds (sym r) e (subst (λ vs. IsUnderway ws vs cs ds) (first_part ps d h) before)
+
+underway_at : (ws : List Wildcard) (ps : List Part) (d : Part) (cs ds es : List ℕ) (c : ℕ) → 1 ≤ length ps → ds ≡ c ∷ es → IsUnderway ws (map part_view ps) cs ds → IsUnderway ws (part_view (get_or ps 0 d) ∷ map part_view (parts_behind ps)) cs (c ∷ es)
+underway_at ws ps d cs ds es c h e before = subst (λ xs. IsUnderway ws (part_view (get_or ps 0 d) ∷ map part_view (parts_behind ps)) cs xs) e (subst (λ vs. IsUnderway ws vs cs ds) (first_part ps d h) before)
+
+pub reach_differs : (ws : List Wildcard) (ps : List Part) (d : Part) (cs ds es : List ℕ) (c : ℕ) → 1 ≤ length ps → false ≡ is_run (part_view (get_or ps 0 d)) → ds ≡ c ∷ es → false ≡ takes (part_view (get_or ps 0 d)) c → IsUnderway ws (map part_view ps) cs ds → matches ws cs ≡ false
+reach_differs ws ps d cs ds es c h r e t before =
+    underway_differs ws (part_view (get_or ps 0 d)) (map part_view (parts_behind ps)) cs c es (sym r) (sym t) (underway_at ws ps d cs ds es c h e before)
+
+pub reach_more : (ws : List Wildcard) (ps : List Part) (d : Part) (cs ds es : List ℕ) (c : ℕ) → 1 ≤ length ps → false ≡ is_run (part_view (get_or ps 0 d)) → ds ≡ c ∷ es → true ≡ takes (part_view (get_or ps 0 d)) c → IsUnderway ws (map part_view ps) cs ds → IsUnderway ws (map part_view (parts_behind ps)) cs es
+reach_more ws ps d cs ds es c h r e t before =
+    underway_more ws (part_view (get_or ps 0 d)) (map part_view (parts_behind ps)) cs c es (sym r) (sym t) (underway_at ws ps d cs ds es c h e before)
+
+no_parts : (ps : List Part) → length ps < 1 → map part_view ps ≡ []
+no_parts [] h = refl
+no_parts (p ∷ ps) h = absurd (omega arith)
+
+pub reach_done : (ws : List Wildcard) (ps : List Part) (cs ds : List ℕ) → length ps < 1 → IsUnderway ws (map part_view ps) cs ds → matches ws cs ≡ is_empty ds
+reach_done ws ps cs ds h before = underway_done ws (map part_view ps) cs ds (no_parts ps h) before
+
+-- one part more of those that a text spells
+parts_before : (ps : List Part) (p : Part) (vs : List Wildcard) → map part_view ps ++ part_view p ∷ vs ≡ map part_view (ps ++ p ∷ []) ++ vs
+parts_before [] p vs = refl
+parts_before (q ∷ ps) p vs = ap (λ ws. part_view q ∷ ws) (parts_before ps p vs)
+
+pub parts_more : (ps qs : List Part) (p : Part) (all ws vs : List Wildcard) → all ≡ map part_view ps ++ ws → ws ≡ part_view p ∷ vs → qs ≡ ps ++ p ∷ [] → all ≡ map part_view qs ++ vs
+parts_more ps qs p all ws vs e h q = e ∙ ap (λ us. map part_view ps ++ us) h ∙ parts_before ps p vs ∙ ap (λ rs. map part_view rs ++ vs) (sym q)
+
+pub parts_all : (ps : List Part) (all : List Wildcard) (cs : List ℕ) → cs ≡ [] → all ≡ map part_view ps ++ wildcards cs → map part_view ps ≡ all
+parts_all ps all cs e h = sym (h ∙ ap (λ xs. map part_view ps ++ wildcards xs) e ∙ append-nil (map part_view ps))
+
+-- the pattern that a text spells matches what the text does
+pub pattern_means : (pattern : Pattern) (ps : List Part) (fold : Bool) (text spelled : Bytes) → ps ≡ pattern.parts.items → IsPattern fold spelled pattern → matches (map part_view ps) (letters pattern.fold_case text) ≡ text_matches fold text spelled
+pattern_means pattern ps fold text spelled e h =
+    let parts : map part_view ps ≡ wildcards (letters fold spelled) = ap (map part_view) e ∙ h.parts in
+    (λ i. matches (parts i) (letters (h.fold_case i) text)) ∙ folded_matches fold text spelled
+
+-- a text type is the one of its nullability
+pub text_is : (t : Ty) → is_text_ty t ≡ true → t ≡ text_ty (nullability_of t)
+text_is (text_ty n) e = refl
+text_is _ e = absurd cc

@@ -7,5 +7,6 @@ pub mod ColumnEqual
 pub mod ColumnEqualLaws
 pub mod StructColumns
 pub mod Patterns
+pub mod LastPatterns
 pub mod Cells
 pub mod Sizes

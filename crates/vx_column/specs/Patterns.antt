@@ -1,13 +1,16 @@
--- For the checker: no public clause cites this. Patterns of LIKE as the code keeps them: in parts, and with a table of states while a
--- text is matched.
-use Rattle.std.specs.Prelude.{◌≡◌, ◌≤◌, ℕ, ◌+◌, ◌==◌, slice_index_or, Bool, true, false, cond, ◌&&◌, ◌||◌, List, map, drop, length, Option, Some, None}
-use Rattle.vx_dtype.specs.Like.{Wildcard, any_run, any_one, just, matches, folded}
+-- For the checker: no public clause cites this. Patterns of LIKE as the code keeps them, in parts, and how far they go.
+use Rattle.std.specs.Prelude.{◌≡◌, ◌<◌, ◌≤◌, ℕ, ◌==◌, Bool, true, false, cond, List, map, length, Option, Some, None, ⊤}
+use Rattle.std.specs.Str.{chars}
+use Rattle.vx_dtype.specs.Like.{Wildcard, any_run, any_one, just, wildcards, matches, some_suffix, folded}
 use Rattle.vx_dtype.specs.Values.{Val, null_val, text_val}
 use Rattle.vx_dtype.specs.Types.{Bytes}
 use Rattle.vx_dtype.specs.declared.Nullability.{Nullability}
 use Rattle.vx_dtype.specs.TypeRules.{is_nullable}
 use Rattle.vx_column.specs.declared.patterns.Part.{Part}
 use Rattle.vx_column.specs.declared.patterns.Part.TheVariants.{AnyRun, AnyOne, Just}
+use Rattle.vx_column.specs.declared.patterns.Pattern.{Pattern}
+use Rattle.vx_column.specs.declared.patterns.Reach.{Reach}
+use Rattle.vx_column.specs.declared.patterns.Reach.TheVariants.{Matched, Run, TextEnds, Differs}
 
 -- the part of a pattern that a part of the code stands for
 abbrev pub part_view : Part → Wildcard
@@ -15,9 +18,17 @@ part_view AnyRun = any_run
 part_view AnyOne = any_one
 part_view (Just c) = just c
 
+-- a character, folded where this is asked
+abbrev pub letter : Bool → ℕ → ℕ
+letter fold c = cond fold (folded c) c
+
 -- the characters, folded where this is asked
 abbrev pub folded_if : Bool → List ℕ → List ℕ
 folded_if fold cs = cond fold (map folded cs) cs
+
+-- the characters of a text, folded where this is asked
+abbrev pub letters : Bool → Bytes → List ℕ
+letters fold text = folded_if fold (chars text)
 
 -- whether a part is a run
 abbrev pub is_run : Wildcard → Bool
@@ -30,20 +41,25 @@ takes any_run c = false
 takes any_one c = true
 takes (just d) c = c == d
 
--- whether the text from a character on matches the pattern from a part on: by what holds from the next part on, from the next character on, and from both on
-abbrev pub state_before : Wildcard → ℕ → Bool → Bool → Bool → Bool
-state_before any_run c next_part next_character next_both = next_part || next_character
-state_before any_one c next_part next_character next_both = next_both
-state_before (just d) c next_part next_character next_both = (c == d) && next_both
+-- the pattern is the one that the text spells
+pub record IsPattern (fold : Bool) (text : Bytes) (pattern : Pattern) : Type 0 where
+  pub parts : map part_view pattern.parts.items ≡ wildcards (letters fold text)
+  pub fold_case : pattern.fold_case ≡ fold
 
--- whether a pattern matches where no character is left, from a part on: by what holds from the next part on
-abbrev pub state_at_end : Wildcard → Bool → Bool
-state_at_end any_run next_part = next_part
-state_at_end _ next_part = false
+-- the parts of a pattern go as far as a run in the characters: from there on some suffix of those left has to match the parts behind it,
+-- both where the characters match and where some suffix of them does
+pub record IsRunBehind (ws vs : List Wildcard) (cs ds : List ℕ) : Type 0 where
+  pub first : matches ws cs ≡ some_suffix (matches vs) ds
+  pub later : some_suffix (matches ws) cs ≡ some_suffix (matches vs) ds
+  pub fewer : length vs < length ws
+  pub behind : length ds ≤ length cs
 
--- a table of states: from each part on, and behind the last, whether the pattern matches the text
-abbrev pub IsTable : List Part → List ℕ → List Bool → Type 0
-IsTable ps cs bs = (length bs ≡ length ps + 1) × ((k : ℕ) → k ≤ length ps → slice_index_or bs k false ≡ matches (map part_view (drop k ps)) cs)
+-- the parts of a pattern go this far in the characters of a text
+abbrev pub IsReach : Bool → List Part → Bytes → Reach → Type 0
+IsReach fold parts text Matched = matches (map part_view parts) (letters fold text) ≡ true
+IsReach fold parts text (Run behind rest) = IsRunBehind (map part_view parts) (map part_view behind.now) (letters fold text) (letters fold rest.now)
+IsReach fold parts text TextEnds = some_suffix (matches (map part_view parts)) (letters fold text) ≡ false
+IsReach fold parts text Differs = matches (map part_view parts) (letters fold text) ≡ false
 
 -- the value at a row that a text stands for
 abbrev pub text_or_null : Option Bytes → Val

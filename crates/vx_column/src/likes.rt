@@ -6,14 +6,15 @@ ghost use Rattle.vx_dtype.specs.TypeRules.{is_text_ty, nullability_of, union};
 ghost use Rattle.vx_dtype.specs.Like.{like3, inverted_if};
 ghost use Rattle.vx_dtype.specs.Fits.{fits};
 ghost use Rattle.vx_dtype.specs.RawViews.{raw_view};
-ghost use Rattle.vx_column.specs.Columns.{seen, zip_rows};
+ghost use Rattle.vx_column.specs.Cells.{keeps_values};
+ghost use Rattle.vx_column.specs.Columns.{values_fit, seen, seen_rows, zip_rows};
 ghost use Rattle.vx_column.specs.RawParts.{truth_val, truth_fits};
 ghost use Rattle.vx_column.specs.Patterns.{text_or_null, text_or_null_fits};
+ghost use Rattle.vx_column.specs.LastPatterns.{IsPatternFor, IsLastIfAny};
 
 use crate::columns::ColumnRef;
 use crate::logic::of_truth;
-use crate::patterns::text_matches;
-use crate::rows::{PairRule, zip_columns};
+use crate::patterns::Pattern;
 use std::alloc::Global;
 use vx_dtype::{DType, Mem, Nullability, ScalarValue};
 
@@ -29,33 +30,37 @@ fn text_of(value: &ScalarValue) -> Option<&str>
     }
 }
 
-/// Whether a text matches a pattern, inverted where this is negated, and none where there is no text or no pattern.
-fn like_truth(
-    alloc: Global,
-    text: Option<&str>,
-    pattern: Option<&str>,
-    negated: bool,
-    case_insensitive: bool,
-) -> Mem<Option<bool>>
-    ensures value { IfOk result (λ t. truth_val t ≡ like3 negated case_insensitive (text_or_null (option_copied text.entry))
-        (text_or_null (option_copied pattern.entry))) }
-    ensures fit { (n m : Nullability) → text_or_null_fits n (option_copied text.entry) ≡ true → text_or_null_fits m (option_copied pattern.entry) ≡ true →
-        IfOk result (λ t. truth_fits (union n m) t ≡ true) }
-{
-    match (text, pattern) {
-        (Some(text), Some(pattern)) => {
-            let found = text_matches(alloc, text, pattern, case_insensitive)?;
-            Ok(Some(inverted_if(negated, found)))
-        }
-        _ => Ok(None),
-    }
-}
-
 /// The answer, true and false exchanged where it is negated.
 fn inverted_if(negated: bool, found: bool) -> bool
     ensures { result ≡ inverted_if negated found }
 {
     if negated { !found } else { found }
+}
+
+/// A pattern beside the text that spells it. Successive rows mostly have one pattern, so it is kept for the next.
+#[derive(Drop)]
+struct LastPattern<'a> {
+    text: &'a str,
+    pattern: Pattern,
+}
+
+/// The pattern that a text spells: the last one, where it is of the same text.
+fn pattern_for<'a>(
+    alloc: Global,
+    last: Option<LastPattern<'a>>,
+    text: &'a str,
+    fold_case: bool,
+) -> Mem<LastPattern<'a>>
+    requires { IsLastIfAny fold_case last }
+    ensures { IfOk result (λ made. IsPatternFor fold_case text.now made) }
+{
+    if let Some(last) = last {
+        if last.text == text {
+            return Ok(last);
+        }
+    }
+    let pattern = Pattern::new(alloc, text, fold_case)?;
+    Ok(LastPattern { text, pattern })
 }
 
 /// The match of texts with patterns of two types.
@@ -67,24 +72,52 @@ struct Matching {
     right: Nullability,
 }
 
-impl PairRule for Matching {
-    ghost left = { λ a. text_ty a.left };
+impl Matching {
+    /// Whether a text matches a pattern, inverted where this is negated, and none where there is no text or no pattern. The
+    /// pattern is kept as the last one, for the next row.
+    fn truth<'a>(
+        &self,
+        alloc: Global,
+        text: Option<&str>,
+        pattern: Option<&'a str>,
+        last: &mut Option<LastPattern<'a>>,
+    ) -> Mem<Option<bool>>
+        requires { IsLastIfAny self.now.case_insensitive last.old }
+        ensures value { IfOk result (λ t. truth_val t ≡ like3 self.now.negated self.now.case_insensitive (text_or_null (option_copied text.entry))
+            (text_or_null (option_copied pattern.entry))) }
+        ensures fit { (n m : Nullability) → text_or_null_fits n (option_copied text.entry) ≡ true →
+            text_or_null_fits m (option_copied pattern.entry) ≡ true → IfOk result (λ t. truth_fits (union n m) t ≡ true) }
+        ensures last { IsLastIfAny self.now.case_insensitive last.new }
+    {
+        match (text, pattern) {
+            (Some(text), Some(pattern)) => {
+                let made = pattern_for(alloc, last.take(), pattern, self.case_insensitive)?;
+                let found = made.pattern.matches(text);
+                *last = Some(made);
+                Ok(Some(inverted_if(self.negated, found)))
+            }
+            _ => Ok(None),
+        }
+    }
 
-    ghost right = { λ a. text_ty a.right };
-
-    ghost made = { λ a. bool_ty (union a.left a.right) };
-
-    ghost rule = { λ a. like3 a.negated a.case_insensitive };
-
-    fn at(&self, alloc: Global, l: &ScalarValue, r: &ScalarValue) -> Mem<ScalarValue> {
-        let truth = like_truth(
-            alloc,
-            text_of(l),
-            text_of(r),
-            self.negated,
-            self.case_insensitive,
-        )?;
-        Ok(of_truth(truth))
+    /// The answers of two columns' values, row by row.
+    fn values(&self, alloc: Global, c: &ColumnRef, pattern: &ColumnRef) -> Mem<Vec<ScalarValue>>
+        requires lengths { length c.now.rows ≡ length pattern.now.rows }
+        requires left { c.now.ty ≡ text_ty self.now.left }
+        requires right { pattern.now.ty ≡ text_ty self.now.right }
+        ensures fit { IfOk result (λ vs. values_fit (bool_ty (union self.now.left self.now.right)) vs.items ≡ true) }
+        ensures values { IfOk result (λ vs. seen_rows (bool_ty (union self.now.left self.now.right)) vs.items ≡
+            zip_rows (like3 self.now.negated self.now.case_insensitive) c.now.rows pattern.now.rows) }
+    {
+        let mut made = Vec::with_capacity(alloc, c.len())?;
+        let mut last = None;
+        for i in 0..c.len() {
+            let text = text_of(c.value_at(i));
+            let spelled = text_of(pattern.value_at(i));
+            let truth = self.truth(alloc, text, spelled, &mut last)?;
+            made.push(of_truth(truth))?;
+        }
+        Ok(made)
     }
 }
 
@@ -106,11 +139,18 @@ pub fn like(
     let left = c.dtype().nullability();
     let right = pattern.dtype().nullability();
     let dtype = DType::Bool(left.union(right));
-    let rule = Matching {
+    let matching = Matching {
         negated,
         case_insensitive,
         left,
         right,
     };
-    zip_columns(alloc, &rule, dtype, c, pattern)
+    match (c.constant_value(), pattern.constant_value()) {
+        (Some(text), Some(pattern)) => {
+            let mut last = None;
+            let truth = matching.truth(alloc, text_of(text), text_of(pattern), &mut last)?;
+            Ok(ColumnRef::of_constant(dtype, of_truth(truth), c.len()))
+        }
+        _ => ColumnRef::of_rows(alloc, dtype, matching.values(alloc, c, pattern)?),
+    }
 }

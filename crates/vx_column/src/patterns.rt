@@ -1,15 +1,14 @@
-// Matching of texts with patterns of LIKE, by a table of states.
-ghost use Rattle.std.specs.Prelude.{◌≡◌, ◌<◌, ◌≤◌, ◌+◌, List, ℕ, [], ◌∷◌, false, length, map, drop, IfOk};
-ghost use Rattle.std.specs.Str.{chars};
-ghost use Rattle.vx_dtype.specs.Like.{plain_wildcard, wildcards, matches, folded, text_matches};
-ghost use Rattle.vx_column.specs.Patterns.{part_view, folded_if, is_run, takes, state_before, state_at_end, IsTable};
+// Patterns of LIKE: made once of a text, and matched with many.
+ghost use Rattle.std.specs.Prelude.{◌≡◌, ◌≤◌, Bool, List, [], ◌∷◌, ℕ, length, map, MatchOption, IfOk};
+ghost use Rattle.vx_dtype.specs.Like.{plain_wildcard, wildcards, matches, some_suffix, text_matches};
+ghost use Rattle.vx_column.specs.Patterns.{part_view, letter, letters, is_run, takes, IsPattern, IsReach};
 
 use std::alloc::Global;
 use vx_dtype::Mem;
 
 /// A part of a pattern.
 #[derive(Drop)]
-pub(crate) enum Part {
+enum Part {
     /// Matches any run of characters.
     AnyRun,
     /// Matches any one character.
@@ -18,74 +17,63 @@ pub(crate) enum Part {
     Just(char),
 }
 
-/// Whether a text matches a pattern, with or without regard to the case of ASCII letters. It takes time in proportion to both where the pattern has no `%`, and to the text times the pattern at most where it has one.
-pub(crate) fn text_matches(alloc: Global, text: &str, pattern: &str, fold_case: bool) -> Mem<bool>
-    ensures { IfOk result (λ b. b ≡ text_matches fold_case text.now pattern.now) }
-{
-    let characters = folded_characters(alloc, pattern, fold_case)?;
-    let parts = parts_of(alloc, &characters)?;
-    let text = folded_characters(alloc, text, fold_case)?;
-    matches(alloc, &parts, &text)
+/// A pattern in its parts, which texts are matched with, with or without regard to the case of ASCII letters.
+#[derive(Drop)]
+pub(crate) struct Pattern {
+    parts: Vec<Part>,
+    fold_case: bool,
 }
 
-/// The characters of a text.
-fn characters_of(alloc: Global, text: &str) -> Mem<Vec<char>>
-    ensures { IfOk result (λ cs. cs.items ≡ chars text.now) }
-{
-    let characters: Vec<char> = text.chars().collect(alloc)?;
-    Ok(characters)
-}
-
-/// The characters of a text, with capital ASCII letters as their small ones where case is folded.
-fn folded_characters(alloc: Global, text: &str, fold_case: bool) -> Mem<Vec<char>>
-    ensures { IfOk result (λ cs. cs.items ≡ folded_if fold_case (chars text.now)) }
-{
-    let mut characters = characters_of(alloc, text)?;
-    if !fold_case {
-        return Ok(characters);
+impl Pattern {
+    /// The pattern that a text spells.
+    pub(crate) fn new(alloc: Global, text: &str, fold_case: bool) -> Mem<Pattern>
+        ensures { IfOk result (λ pattern. IsPattern fold_case text.now pattern) }
+    {
+        let parts = parts_of(alloc, text, fold_case)?;
+        Ok(Pattern { parts, fold_case })
     }
-    fold(&mut characters);
-    Ok(characters)
-}
 
-/// Makes capital ASCII letters small ones.
-fn fold(characters: &mut [char])
-    ensures { characters.new ≡ map folded characters.old }
-{
-    for i in 0..characters.len() {
-        characters[i] = characters[i].to_ascii_lowercase();
+    /// Whether a text matches the pattern. Where the pattern has no `%`, it looks at the text's characters in order, up to the
+    /// first that doesn't match. Else it goes back to behind the last `%` that it has come to alone, and to none before: so it
+    /// takes time in proportion to the text times the pattern at most, and no memory.
+    pub(crate) fn matches(&self, text: &str) -> bool
+        ensures { (fold_case : Bool) (spelled : List ℕ) → IsPattern fold_case spelled self.now → result ≡ text_matches fold_case text.now spelled }
+    {
+        match reach_of(self.parts.as_slice(), text, self.fold_case) {
+            Reach::Matched => true,
+            Reach::Run(parts, rest) => some_suffix_matches(parts, rest, self.fold_case),
+            Reach::TextEnds => false,
+            Reach::Differs => false,
+        }
     }
 }
 
-/// The parts of a pattern.
-fn parts_of(alloc: Global, pattern: &[char]) -> Mem<Vec<Part>>
-    ensures { IfOk result (λ parts. map part_view parts.items ≡ wildcards pattern.now) }
+/// The parts that a text spells.
+fn parts_of(alloc: Global, text: &str, fold_case: bool) -> Mem<Vec<Part>>
+    ensures { IfOk result (λ parts. map part_view parts.items ≡ wildcards (letters fold_case text.now)) }
 {
-    let mut parts = Vec::with_capacity(alloc, pattern.len())?;
-    let mut i = 0;
-    'parts: while i < pattern.len() {
-        let (part, next) = part_at(pattern, i);
+    let mut parts = Vec::with_capacity(alloc, text.len())?;
+    let mut rest = text;
+    while let Some((c, behind)) = front(rest, fold_case) {
+        let (part, after) = part_at(c, behind, fold_case);
         parts.push(part)?;
-        i = next;
+        rest = after;
     }
     Ok(parts)
 }
 
-/// The part that begins at a place of a pattern, and the place behind it. A `\` makes the next character stand for itself, and a last one stands for itself.
-fn part_at(pattern: &[char], i: usize) -> (Part, usize)
-    requires { i < length pattern.now }
-    ensures part { wildcards (drop i pattern.now) ≡ part_view result.0 ∷ wildcards (drop result.1 pattern.now) }
-    ensures forward { i < result.1 }
-    ensures within { result.1 ≤ length pattern.now }
+/// The part that begins with a character, and the text behind it. A `\` makes the next character stand for itself, and a last one stands for itself.
+fn part_at(c: char, behind: &str, fold_case: bool) -> (Part, &str)
+    ensures part { wildcards (c ∷ letters fold_case behind.now) ≡ part_view result.0 ∷ wildcards (letters fold_case result.1.now) }
+    ensures forward { length (letters fold_case result.1.now) ≤ length (letters fold_case behind.now) }
 {
-    let c = pattern[i];
     if c != '\\' {
-        return (plain_part(c), i + 1);
+        return (plain_part(c), behind);
     }
-    if i + 1 == pattern.len() {
-        return (Part::Just(c), i + 1);
+    match front(behind, fold_case) {
+        Some((next, after)) => (Part::Just(next), after),
+        None => (plain_part(c), behind),
     }
-    (Part::Just(pattern[i + 1]), i + 2)
 }
 
 /// What a character of a pattern means where no `\` stands before it.
@@ -99,22 +87,65 @@ fn plain_part(c: char) -> Part
     }
 }
 
-/// Whether a text matches a pattern: part by part and character by character up to the first run, and by a table of states from there on.
-fn matches(alloc: Global, parts: &[Part], text: &[char]) -> Mem<bool>
-    ensures { IfOk result (λ b. b ≡ matches (map part_view parts.now) text.now) }
+/// The first character of a text, a capital ASCII letter as its small one where case is folded, and the text behind it.
+fn front(text: &str, fold_case: bool) -> Option<(char, &str)>
+    ensures { MatchOption result (letters fold_case text.now ≡ []) (λ x. letters fold_case text.now ≡ x.0 ∷ letters fold_case x.1.now) }
 {
-    for i in 0..parts.len() {
-        if is_run(&parts[i]) {
-            return rest_matches(alloc, &parts[i..], &text[i..]);
+    let mut rest = text.chars();
+    match rest.next() {
+        Some(c) => Some((letter(c, fold_case), rest.as_str())),
+        None => None,
+    }
+}
+
+/// A character, a capital ASCII letter as its small one where case is folded.
+fn letter(c: char, fold_case: bool) -> char
+    ensures { result ≡ letter fold_case c }
+{
+    if fold_case { c.to_ascii_lowercase() } else { c }
+}
+
+/// How far the parts of a pattern go, from the first character of a text on.
+enum Reach<'p, 't> {
+    /// They match the text.
+    Matched,
+    /// They go as far as a run: the parts behind it, and the text that is left.
+    Run(&'p [Part], &'t str),
+    /// The text ends before them, so they match no suffix of it either.
+    TextEnds,
+    /// They don't match the text: a character isn't taken, or is left.
+    Differs,
+}
+
+/// Goes part by part and character by character as far as the first run.
+fn reach_of<'p, 't>(parts: &'p [Part], text: &'t str, fold_case: bool) -> Reach<'p, 't>
+    ensures { IsReach fold_case parts.now text.now result }
+{
+    let mut parts = parts;
+    let mut rest = text;
+    while let [part, behind @ ..] = parts {
+        if is_run(part) {
+            if behind.is_empty() {
+                return Reach::Matched;
+            }
+            return Reach::Run(behind, rest);
         }
-        if i == text.len() {
-            return Ok(false);
-        }
-        if !takes(&parts[i], text[i]) {
-            return Ok(false);
+        match front(rest, fold_case) {
+            None => return Reach::TextEnds,
+            Some((c, after)) => {
+                if !takes(part, c) {
+                    return Reach::Differs;
+                }
+                parts = behind;
+                rest = after;
+            }
         }
     }
-    Ok(parts.len() == text.len())
+    if rest.is_empty() {
+        Reach::Matched
+    } else {
+        Reach::Differs
+    }
 }
 
 /// Whether a part is a run.
@@ -135,69 +166,24 @@ fn takes(part: &Part, c: char) -> bool
     }
 }
 
-/// Whether a text matches a pattern, from the last character to the first, by a table of states.
-fn rest_matches(alloc: Global, parts: &[Part], text: &[char]) -> Mem<bool>
-    ensures { IfOk result (λ b. b ≡ matches (map part_view parts.now) text.now) }
+/// Whether a suffix of a text matches. Where the parts go as far as a run, no later suffix needs a look: the run takes what one would leave out.
+fn some_suffix_matches(parts: &[Part], text: &str, fold_case: bool) -> bool
+    ensures { result ≡ some_suffix (matches (map part_view parts.now)) (letters fold_case text.now) }
 {
-    let mut table = last_table(alloc, parts)?;
-    for i in 0..text.len() {
-        let c = text[text.len() - 1 - i];
-        step(parts, c, &mut table);
-    }
-    Ok(table[0])
-}
-
-/// The table of states behind the last character: no part but runs matches nothing.
-fn last_table(alloc: Global, parts: &[Part]) -> Mem<Vec<bool>>
-    ensures { IfOk result (λ table. IsTable parts.now [] table.items) }
-{
-    let mut table = vec![in alloc; false; parts.len()]?;
-    table.push(true)?;
-    for i in 0..parts.len() {
-        let k = parts.len() - 1 - i;
-        table[k] = state_at_end(&parts[k], table[k + 1]);
-    }
-    Ok(table)
-}
-
-/// The state at a part where no character is left, by the state at the next part.
-fn state_at_end(part: &Part, next_part: bool) -> bool
-    ensures { result ≡ state_at_end (part_view part.now) next_part }
-{
-    match part {
-        Part::AnyRun => next_part,
-        _ => false,
-    }
-}
-
-/// The table of states one character earlier.
-fn step(parts: &[Part], c: char, table: &mut [bool])
-    requires { length table.old ≡ length parts.now + 1 }
-    ensures { (cs : List ℕ) → IsTable parts.now cs table.old → IsTable parts.now (c ∷ cs) table.new }
-{
-    let mut next_both = table[parts.len()];
-    table[parts.len()] = false;
-    for i in 0..parts.len() {
-        let k = parts.len() - 1 - i;
-        let next_character = table[k];
-        table[k] = state_before(&parts[k], c, table[k + 1], next_character, next_both);
-        next_both = next_character;
-    }
-}
-
-/// The state at a part before a character, by the states at the next part, at the next character, and at both.
-fn state_before(
-    part: &Part,
-    c: char,
-    next_part: bool,
-    next_character: bool,
-    next_both: bool,
-) -> bool
-    ensures { result ≡ state_before (part_view part.now) c next_part next_character next_both }
-{
-    match part {
-        Part::AnyRun => next_part || next_character,
-        Part::AnyOne => next_both,
-        Part::Just(d) => c == *d && next_both,
+    let mut parts = parts;
+    let mut rest = text;
+    'suffixes: loop {
+        match reach_of(parts, rest, fold_case) {
+            Reach::Matched => return true,
+            Reach::TextEnds => return false,
+            Reach::Run(behind, left) => {
+                parts = behind;
+                rest = left;
+            }
+            Reach::Differs => match front(rest, fold_case) {
+                Some((_, after)) => rest = after,
+                None => return false,
+            },
+        }
     }
 }

@@ -1,13 +1,15 @@
-use Rattle.std.proofs.Common.{◌≡◌, ◌≤◌, ◌-◌, ◌++◌, length, map, drop}
+use Rattle.std.proofs.Common.{◌≡◌, ◌++◌, length, map}
+use denote.Text.{Utf8}
+use denote.Shadow.{shadow}
 use Rattle.vx_dtype.specs.Like.{wildcards}
-use Rattle.vx_column.specs.Patterns.{part_view}
+use Rattle.vx_column.specs.Patterns.{part_view, letters}
 use Rattle.vx_column.proofs.patterns.parts_of.Given as goal
 
 -- the parts so far, and those of the rest
-abbrev pub invariant-parts : goal.invariant-parts
-invariant-parts l =
-    (l.i ≤ length l.fn.pattern)
-    × (wildcards l.fn.pattern ≡ map part_view l.parts.items ++ wildcards (drop l.i l.fn.pattern))
+abbrev pub invariant-loop-c : goal.invariant-loop-c
+invariant-loop-c l =
+    shadow (Utf8 l.rest)
+    × (wildcards (letters l.fn.fold_case l.fn.text) ≡ map part_view l.parts.items ++ wildcards (letters l.fn.fold_case l.rest))
 
-abbrev pub decreases-parts : goal.decreases-parts
-decreases-parts l = length l.pattern - l.i
+abbrev pub decreases-loop-c : goal.decreases-loop-c
+decreases-loop-c l = length (letters l.fn.fold_case l.rest)
