@@ -1,5 +1,5 @@
 -- For the checker: no public clause cites this. Patterns of LIKE as the code keeps them, in parts, and how far they go.
-use Rattle.std.specs.Prelude.{◌≡◌, ◌<◌, ◌≤◌, ℕ, ◌==◌, Bool, true, false, cond, List, map, length, Option, Some, None, ⊤}
+use Rattle.std.specs.Prelude.{◌≡◌, ◌<◌, ◌≤◌, ℕ, ◌==◌, Bool, true, false, cond, List, map, length, Option, Some, None}
 use Rattle.std.specs.Str.{chars}
 use Rattle.vx_dtype.specs.Like.{Wildcard, any_run, any_one, just, wildcards, matches, some_suffix, folded}
 use Rattle.vx_dtype.specs.Values.{Val, null_val, text_val}

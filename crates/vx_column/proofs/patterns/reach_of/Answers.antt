@@ -1,6 +1,5 @@
-use Rattle.std.proofs.Common.{◌≡◌, ◌∙◌, sym, map, ap, length, nat_eq, rules}
+use Rattle.std.proofs.Common.{◌∙◌, ap, rules}
 use Rattle.vx_dtype.specs.Like.{is_empty}
-use Rattle.vx_column.specs.Patterns.{part_view, letters}
 use Rattle.vx_column.proofs.PatternLemmas.{reach_last_run, reach_run, reach_text_ends, reach_differs, reach_more, reach_done, letters_none, letters_some, zero_length}
 use Rattle.vx_column.proofs.patterns.reach_of.Goals as goal
 
