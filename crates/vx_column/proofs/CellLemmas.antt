@@ -20,11 +20,12 @@ use Rattle.vx_column.specs.RawParts.{is_raw_null, lists_kind}
 use Rattle.vx_column.specs.Columns.{Column, column, row_at, rows_fit, values_fit, seen, seen_rows}
 use Rattle.vx_column.specs.StructColumns.{column_types, all_have_rows, struct_row, row_members, StandsAt}
 use Rattle.vx_column.specs.declared.cells.Cells.{Cells}
-use Rattle.vx_column.specs.declared.cells.Cells.TheVariants.{Constant, Rows, Columns}
+use Rattle.vx_column.specs.declared.cells.Cells.TheVariants.{Constant, Rows, Truths, Columns}
 use Rattle.vx_column.specs.Cells.{cell_rows, structs_of, all_rows_fit, AreFieldsOf, ArePartsOf, keeps_values}
 use Rattle.vx_column.proofs.FitLemmas.{both_of, of_both, bytes_eq_self, fits_nullable, valued_with_nullability, rows_fit_seen, is_null3_valued}
 use Rattle.vx_column.proofs.RowLemmas.{fits_at, seen_row, seen_rows_append, values_fit_more}
 use Rattle.vx_column.proofs.StructLemmas.{struct_fits, struct_stands}
+use Rattle.vx_column.proofs.TruthLemmas.{truth_rows_fit}
 
 -- a constant has its value at each row
 pub constant_row : (c : Column) (n i : ℕ) (v : Val) → replicate n v ≡ c.rows → i < length c.rows → v ≡ row_at c i
@@ -268,5 +269,6 @@ struct_row_fits t cs n h i w = ap (val_fits (struct_val (row_members (field_name
 
 pub cells_fit : (t : Ty) (k : Cells) → ArePartsOf t k → rows_fit t (cell_rows t k) ≡ true
 cells_fit t (Constant x n) h = rows_fit_repeated t n x h
-cells_fit t (Rows xs) h = rows_fit_seen t xs.value.items h
+cells_fit t (Rows xs) h = rows_fit_seen t xs.value.items h.fit
+cells_fit t (Truths ts) h = truth_rows_fit t ts.value h
 cells_fit t (Columns cs n) h = made_fit t (struct_row (field_names (fields_of t)) cs.value.items None) n 0 n (omega arith) (struct_row_fits t cs.value.items n h)

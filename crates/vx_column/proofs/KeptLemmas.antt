@@ -132,16 +132,6 @@ kept_structs fs cs n ks h e =
     let all = fill_by_all (struct_row fs (map (kept_column ks) cs) None) (map (struct_row fs cs None) (kept_places 0 ks)) (true_count ks) null_val lengths (λ k w. kept_struct_row fs cs ks rows k (omega (arith, count))) in
     sym all ∙ sym (kept_map (struct_row fs cs None) 0 n ks e)
 
--- a boolean column's value at a row is true where the value of the code is
-bool_is : (t : Ty) → is_bool_ty t ≡ true → t ≡ bool_ty (nullability_of t)
-bool_is (bool_ty n) e = refl
-bool_is _ e = absurd cc
-
-pub true_row : (c : Column) (i : ℕ) (x : ScalarValue) (b : Bool) → is_bool_ty c.ty ≡ true → fits (raw_view x) c.ty ≡ true → seen c.ty x ≡ row_at c i → ((n : Nullability) → fits (raw_view x) (bool_ty n) ≡ true → b ≡ is_true_val (seen (bool_ty n) x)) → b ≡ is_true_val (row_at c i)
-true_row c i x b h f s told =
-    let is = bool_is c.ty h in
-    told (nullability_of c.ty) (ap (fits (raw_view x)) (sym is) ∙ f) ∙ ap (λ t. is_true_val (seen t x)) (sym is) ∙ ap is_true_val s
-
 -- what a loop over values has kept with one more that is kept, and with one that isn't
 pub length_seen : (t : Ty) (xs : List ScalarValue) → length (seen_rows t xs) ≡ length xs
 length_seen t [] = refl
@@ -166,20 +156,6 @@ kept_whole t xs ks ws i h l e =
     let rows : length (seen_rows t xs) ≤ i = omega (arith, length_seen t xs) in
     let keeps : length ks ≤ i = omega (arith, l) in
     e ∙ (λ j. kept_rows (take_all i (seen_rows t xs) rows j) (take_all i ks keeps j))
-
--- how many values of a boolean type are true, with one more
-count_step : (t : Ty) (xs : List ScalarValue) (i : ℕ) (x : ScalarValue) (b : Bool) → i < length xs → x ≡ get_or xs i x → is_true_val (seen t x) ≡ b → is_true_val (get_or (seen_rows t xs) i null_val) ≡ b
-count_step t xs i x b h is e = ap is_true_val (sym (ap (seen t) is ∙ seen_row t xs i x h)) ∙ e
-
-pub count_step_true : (t : Ty) (xs : List ScalarValue) (i n : ℕ) (x : ScalarValue) → i < length xs → x ≡ get_or xs i x → is_true_val (seen t x) ≡ true → n ≡ true_count (take i (seen_rows t xs)) → n + 1 ≡ true_count (take (i + 1) (seen_rows t xs))
-count_step_true t xs i n x h is e before =
-    let within : i < length (seen_rows t xs) = omega (arith, length_seen t xs) in
-    ap (λ m. m + 1) before ∙ sym (count_by_more_yes is_true_val (seen_rows t xs) i null_val within (count_step t xs i x true h is e))
-
-pub count_step_false : (t : Ty) (xs : List ScalarValue) (i n : ℕ) (x : ScalarValue) → i < length xs → x ≡ get_or xs i x → is_true_val (seen t x) ≡ false → n ≡ true_count (take i (seen_rows t xs)) → n ≡ true_count (take (i + 1) (seen_rows t xs))
-count_step_false t xs i n x h is e before =
-    let within : i < length (seen_rows t xs) = omega (arith, length_seen t xs) in
-    before ∙ sym (count_by_more_no is_true_val (seen_rows t xs) i null_val within (count_step t xs i x false h is e))
 
 -- the column of what was kept, by its parts
 pub kept_constant : (c : Column) (ks : List Val) (d : Ty) (n m : ℕ) (x y : ScalarValue) → d ≡ c.ty → replicate n (seen c.ty x) ≡ c.rows → length c.rows ≡ length ks → m ≡ true_count ks → raw_view y ≡ raw_view x → column d (replicate m (seen d y)) ≡ kept_column ks c

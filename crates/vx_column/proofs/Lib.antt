@@ -16,3 +16,4 @@ mod AppendLemmas
 mod KeptLemmas
 mod ColumnFields
 mod SameLemmas
+mod TruthLemmas

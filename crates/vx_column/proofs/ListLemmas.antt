@@ -10,7 +10,8 @@ use Rattle.vx_dtype.specs.Logic.{is_true_val}
 use Rattle.vx_dtype.specs.Order.{meets}
 use Rattle.vx_dtype.specs.declared.CompareOperator.TheVariants.{Eq}
 use Rattle.vx_dtype.specs.Lists.{contains3, has_element}
-use Rattle.vx_column.specs.RawParts.{raw_order, raws_have, raw_contains, lists_kind, truth_val, truth_fits}
+use Rattle.vx_words.specs.Words.{truth_val}
+use Rattle.vx_column.specs.RawParts.{raw_order, raws_have, raw_contains, lists_kind, truth_fits}
 use Rattle.vx_column.proofs.FitLemmas.{both_of}
 use Rattle.vx_column.proofs.OrderLemmas.{compare3_valued, nullable_left, nullable_right}
 

@@ -10,7 +10,8 @@ use Rattle.vx_dtype.specs.declared.CompareOperator.{CompareOperator}
 use Rattle.vx_dtype.specs.Values.{Raw, raw_null, raw_bool, raw_int, raw_text, valued}
 use Rattle.vx_dtype.specs.Fits.{fits}
 use Rattle.vx_dtype.specs.Order.{compare3, meets}
-use Rattle.vx_column.specs.RawParts.{raw_order, truth_val, truth_fits}
+use Rattle.vx_words.specs.Words.{truth_val}
+use Rattle.vx_column.specs.RawParts.{raw_order, truth_fits}
 
 -- the comparison of two values of one plain type is that of how they stand
 pub compare3_valued : (op : CompareOperator) (t u : Ty) (x y : Raw) → is_plain t ≡ true → alike t u ≡ true → fits x t ≡ true → fits y u ≡ true → compare3 op (valued x t) (valued y u) ≡ truth_val (option_map (meets op) (raw_order x y))

@@ -17,7 +17,7 @@ seen_rows_append t [] x = refl
 seen_rows_append t (y ∷ ys) x = ap (λ zs. seen t y ∷ zs) (seen_rows_append t ys x)
 
 -- one more row of two columns
-zip_rows_suc : (rule : Val → Val → Val) (xs ys : List Val) (i : ℕ) (d : Val) → i < length xs → i < length ys → zip_rows rule (take (suc i) xs) (take (suc i) ys) ≡ zip_rows rule (take i xs) (take i ys) ++ rule (get_or xs i d) (get_or ys i d) ∷ []
+pub zip_rows_suc : (rule : Val → Val → Val) (xs ys : List Val) (i : ℕ) (d : Val) → i < length xs → i < length ys → zip_rows rule (take (suc i) xs) (take (suc i) ys) ≡ zip_rows rule (take i xs) (take i ys) ++ rule (get_or xs i d) (get_or ys i d) ∷ []
 zip_rows_suc rule [] ys i d h k = absurd (omega arith)
 zip_rows_suc rule (x ∷ xs) [] i d h k = absurd (omega arith)
 zip_rows_suc rule (x ∷ xs) (y ∷ ys) zero d h k = refl

@@ -1,21 +1,24 @@
 -- For the checker: no public clause cites this. What the parts of a column hold.
-use Rattle.std.specs.Prelude.{◌≡◌, ℕ, slice_index_or, Bool, true, ◌&&◌, List, [], ◌∷◌, ◌++◌, map, length, None}
+use Rattle.std.specs.Prelude.{◌≡◌, ℕ, slice_index_or, Bool, true, false, ◌&&◌, List, [], ◌∷◌, ◌++◌, map, length, Option, None}
 use Rattle.std.specs.Hash as fed
 use Rattle.std.specs.Hash.{HashWrites}
 use Rattle.std.specs.List.{range_with_len}
 use Rattle.std.proofs.Math.ListN.{replicate}
 use Rattle.vx_dtype.specs.Types.{Bytes, Ty, struct_ty}
+use Rattle.vx_dtype.specs.declared.Nullability.{Nullability}
 use Rattle.vx_dtype.specs.declared.Nullability.TheVariants.{NonNullable}
-use Rattle.vx_dtype.specs.TypeRules.{field_names, fields_of, is_nullable}
+use Rattle.vx_dtype.specs.TypeRules.{field_names, fields_of, is_bool_ty, is_nullable, nullability_of}
 use Rattle.vx_dtype.specs.StructTypes.{field_types}
 use Rattle.vx_dtype.specs.Values.{Val}
 use Rattle.vx_dtype.specs.Fits.{fits}
 use Rattle.vx_dtype.specs.RawViews.{raw_view}
 use Rattle.vx_dtype.specs.declared.values.ScalarValue.{ScalarValue}
 use Rattle.vx_column.specs.declared.cells.Cells.{Cells}
-use Rattle.vx_column.specs.declared.cells.Cells.TheVariants.{Constant, Rows, Columns}
+use Rattle.vx_column.specs.declared.cells.Cells.TheVariants.{Constant, Rows, Truths, Columns}
 use Rattle.vx_column.specs.Columns.{Column, column, row_at, rows_fit, values_fit, seen, seen_rows, kept_rows}
 use Rattle.vx_column.specs.ColumnEqual.{val_feed}
+use Rattle.vx_column.specs.RawParts.{truth_fits}
+use Rattle.vx_words.specs.Truths.{vals_of}
 use Rattle.vx_column.specs.StructColumns.{column_types, all_have_rows, struct_row}
 
 -- the structs of the columns' values at each of this many rows
@@ -26,6 +29,7 @@ structs_of fs cs n = map (struct_row fs cs None) (range_with_len 0 n)
 abbrev pub cell_rows : Ty → Cells → List Val
 cell_rows t (Constant x n) = replicate n (seen t x)
 cell_rows t (Rows xs) = seen_rows t xs.value.items
+cell_rows t (Truths ts) = vals_of ts.value
 cell_rows t (Columns cs n) = structs_of (field_names (fields_of t)) cs.value.items n
 
 -- whether the rows of each column are of its type
@@ -50,10 +54,26 @@ pub record AreOfOneShape (c d : Column) : Type 0 where
   pub types : c.ty ≡ d.ty
   pub lengths : length c.rows ≡ length d.rows
 
+-- whether a boolean type of this nullability has each of the truths, and the null where there is none
+abbrev pub truths_fit : Nullability → List (Option Bool) → Bool
+truths_fit n [] = true
+truths_fit n (t ∷ ts) = truth_fits n t && truths_fit n ts
+
+-- the values are those of a type that isn't boolean
+pub record AreValuesOf (t : Ty) (xs : List ScalarValue) : Type 0 where
+  pub fit : values_fit t xs ≡ true
+  pub kind : is_bool_ty t ≡ false
+
+-- the truths are those of a boolean type
+pub record AreTruthsOf (t : Ty) (ts : List (Option Bool)) : Type 0 where
+  pub kind : is_bool_ty t ≡ true
+  pub fit : truths_fit (nullability_of t) ts ≡ true
+
 -- the parts are those of a column of the type
 abbrev pub ArePartsOf : Ty → Cells → Type 0
 ArePartsOf t (Constant x n) = fits (raw_view x) t ≡ true
-ArePartsOf t (Rows xs) = values_fit t xs.value.items ≡ true
+ArePartsOf t (Rows xs) = AreValuesOf t xs.value.items
+ArePartsOf t (Truths ts) = AreTruthsOf t ts.value
 ArePartsOf t (Columns cs n) = AreFieldsOf t cs.value.items n
 
 -- whether a column of the type keeps a value for each row, and no columns of fields

@@ -10,3 +10,5 @@ pub mod Patterns
 pub mod LastPatterns
 pub mod Cells
 pub mod Sizes
+pub mod RowValues
+pub mod Connectives

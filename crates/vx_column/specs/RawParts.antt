@@ -7,12 +7,12 @@ use Rattle.vx_dtype.specs.Types.{Ty, int_ty, list_ty}
 use Rattle.vx_dtype.specs.declared.Nullability.{Nullability}
 use Rattle.vx_dtype.specs.TypeRules.{is_nullable, nullability_of, is_plain, alike}
 use Rattle.vx_dtype.specs.Fits.{in_range}
-use Rattle.vx_dtype.specs.Values.{Raw, raw_null, raw_bool, raw_int, raw_text, raw_list, Raws, no_raws, raw, Val, null_val, bool_val}
+use Rattle.vx_dtype.specs.Values.{Raw, raw_null, raw_bool, raw_int, raw_text, raw_list, Raws, no_raws, raw}
 
--- the value at a row that a truth stands for
-abbrev pub truth_val : Option Bool → Val
-truth_val None = null_val
-truth_val (Some b) = bool_val b
+-- the truth of a boolean value, and none of another
+abbrev pub raw_truth : Raw → Option Bool
+raw_truth (raw_bool b) = Some b
+raw_truth _ = None
 
 -- whether a boolean type of this nullability has a truth, or the null where there is none
 abbrev pub truth_fits : Nullability → Option Bool → Bool

@@ -48,7 +48,8 @@ fn cast_rows(alloc: Global, c: &ColumnRef, target: &DType) -> Mem<Option<Vec<Sca
 {
     let mut made = Vec::with_capacity(alloc, c.len())?;
     for i in 0..c.len() {
-        match cast_value(c.value_at(i), target)? {
+        let value = c.value_at(i);
+        match cast_value(value.get(), target)? {
             Some(value) => made.push(value)?,
             None => return Ok(None),
         }

@@ -4,6 +4,7 @@ ghost use Rattle.std.specs.Prelude.{◌≡◌};
 use crate::columns::ColumnRef;
 use std::rc::Rc;
 use vx_dtype::ScalarValue;
+use vx_words::Truths;
 
 /// The rows of a column, as they are kept.
 #[cycle(columns)]
@@ -14,8 +15,10 @@ pub(crate) enum Cells {
         value: ScalarValue,
         len: usize,
     },
-    /// A value for each row.
+    /// A value for each row, of a type that isn't boolean.
     Rows(Rc<Vec<ScalarValue>>),
+    /// The truths of a boolean type.
+    Truths(Rc<Truths>),
     /// The columns of the fields of a struct type that isn't nullable, and how many rows each has.
     Columns {
         fields: Rc<Vec<ColumnRef>>,
@@ -28,6 +31,13 @@ pub(crate) fn values_in(rows: &Rc<Vec<ScalarValue>>) -> &[ScalarValue]
     ensures { result.now ≡ rows.now.value.items }
 {
     rows.as_slice()
+}
+
+/// The truths that are shared.
+pub(crate) fn truths_in(truths: &Rc<Truths>) -> &Truths
+    ensures { result.now ≡ truths.now.value }
+{
+    truths
 }
 
 /// The columns that are shared.

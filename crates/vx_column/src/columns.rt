@@ -1,24 +1,26 @@
 // Columns: a type, and a value of the type at each row.
-ghost use Rattle.std.specs.Prelude.{◌≡◌, ◌<◌, true, not, length, map, IfOk};
+ghost use Rattle.std.specs.Prelude.{◌≡◌, ◌<◌, true, false, not, length, map, IfOk};
 ghost use Rattle.std.proofs.Math.ListN.{replicate};
 ghost use Rattle.vx_dtype.specs.Values.{bool_val, value_of};
 ghost use Rattle.vx_dtype.specs.Logic.{is_null3};
 ghost use Rattle.vx_dtype.specs.Fits.{fits};
 ghost use Rattle.vx_dtype.specs.RawViews.{raw_view};
 ghost use Rattle.vx_column.specs.Answers.{Answers, column_of_raws};
-ghost use Rattle.vx_dtype.specs.TypeRules.{no_name_twice, field_names, fields_of};
+ghost use Rattle.vx_dtype.specs.TypeRules.{no_name_twice, field_names, fields_of, is_bool_ty};
 ghost use Rattle.vx_dtype.specs.TypeViews.{type_view};
 ghost use Rattle.vx_column.specs.Columns.{Column, column, row_at, rows_fit, values_fit, seen, seen_rows};
-ghost use Rattle.vx_column.specs.Cells.{cell_rows, structs_of, AreFieldsOf, ArePartsOf};
+ghost use Rattle.vx_column.specs.Cells.{cell_rows, structs_of, AreFieldsOf, ArePartsOf, AreTruthsOf};
+ghost use Rattle.vx_words.specs.Truths.{vals_of};
 
-use crate::cells::{Cells, values_in};
+use crate::cells::{Cells, truths_in, values_in};
 use crate::errors::ColumnError;
-use crate::logic::is_null_value;
+use crate::logic::{is_null_value, truths_of_values};
 use crate::reading::made_at;
 use std::alloc::{AllocError, Global};
 use std::marker::Model;
 use std::rc::Rc;
 use vx_dtype::{DType, Mem, Scalar, ScalarValue};
+use vx_words::Truths;
 
 /// A column, shared by its clones. It is seen as its type and the list of its row values: each value is one of the type, and no struct in the type has two fields of one name.
 #[cycle(columns)]
@@ -60,12 +62,36 @@ impl ColumnRef {
         requires names { no_name_twice (type_view dtype) ≡ true }
         ensures { IfOk result (λ c. c ≡ column (type_view dtype) (seen_rows (type_view dtype) rows.items)) }
     {
+        if let DType::Bool(_) = dtype {
+            let truths = truths_of_values(alloc, rows.as_slice())?;
+            return ColumnRef::of_truths(alloc, dtype, truths);
+        }
         Ok(ColumnRef::of_shared(dtype, Rc::new(alloc, rows)?))
     }
 
-    /// The column of these shared values. It is for values that are known to be of the type.
+    /// The column of these truths. It is for truths that are known to be of the type, which is boolean.
+    pub(crate) fn of_truths(alloc: Global, dtype: DType, truths: Truths) -> Mem<ColumnRef>
+        requires { AreTruthsOf (type_view dtype) truths }
+        ensures { IfOk result (λ c. c ≡ column (type_view dtype) (vals_of truths)) }
+    {
+        Ok(ColumnRef::of_shared_truths(dtype, Rc::new(alloc, truths)?))
+    }
+
+    /// The column of these shared truths. It is for truths that are known to be of the type, which is boolean.
+    pub(crate) fn of_shared_truths(dtype: DType, truths: Rc<Truths>) -> ColumnRef
+        requires { AreTruthsOf (type_view dtype) truths.value }
+        ensures { result ≡ column (type_view dtype) (vals_of truths.value) }
+    {
+        ColumnRef {
+            dtype,
+            cells: Cells::Truths(truths),
+        }
+    }
+
+    /// The column of these shared values. It is for values that are known to be of the type, which isn't boolean.
     pub(crate) fn of_shared(dtype: DType, rows: Rc<Vec<ScalarValue>>) -> ColumnRef
         requires fit { values_fit (type_view dtype) rows.value.items ≡ true }
+        requires kind { is_bool_ty (type_view dtype) ≡ false }
         requires names { no_name_twice (type_view dtype) ≡ true }
         ensures { result ≡ column (type_view dtype) (seen_rows (type_view dtype) rows.value.items) }
     {
@@ -160,6 +186,7 @@ impl ColumnRef {
                 let values = values_in(rows);
                 !is_null_value(&values[i])
             }
+            Cells::Truths(truths) => truths_in(truths).truth_at(i).is_some(),
             Cells::Columns { .. } => true,
         }
     }
@@ -171,6 +198,7 @@ impl ColumnRef {
         match self.cells() {
             Cells::Constant { len, .. } => *len,
             Cells::Rows(rows) => rows.len(),
+            Cells::Truths(truths) => truths_in(truths).len(),
             Cells::Columns { len, .. } => *len,
         }
     }
@@ -198,6 +226,7 @@ impl Clone for ColumnRef {
                 Ok(ColumnRef::of_constant(dtype, value.clone()?, *len))
             }
             Cells::Rows(rows) => Ok(ColumnRef::of_shared(dtype, rows.clone()?)),
+            Cells::Truths(truths) => Ok(ColumnRef::of_shared_truths(dtype, truths.clone()?)),
             Cells::Columns { fields, len } => Ok(ColumnRef {
                 dtype,
                 cells: Cells::Columns {

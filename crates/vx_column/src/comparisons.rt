@@ -10,8 +10,8 @@ ghost use Rattle.vx_column.specs.Columns.{zip_rows, zip_rows3};
 ghost use Rattle.vx_column.specs.RawParts.{raw_order, raw_equal, raws_have, raw_contains, lists_kind};
 
 use crate::columns::ColumnRef;
-use crate::logic::{and_kleene, is_null_value, of_truth};
-use crate::rows::{PairRule, zip_columns};
+use crate::logic::{and_kleene, is_null_value};
+use crate::rows::{TruthRule, zip_columns};
 use std::alloc::Global;
 use std::cmp::Ordering;
 use vx_dtype::{BetweenOptions, CompareOperator, DType, Mem, ScalarValue};
@@ -48,23 +48,22 @@ struct Comparison<'a> {
     ghost same: { alike (type_view left.now) (type_view right.now) ≡ true },
 }
 
-impl PairRule for Comparison<'_> {
+impl TruthRule for Comparison<'_> {
     ghost left = { λ a. type_view a.left.now };
 
     ghost right = { λ a. type_view a.right.now };
 
-    ghost made = { λ a. bool_ty (union (nullability_of (type_view a.left.now)) (nullability_of (type_view a.right.now))) };
+    ghost nullability = { λ a. union (nullability_of (type_view a.left.now)) (nullability_of (type_view a.right.now)) };
 
     ghost rule = { λ a. compare3 a.op };
 
     #[tactic(auto, using(crate::proofs::OrderLemmas::compare3_valued, crate::proofs::OrderLemmas::order_fits))]
-    fn at(&self, _alloc: Global, l: &ScalarValue, r: &ScalarValue) -> Mem<ScalarValue> {
-        Ok(of_truth(compared(self.op, order_of(l, r))))
+    fn at(&self, l: &ScalarValue, r: &ScalarValue) -> Option<bool> {
+        compared(self.op, order_of(l, r))
     }
 }
 
 /// Whether a comparison holds, row by row: false before true, numbers by value, texts by their bytes; null where a side is null.
-#[tactic(auto, unfolding(vx_dtype::specs::TypeRules::no_name_twice))]
 pub fn compare(alloc: Global, l: &ColumnRef, r: &ColumnRef, op: CompareOperator) -> Mem<ColumnRef>
     requires plain { is_plain l.now.ty ≡ true }
     requires same { alike l.now.ty r.now.ty ≡ true }
@@ -74,8 +73,8 @@ pub fn compare(alloc: Global, l: &ColumnRef, r: &ColumnRef, op: CompareOperator)
 {
     let left = l.dtype();
     let right = r.dtype();
-    let dtype = DType::Bool(left.nullability().union(right.nullability()));
-    zip_columns(alloc, &Comparison { op, left, right }, dtype, l, r)
+    let nullability = left.nullability().union(right.nullability());
+    zip_columns(alloc, &Comparison { op, left, right }, nullability, l, r)
 }
 
 /// Whether the lower bound stands before the value and the value before the upper bound, row by row. The conjunction is Kleene's, also beside a null bound.
@@ -145,23 +144,22 @@ struct Membership<'a> {
     ghost kind: { lists_kind (type_view list.now) (type_view value.now) ≡ true },
 }
 
-impl PairRule for Membership<'_> {
+impl TruthRule for Membership<'_> {
     ghost left = { λ a. type_view a.list.now };
 
     ghost right = { λ a. type_view a.value.now };
 
-    ghost made = { λ a. bool_ty (union (nullability_of (type_view a.list.now)) (nullability_of (type_view a.value.now))) };
+    ghost nullability = { λ a. union (nullability_of (type_view a.list.now)) (nullability_of (type_view a.value.now)) };
 
     ghost rule = { λ _. contains3 };
 
     #[tactic(auto, using(crate::proofs::ListLemmas::contains3_valued, crate::proofs::ListLemmas::contains_fits))]
-    fn at(&self, _alloc: Global, l: &ScalarValue, r: &ScalarValue) -> Mem<ScalarValue> {
-        Ok(of_truth(contains(l, r)))
+    fn at(&self, l: &ScalarValue, r: &ScalarValue) -> Option<bool> {
+        contains(l, r)
     }
 }
 
 /// Whether the list has an element that equals the value, row by row; null where one of the two is null. A null element equals nothing.
-#[tactic(auto, unfolding(vx_dtype::specs::TypeRules::no_name_twice))]
 pub fn list_contains(alloc: Global, list: &ColumnRef, value: &ColumnRef) -> Mem<ColumnRef>
     requires kind { lists_kind list.now.ty value.now.ty ≡ true }
     requires lengths { length list.now.rows ≡ length value.now.rows }
@@ -170,10 +168,10 @@ pub fn list_contains(alloc: Global, list: &ColumnRef, value: &ColumnRef) -> Mem<
 {
     let lists = list.dtype();
     let values = value.dtype();
-    let dtype = DType::Bool(lists.nullability().union(values.nullability()));
+    let nullability = lists.nullability().union(values.nullability());
     let rule = Membership {
         list: lists,
         value: values,
     };
-    zip_columns(alloc, &rule, dtype, list, value)
+    zip_columns(alloc, &rule, nullability, list, value)
 }

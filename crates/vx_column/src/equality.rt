@@ -5,6 +5,9 @@ ghost use Rattle.std.specs.List.{All, AllZip, flat_map};
 ghost use Rattle.std.proofs.Common.{ap};
 ghost use Rattle.std.proofs.Math.ListN.{replicate};
 ghost use Rattle.vx_dtype.specs.Fits.{fits};
+ghost use Rattle.vx_dtype.specs.TypeRules.{is_bool_ty};
+ghost use Rattle.vx_words.specs.Truths.{vals_of};
+ghost use Rattle.vx_words.specs.Words.{truth_val};
 ghost use Rattle.vx_dtype.specs.RawViews.{raw_view};
 ghost use Rattle.vx_column.specs.Columns.{row_at, values_fit, seen, seen_rows};
 ghost use Rattle.vx_column.specs.StructColumns.{column_types};
@@ -12,11 +15,13 @@ ghost use Rattle.vx_column.specs.ColumnEqual.{column_eq, column_feed, val_feed};
 ghost use Rattle.vx_column.specs.ColumnEqualLaws.{column_eq_equiv, column_decides};
 ghost use Rattle.vx_column.specs.Cells.{HasFit, HasAt, AreStructsOf, AreOfOneShape, fields_feed};
 
-use crate::cells::{Cells, columns_in, values_in};
+use crate::cells::{Cells, columns_in, truths_in, values_in};
 use crate::columns::ColumnRef;
 use crate::fields::parts_of;
+use crate::logic::of_truth;
 use std::hash::{Hash, Hasher};
 use vx_dtype::ScalarValue;
+use vx_words::Truths;
 
 /// Whether a column has this value of its type at a row.
 #[cycle(has)]
@@ -30,6 +35,10 @@ fn has_at(column: &ColumnRef, i: usize, value: &ScalarValue) -> bool
         Cells::Rows(rows) => {
             let values = values_in(rows);
             &values[i] == value
+        }
+        Cells::Truths(truths) => {
+            let own = of_truth(truths_in(truths).truth_at(i));
+            &own == value
         }
         Cells::Columns { fields, .. } => match parts_of(value) {
             Some(parts) => have_at(columns_in(fields), i, parts),
@@ -80,6 +89,27 @@ fn has_rows(column: &ColumnRef, values: &[ScalarValue]) -> bool
     true
 }
 
+/// Whether two truths are one.
+fn same_truth(l: Option<bool>, r: Option<bool>) -> bool
+    ensures { Decides result (truth_val l ≡ truth_val r) }
+{
+    l == r
+}
+
+/// Whether a column of truths has these, row by row.
+fn has_truths(column: &ColumnRef, truths: &Truths) -> bool
+    requires kind { is_bool_ty column.now.ty ≡ true }
+    requires lengths { length truths.now ≡ length column.now.rows }
+    ensures { Decides result (vals_of truths.now ≡ column.now.rows) }
+{
+    for i in 0..truths.len() {
+        if !same_truth(column.truth_at(i), truths.truth_at(i)) {
+            return false;
+        }
+    }
+    true
+}
+
 /// Whether two columns of one type have the same rows.
 #[cycle(same)]
 fn same(left: &ColumnRef, right: &ColumnRef) -> bool
@@ -92,6 +122,7 @@ fn same(left: &ColumnRef, right: &ColumnRef) -> bool
     match left.cells() {
         Cells::Constant { value, .. } => has_everywhere(right, value),
         Cells::Rows(rows) => has_rows(right, values_in(rows)),
+        Cells::Truths(truths) => has_truths(right, truths_in(truths)),
         Cells::Columns { fields, .. } => has_structs(right, left, columns_in(fields)),
     }
 }
@@ -106,6 +137,7 @@ fn has_structs(column: &ColumnRef, structs: &ColumnRef, fields: &[ColumnRef]) ->
     match column.cells() {
         Cells::Constant { value, .. } => has_everywhere(structs, value),
         Cells::Rows(rows) => has_rows(structs, values_in(rows)),
+        Cells::Truths(_) => unreachable!(),
         Cells::Columns { fields: others, .. } => same_fields(fields, columns_in(others)),
     }
 }
@@ -154,6 +186,7 @@ fn feed_at<H: Hasher>(column: &ColumnRef, i: usize, state: &mut H)
             let values = values_in(rows);
             values[i].hash(state);
         }
+        Cells::Truths(truths) => of_truth(truths_in(truths).truth_at(i)).hash(state),
         Cells::Columns { fields, .. } => {
             state.write_u8(5);
             feed_fields(columns_in(fields), i, state);

@@ -6,9 +6,11 @@ ghost use Rattle.vx_dtype.specs.TypeRules.{is_text_ty, nullability_of, union};
 ghost use Rattle.vx_dtype.specs.Like.{like3, inverted_if};
 ghost use Rattle.vx_dtype.specs.Fits.{fits};
 ghost use Rattle.vx_dtype.specs.RawViews.{raw_view};
-ghost use Rattle.vx_column.specs.Cells.{keeps_values};
-ghost use Rattle.vx_column.specs.Columns.{values_fit, seen, seen_rows, zip_rows};
-ghost use Rattle.vx_column.specs.RawParts.{truth_val, truth_fits};
+ghost use Rattle.vx_words.specs.Words.{truth_val};
+ghost use Rattle.vx_words.specs.Truths.{vals_of};
+ghost use Rattle.vx_column.specs.Cells.{truths_fit};
+ghost use Rattle.vx_column.specs.Columns.{seen, zip_rows};
+ghost use Rattle.vx_column.specs.RawParts.{truth_fits};
 ghost use Rattle.vx_column.specs.Patterns.{text_or_null, text_or_null_fits};
 ghost use Rattle.vx_column.specs.LastPatterns.{IsPatternFor, IsLastIfAny};
 
@@ -17,10 +19,11 @@ use crate::logic::of_truth;
 use crate::patterns::Pattern;
 use std::alloc::Global;
 use vx_dtype::{DType, Mem, Nullability, ScalarValue};
+use vx_words::Truths;
 
 /// The text of a text value, and none of null.
 #[tactic(auto, unfolding(vx_dtype::specs::Fits::fits, vx_dtype::specs::Values::valued))]
-fn text_of(value: &ScalarValue) -> Option<&str>
+pub(crate) fn text_of(value: &ScalarValue) -> Option<&str>
     ensures value { (n : Nullability) → fits (raw_view value.now) (text_ty n) ≡ true → seen (text_ty n) value.now ≡ text_or_null (option_copied result) }
     ensures fit { (n : Nullability) → fits (raw_view value.now) (text_ty n) ≡ true → text_or_null_fits n (option_copied result) ≡ true }
 {
@@ -101,28 +104,25 @@ impl Matching {
     }
 
     /// The answers of two columns' values, row by row.
-    fn values(&self, alloc: Global, c: &ColumnRef, pattern: &ColumnRef) -> Mem<Vec<ScalarValue>>
+    fn truths(&self, alloc: Global, c: &ColumnRef, pattern: &ColumnRef) -> Mem<Truths>
         requires lengths { length c.now.rows ≡ length pattern.now.rows }
         requires left { c.now.ty ≡ text_ty self.now.left }
         requires right { pattern.now.ty ≡ text_ty self.now.right }
-        ensures fit { IfOk result (λ vs. values_fit (bool_ty (union self.now.left self.now.right)) vs.items ≡ true) }
-        ensures values { IfOk result (λ vs. seen_rows (bool_ty (union self.now.left self.now.right)) vs.items ≡
+        ensures fit { IfOk result (λ truths. truths_fit (union self.now.left self.now.right) truths ≡ true) }
+        ensures values { IfOk result (λ truths. vals_of truths ≡
             zip_rows (like3 self.now.negated self.now.case_insensitive) c.now.rows pattern.now.rows) }
     {
-        let mut made = Vec::with_capacity(alloc, c.len())?;
+        let mut truths = Vec::with_capacity(alloc, c.len())?;
         let mut last = None;
         for i in 0..c.len() {
-            let text = text_of(c.value_at(i));
-            let spelled = text_of(pattern.value_at(i));
-            let truth = self.truth(alloc, text, spelled, &mut last)?;
-            made.push(of_truth(truth))?;
+            let truth = self.truth(alloc, c.text_at(i), pattern.text_at(i), &mut last)?;
+            truths.push(truth)?;
         }
-        Ok(made)
+        Truths::from_options(alloc, truths.as_slice())
     }
 }
 
 /// Whether the text matches the pattern, row by row, inverted where this is negated; null where a side is null. In a pattern `%` matches any run of characters, `_` one character, `\` makes the next character stand for itself, and a last `\` stands for itself. Where the match is case-insensitive, it folds ASCII letters alone.
-#[tactic(auto, unfolding(vx_dtype::specs::TypeRules::no_name_twice))]
 pub fn like(
     alloc: Global,
     c: &ColumnRef,
@@ -151,6 +151,9 @@ pub fn like(
             let truth = matching.truth(alloc, text_of(text), text_of(pattern), &mut last)?;
             Ok(ColumnRef::of_constant(dtype, of_truth(truth), c.len()))
         }
-        _ => ColumnRef::of_rows(alloc, dtype, matching.values(alloc, c, pattern)?),
+        _ => {
+            let truths = matching.truths(alloc, c, pattern)?;
+            ColumnRef::of_truths(alloc, dtype, truths)
+        }
     }
 }

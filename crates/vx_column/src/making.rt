@@ -8,6 +8,7 @@ ghost use Rattle.vx_dtype.specs.RawViews.{raw_view, raws_of};
 ghost use Rattle.vx_dtype.specs.TypeViews.{type_view};
 ghost use Rattle.vx_column.specs.declared.errors.ColumnError.TheVariants.{DuplicateField};
 ghost use Rattle.vx_column.specs.Columns.{column};
+ghost use Rattle.vx_column.specs.Cells.{truths_fit};
 ghost use Rattle.vx_column.specs.Answers.{Answers, unless, optional_raw, list_raw, column_of_raws};
 
 use crate::columns::ColumnRef;
@@ -15,6 +16,7 @@ use crate::errors::ColumnError;
 use std::alloc::Global;
 use std::rc::Rc;
 use vx_dtype::{DType, ElementType, Mem, Nullability, PType, Scalar, ScalarValue, Text};
+use vx_words::Truths;
 
 impl ColumnRef {
     /// The column of these values of the type. WrongValue exactly where one of them isn't of the type; else DuplicateField exactly where a name stands twice in a struct of the type, at any depth.
@@ -48,14 +50,11 @@ impl ColumnRef {
     ) -> Result<ColumnRef, ColumnError>
         ensures { Answers result (column_of_raws (bool_ty n) (map (optional_raw raw_bool) values.items)) }
     {
-        let mut rows = Vec::with_capacity(alloc, values.len())?;
-        for value in values {
-            rows.push(match value {
-                Some(b) => ScalarValue::Bool(b),
-                None => ScalarValue::Null,
-            })?;
+        if !all_fit(n, values.as_slice()) {
+            return Err(ColumnError::WrongValue);
         }
-        ColumnRef::of_values(alloc, DType::Bool(n), rows)
+        let truths = Truths::from_options(alloc, values.as_slice())?;
+        Ok(ColumnRef::of_truths(alloc, DType::Bool(n), truths)?)
     }
 
     /// The column of these numbers of an integer type, null where there is none. WrongValue exactly where a number is out of the type's range, or there is none and the type isn't nullable.
@@ -107,6 +106,18 @@ impl ColumnRef {
         let dtype = DType::List(ElementType::new(Rc::new(alloc, element)?), n);
         ColumnRef::of_values(alloc, dtype, list_rows(alloc, values)?)
     }
+}
+
+/// Whether a boolean type has each of the truths, and the null where there is none.
+fn all_fit(n: Nullability, truths: &[Option<bool>]) -> bool
+    ensures { result ≡ truths_fit n truths.now }
+{
+    for truth in truths {
+        if truth.is_none() && n == Nullability::NonNullable {
+            return false;
+        }
+    }
+    true
 }
 
 /// The lists as values, null where there is none.

@@ -1,86 +1,44 @@
 // Rows that are kept, and rows that are made null.
-ghost use Rattle.std.specs.Prelude.{◌≡◌, ◌<◌, true, length, map, IfOk};
+ghost use Rattle.std.specs.Prelude.{◌≡◌, ◌<◌, true, slice_index_or, length, map, None, IfOk};
 ghost use Rattle.std.specs.List.{All};
 ghost use Rattle.vx_dtype.specs.declared.Nullability.TheVariants.{Nullable};
-ghost use Rattle.vx_dtype.specs.Types.{bool_ty};
 ghost use Rattle.vx_dtype.specs.TypeRules.{is_bool_ty, is_nullable, nullability_of, with_nullability};
 ghost use Rattle.vx_dtype.specs.TypeViews.{type_view};
-ghost use Rattle.vx_dtype.specs.declared.Nullability.{Nullability};
-ghost use Rattle.vx_dtype.specs.Logic.{is_true_val};
 ghost use Rattle.vx_dtype.specs.Fits.{fits};
 ghost use Rattle.vx_dtype.specs.RawViews.{raw_view};
+ghost use Rattle.vx_words.specs.Words.{truth_val};
+ghost use Rattle.vx_words.specs.Truths.{is_true, vals_of};
 ghost use Rattle.vx_column.specs.Columns.{row_at, values_fit, seen, seen_rows, kept_rows, true_count, masked, zip_rows};
-ghost use Rattle.vx_column.specs.Cells.{kept_column};
+ghost use Rattle.vx_column.specs.Cells.{keeps_values, kept_column};
 
-use crate::cells::{Cells, columns_in, values_in};
+use crate::cells::{Cells, columns_in, truths_in, values_in};
 use crate::columns::ColumnRef;
 use crate::logic::{null, truth_of};
-use crate::rows::{PairRule, zip_columns};
+use crate::reading::truths_of;
 use std::alloc::Global;
 use vx_dtype::{DType, Mem, Nullability, ScalarValue};
+use vx_words::Truths;
 
-/// Whether a value is the boolean true.
-#[tactic(auto, unfolding(vx_dtype::specs::Fits::fits, vx_dtype::specs::Values::valued))]
-fn is_true(value: &ScalarValue) -> bool
-    ensures { (n : Nullability) → fits (raw_view value.now) (bool_ty n) ≡ true → result ≡ is_true_val (seen (bool_ty n) value.now) }
+/// Whether a truth is true.
+fn is_true(truth: Option<bool>) -> bool
+    ensures { result ≡ is_true truth }
 {
-    match value {
-        ScalarValue::Bool(b) => *b,
-        _ => false,
-    }
-}
-
-/// Whether a boolean column is true at a row.
-#[tactic(auto, using(crate::proofs::CellLemmas::bool_kept))]
-fn is_true_at(column: &ColumnRef, i: usize) -> bool
-    requires mask { is_bool_ty column.now.ty ≡ true }
-    requires row { i < length column.now.rows }
-    ensures { result ≡ is_true_val (row_at column.now i) }
-{
-    is_true(column.value_at(i))
-}
-
-/// The values of a nullable type made null where a boolean is true.
-#[derive(Drop)]
-struct Masking<'a> {
-    dtype: &'a DType,
-    nulls: Nullability,
-    ghost nullable: { is_nullable (nullability_of (type_view dtype.now)) ≡ true },
-}
-
-impl PairRule for Masking<'_> {
-    ghost left = { λ a. type_view a.dtype.now };
-
-    ghost right = { λ a. bool_ty a.nulls };
-
-    ghost made = { λ a. type_view a.dtype.now };
-
-    ghost rule = { λ _. masked };
-
-    fn at(&self, _alloc: Global, l: &ScalarValue, r: &ScalarValue) -> Mem<ScalarValue> {
-        if is_true(r) {
-            return Ok(null());
-        }
-        Ok(l.clone()?)
-    }
+    matches!(truth, Some(true))
 }
 
 impl ColumnRef {
     /// The column with the rows made null where the other column is true, and with its type made nullable.
-    #[tactic(auto, using(crate::proofs::FitLemmas::names_with_nullability))]
     pub fn mask(&self, alloc: Global, nulls: &ColumnRef) -> Mem<ColumnRef>
         requires mask { is_bool_ty nulls.now.ty ≡ true }
         requires lengths { length self.now.rows ≡ length nulls.now.rows }
         ensures dtype { IfOk result (λ c. c.ty ≡ with_nullability self.now.ty Nullable) }
         ensures rows { IfOk result (λ c. c.rows ≡ zip_rows masked self.now.rows nulls.now.rows) }
     {
+        let truths = truths_of(alloc, nulls)?;
         let nullable = self.made_nullable(alloc)?;
-        let dtype = nullable.dtype();
-        let masking = Masking {
-            dtype,
-            nulls: nulls.dtype().nullability(),
-        };
-        zip_columns(alloc, &masking, dtype.clone()?, &nullable, nulls)
+        let dtype = nullable.dtype().clone()?;
+        let rows = masked_values(alloc, &nullable, truths_in(&truths))?;
+        ColumnRef::of_rows(alloc, dtype, rows)
     }
 
     /// The rows where the other column is true, in order.
@@ -90,7 +48,8 @@ impl ColumnRef {
         ensures dtype { IfOk result (λ c. c.ty ≡ self.now.ty) }
         ensures rows { IfOk result (λ c. c.rows ≡ kept_rows self.now.rows keep.now.rows) }
     {
-        kept_of(alloc, self, keep)
+        let truths = truths_of(alloc, keep)?;
+        kept_of(alloc, self, truths_in(&truths))
     }
 
     /// At how many rows a boolean column is true.
@@ -99,19 +58,49 @@ impl ColumnRef {
         ensures { result ≡ true_count self.now.rows }
     {
         match self.cells() {
-            Cells::Constant { value, len } => { if is_true(value) { *len } else { 0 } }
-            Cells::Rows(rows) => count_true(values_in(rows)),
-            Cells::Columns { .. } => unreachable!(),
+            Cells::Constant { value, len } => { if is_true(truth_of(value)) { *len } else { 0 } }
+            Cells::Truths(truths) => truths_in(truths).true_count(),
+            _ => unreachable!(),
         }
     }
 }
 
-/// The column's rows where the other column is true.
+/// The values of a nullable column, null where a truth is true.
+fn masked_values(alloc: Global, column: &ColumnRef, nulls: &Truths) -> Mem<Vec<ScalarValue>>
+    requires kept { keeps_values column.now.ty ≡ true }
+    requires nullable { is_nullable (nullability_of column.now.ty) ≡ true }
+    requires lengths { length column.now.rows ≡ length nulls.now }
+    ensures fit { IfOk result (λ xs. values_fit column.now.ty xs.items ≡ true) }
+    ensures rows { IfOk result (λ xs. seen_rows column.now.ty xs.items ≡ zip_rows masked column.now.rows (vals_of nulls.now)) }
+{
+    let mut masked = Vec::with_capacity(alloc, column.len())?;
+    for i in 0..column.len() {
+        masked.push(masked_value(column, nulls, i)?)?;
+    }
+    Ok(masked)
+}
+
+/// The value of a nullable column at a row, null where the truth is true.
+fn masked_value(column: &ColumnRef, nulls: &Truths, i: usize) -> Mem<ScalarValue>
+    requires kept { keeps_values column.now.ty ≡ true }
+    requires nullable { is_nullable (nullability_of column.now.ty) ≡ true }
+    requires row { i < length column.now.rows }
+    requires truth { i < length nulls.now }
+    ensures fit { IfOk result (λ x. fits (raw_view x) column.now.ty ≡ true) }
+    ensures value { IfOk result (λ x. seen column.now.ty x ≡ masked (row_at column.now i) (truth_val (slice_index_or nulls.now i None))) }
+{
+    if is_true(nulls.truth_at(i)) {
+        return Ok(null());
+    }
+    let value = column.value_at(i);
+    Ok(value.get().clone()?)
+}
+
+/// The column's rows where a truth is true.
 #[cycle(kept)]
-fn kept_of(alloc: Global, column: &ColumnRef, keep: &ColumnRef) -> Mem<ColumnRef>
-    requires mask { is_bool_ty keep.now.ty ≡ true }
-    requires lengths { length column.now.rows ≡ length keep.now.rows }
-    ensures { IfOk result (λ c. c ≡ kept_column keep.now.rows column.now) }
+fn kept_of(alloc: Global, column: &ColumnRef, keep: &Truths) -> Mem<ColumnRef>
+    requires { length column.now.rows ≡ length (vals_of keep.now) }
+    ensures { IfOk result (λ c. c ≡ kept_column (vals_of keep.now) column.now) }
 {
     let dtype = column.dtype().clone()?;
     match column.cells() {
@@ -122,6 +111,10 @@ fn kept_of(alloc: Global, column: &ColumnRef, keep: &ColumnRef) -> Mem<ColumnRef
             let kept = filter_values(alloc, column.dtype(), values_in(rows), keep)?;
             ColumnRef::of_rows(alloc, dtype, kept)
         }
+        Cells::Truths(truths) => {
+            let kept = truths_in(truths).filter(alloc, keep)?;
+            ColumnRef::of_truths(alloc, dtype, kept)
+        }
         Cells::Columns { fields, .. } => {
             let kept = kept_fields(alloc, columns_in(fields), keep)?;
             ColumnRef::of_fields(alloc, dtype, kept, keep.true_count())
@@ -129,12 +122,11 @@ fn kept_of(alloc: Global, column: &ColumnRef, keep: &ColumnRef) -> Mem<ColumnRef
     }
 }
 
-/// The columns' rows where the other column is true.
+/// The columns' rows where a truth is true.
 #[cycle(kept)]
-fn kept_fields(alloc: Global, fields: &[ColumnRef], keep: &ColumnRef) -> Mem<Vec<ColumnRef>>
-    requires mask { is_bool_ty keep.now.ty ≡ true }
-    requires lengths { All (λ c. length c.rows ≡ length keep.now.rows) fields.now }
-    ensures { IfOk result (λ cs. cs.items ≡ map (kept_column keep.now.rows) fields.now) }
+fn kept_fields(alloc: Global, fields: &[ColumnRef], keep: &Truths) -> Mem<Vec<ColumnRef>>
+    requires { All (λ c. length c.rows ≡ length (vals_of keep.now)) fields.now }
+    ensures { IfOk result (λ cs. cs.items ≡ map (kept_column (vals_of keep.now)) fields.now) }
 {
     let mut kept = Vec::with_capacity(alloc, fields.len())?;
     for field in fields {
@@ -143,35 +135,21 @@ fn kept_fields(alloc: Global, fields: &[ColumnRef], keep: &ColumnRef) -> Mem<Vec
     Ok(kept)
 }
 
-/// How many values of a boolean type are true.
-fn count_true(values: &[ScalarValue]) -> usize
-    ensures { (n : Nullability) → values_fit (bool_ty n) values.now ≡ true → result ≡ true_count (seen_rows (bool_ty n) values.now) }
-{
-    let mut count = 0;
-    for value in values {
-        if is_true(value) {
-            count += 1;
-        }
-    }
-    count
-}
-
-/// The values of a type where a boolean is true.
+/// The values of a type where a truth is true.
 fn filter_values(
     alloc: Global,
     dtype: &DType,
     values: &[ScalarValue],
-    keep: &ColumnRef,
+    keep: &Truths,
 ) -> Mem<Vec<ScalarValue>>
-    requires mask { is_bool_ty keep.now.ty ≡ true }
-    requires lengths { length values.now ≡ length keep.now.rows }
+    requires lengths { length values.now ≡ length (vals_of keep.now) }
     requires values { values_fit (type_view dtype.now) values.now ≡ true }
     ensures fit { IfOk result (λ vs. values_fit (type_view dtype.now) vs.items ≡ true) }
-    ensures values { IfOk result (λ vs. seen_rows (type_view dtype.now) vs.items ≡ kept_rows (seen_rows (type_view dtype.now) values.now) keep.now.rows) }
+    ensures values { IfOk result (λ vs. seen_rows (type_view dtype.now) vs.items ≡ kept_rows (seen_rows (type_view dtype.now) values.now) (vals_of keep.now)) }
 {
     let mut kept = Vec::new(alloc);
     for i in 0..values.len() {
-        if is_true_at(keep, i) {
+        if is_true(keep.truth_at(i)) {
             kept.push(values[i].clone()?)?;
         }
     }

@@ -6,32 +6,90 @@ ghost use Rattle.vx_dtype.specs.declared.Nullability.TheVariants.{Nullable};
 ghost use Rattle.vx_dtype.specs.Types.{Ty};
 ghost use Rattle.vx_dtype.specs.Fits.{fits};
 ghost use Rattle.vx_dtype.specs.RawViews.{raw_view};
-ghost use Rattle.vx_dtype.specs.TypeRules.{with_nullability};
+ghost use Rattle.vx_dtype.specs.TypeRules.{is_bool_ty, is_text_ty, nullability_of, with_nullability};
 ghost use Rattle.vx_column.specs.Columns.{AppendsRows, column, row_at, values_fit, seen, seen_rows};
 ghost use Rattle.vx_column.specs.StructColumns.{StandsAt};
-ghost use Rattle.vx_column.specs.Cells.{keeps_values};
+ghost use Rattle.vx_column.specs.Cells.{keeps_values, truths_fit};
+ghost use Rattle.vx_column.specs.Patterns.{text_or_null, text_or_null_fits};
+ghost use Rattle.vx_column.specs.RowValues.{shown};
+ghost use Rattle.vx_words.specs.Truths.{vals_of};
+ghost use Rattle.vx_words.specs.Words.{truth_val};
 
-use crate::cells::{Cells, columns_in, values_in};
+use crate::cells::{Cells, columns_in, truths_in, values_in};
 use crate::columns::ColumnRef;
+use crate::likes::text_of;
+use crate::logic::{of_truth, truth_of};
 use crate::structs::struct_of;
 use std::alloc::Global;
+use std::rc::Rc;
 use vx_dtype::{Mem, Nullability, ScalarValue};
+use vx_words::Truths;
+
+/// The value at a row of a column: one that the column keeps, or one that is made of what it keeps.
+#[derive(Drop)]
+pub(crate) enum RowValue<'a> {
+    Kept(&'a ScalarValue),
+    Made(ScalarValue),
+}
+
+impl RowValue<'_> {
+    /// The value.
+    pub(crate) fn get(&self) -> &ScalarValue
+        ensures { result.now ≡ shown self.now }
+    {
+        match self {
+            RowValue::Kept(value) => value,
+            RowValue::Made(value) => value,
+        }
+    }
+}
 
 impl ColumnRef {
-    /// The value at a row of a column that keeps a value for each.
-    pub(crate) fn value_at(&self, i: usize) -> &ScalarValue
+    /// The value at a row of a column that is no structs of columns.
+    pub(crate) fn value_at(&self, i: usize) -> RowValue<'_>
         requires kept { keeps_values self.now.ty ≡ true }
         requires row { i < length self.now.rows }
-        ensures value { seen self.now.ty result.now ≡ row_at self.now i }
-        ensures fit { fits (raw_view result.now) self.now.ty ≡ true }
+        ensures value { seen self.now.ty (shown result) ≡ row_at self.now i }
+        ensures fit { fits (raw_view (shown result)) self.now.ty ≡ true }
     {
         match self.cells() {
-            Cells::Constant { value, .. } => value,
+            Cells::Constant { value, .. } => RowValue::Kept(value),
             Cells::Rows(rows) => {
                 let values = values_in(rows);
-                &values[i]
+                RowValue::Kept(&values[i])
             }
+            Cells::Truths(truths) => RowValue::Made(of_truth(truths_in(truths).truth_at(i))),
             Cells::Columns { .. } => unreachable!(),
+        }
+    }
+
+    /// The text at a row of a column of texts, and none of null.
+    pub(crate) fn text_at(&self, i: usize) -> Option<&str>
+        requires text { is_text_ty self.now.ty ≡ true }
+        requires row { i < length self.now.rows }
+        ensures value { text_or_null (option_copied result) ≡ row_at self.now i }
+        ensures fit { text_or_null_fits (nullability_of self.now.ty) (option_copied result) ≡ true }
+    {
+        match self.cells() {
+            Cells::Constant { value, .. } => text_of(value),
+            Cells::Rows(rows) => {
+                let values = values_in(rows);
+                text_of(&values[i])
+            }
+            _ => unreachable!(),
+        }
+    }
+
+    /// The truth at a row of a column of truths, and none of null.
+    pub(crate) fn truth_at(&self, i: usize) -> Option<bool>
+        requires truths { is_bool_ty self.now.ty ≡ true }
+        requires row { i < length self.now.rows }
+        ensures { truth_val result ≡ row_at self.now i }
+    {
+        match self.cells() {
+            Cells::Constant { value, .. } => truth_of(value),
+            Cells::Truths(truths) => truths_in(truths).truth_at(i),
+            _ => unreachable!(),
         }
     }
 
@@ -55,7 +113,7 @@ impl ColumnRef {
         match self.cells() {
             Cells::Constant { value, len } => append_repeated(value, *len, values),
             Cells::Rows(rows) => append_clones(values_in(rows), values),
-            Cells::Columns { .. } => append_made(alloc, self, values),
+            _ => append_made(alloc, self, values),
         }
     }
 
@@ -79,6 +137,7 @@ impl ColumnRef {
                 Ok(ColumnRef::of_constant(dtype, value.clone()?, *len))
             }
             Cells::Rows(rows) => Ok(ColumnRef::of_shared(dtype, rows.clone()?)),
+            Cells::Truths(truths) => Ok(ColumnRef::of_shared_truths(dtype, truths.clone()?)),
             Cells::Columns { .. } => ColumnRef::of_rows(alloc, dtype, self.made_rows(alloc)?),
         }
     }
@@ -130,6 +189,7 @@ pub(crate) fn made_at(alloc: Global, column: &ColumnRef, i: usize) -> Mem<Scalar
             let values = values_in(rows);
             Ok(values[i].clone()?)
         }
+        Cells::Truths(truths) => Ok(of_truth(truths_in(truths).truth_at(i))),
         Cells::Columns { fields, .. } => struct_of(alloc, row_of(alloc, columns_in(fields), i)?),
     }
 }
@@ -145,4 +205,20 @@ pub(crate) fn row_of(alloc: Global, fields: &[ColumnRef], i: usize) -> Mem<Vec<S
         row.push(made_at(alloc, field, i)?)?;
     }
     Ok(row)
+}
+
+/// The truths at the rows of a column of truths.
+pub(crate) fn truths_of(alloc: Global, column: &ColumnRef) -> Mem<Rc<Truths>>
+    requires { is_bool_ty column.now.ty ≡ true }
+    ensures rows { IfOk result (λ ts. vals_of ts.value ≡ column.now.rows) }
+    ensures fit { IfOk result (λ ts. truths_fit (nullability_of column.now.ty) ts.value ≡ true) }
+{
+    match column.cells() {
+        Cells::Constant { value, len } => {
+            let truths = Truths::repeated(alloc, truth_of(value), *len)?;
+            Ok(Rc::new(alloc, truths)?)
+        }
+        Cells::Truths(truths) => Ok(truths.clone()?),
+        _ => unreachable!(),
+    }
 }

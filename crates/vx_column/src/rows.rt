@@ -4,64 +4,74 @@ ghost use Rattle.vx_dtype.specs.Fits.{fits};
 ghost use Rattle.vx_dtype.specs.RawViews.{raw_view};
 ghost use Rattle.vx_dtype.specs.TypeViews.{type_view};
 ghost use Rattle.vx_dtype.specs.TypeRules.{no_name_twice};
+ghost use Rattle.vx_dtype.specs.Types.{bool_ty};
+ghost use Rattle.vx_words.specs.Words.{truth_val};
+ghost use Rattle.vx_words.specs.Truths.{vals_of};
+ghost use Rattle.vx_column.specs.RawParts.{truth_fits};
 ghost use Rattle.vx_column.specs.Columns.{values_fit, seen, seen_rows, zip_rows};
-ghost use Rattle.vx_column.specs.Cells.{keeps_values};
+ghost use Rattle.vx_column.specs.Cells.{keeps_values, truths_fit};
 
 use crate::cells::{Cells, values_in};
 use crate::columns::ColumnRef;
+use crate::logic::of_truth;
 use std::alloc::Global;
-use vx_dtype::{DType, Mem, ScalarValue};
+use vx_dtype::{DType, Mem, Nullability, ScalarValue};
+use vx_words::Truths;
 
-/// A rule that makes one value of two.
-pub(crate) trait PairRule {
+/// A rule that makes a truth of two values.
+pub(crate) trait TruthRule {
+    ghost use Rattle.vx_dtype.specs.declared.Nullability.{Nullability};
     ghost use Rattle.vx_dtype.specs.Types.{Ty};
     ghost use Rattle.vx_dtype.specs.Values.{Val};
 
-    /// The types of the two values, and of the one that is made.
+    /// The types of the two values, and whether the truth may be null.
     ghost left: { Self → Ty };
 
     ghost right: { Self → Ty };
 
-    ghost made: { Self → Ty };
+    ghost nullability: { Self → Nullability };
 
     /// What the rule makes of two values.
     ghost rule: { Self → Val → Val → Val };
 
-    /// The value that is made of two.
-    fn at(&self, alloc: Global, l: &ScalarValue, r: &ScalarValue) -> Mem<ScalarValue>
+    /// The truth that is made of two values.
+    fn at(&self, l: &ScalarValue, r: &ScalarValue) -> Option<bool>
         requires left { fits (raw_view l.now) (left self.now) ≡ true }
         requires right { fits (raw_view r.now) (right self.now) ≡ true }
-        ensures fit { IfOk result (λ v. fits (raw_view v) (made self.now) ≡ true) }
-        ensures value { IfOk result (λ v. seen (made self.now) v ≡ rule self.now (seen (left self.now) l.now) (seen (right self.now) r.now)) };
+        ensures fit { truth_fits (nullability self.now) result ≡ true }
+        ensures value { truth_val result ≡ rule self.now (seen (left self.now) l.now) (seen (right self.now) r.now) };
 }
 
 /// What a rule makes of two columns' values, row by row.
-pub(crate) fn zip_values<R: PairRule>(
+pub(crate) fn zip_truths<R: TruthRule>(
     alloc: Global,
     rule: &R,
     l: &ColumnRef,
     r: &ColumnRef,
-) -> Mem<Vec<ScalarValue>>
+) -> Mem<Truths>
     requires lengths { length l.now.rows ≡ length r.now.rows }
     requires left { l.now.ty ≡ R.left rule.now }
     requires right { r.now.ty ≡ R.right rule.now }
     requires left_kept { keeps_values l.now.ty ≡ true }
     requires right_kept { keeps_values r.now.ty ≡ true }
-    ensures fit { IfOk result (λ vs. values_fit (R.made rule.now) vs.items ≡ true) }
-    ensures values { IfOk result (λ vs. seen_rows (R.made rule.now) vs.items ≡ zip_rows (R.rule rule.now) l.now.rows r.now.rows) }
+    ensures fit { IfOk result (λ truths. truths_fit (R.nullability rule.now) truths ≡ true) }
+    ensures values { IfOk result (λ truths. vals_of truths ≡ zip_rows (R.rule rule.now) l.now.rows r.now.rows) }
 {
-    let mut made = Vec::with_capacity(alloc, l.len())?;
+    let mut truths = Vec::with_capacity(alloc, l.len())?;
     for i in 0..l.len() {
-        made.push(rule.at(alloc, l.value_at(i), r.value_at(i))?)?;
+        let left = l.value_at(i);
+        let right = r.value_at(i);
+        truths.push(rule.at(left.get(), right.get()))?;
     }
-    Ok(made)
+    Truths::from_options(alloc, truths.as_slice())
 }
 
-/// What a rule makes of two columns, row by row. The rule is of the columns' types, and makes values of this type.
-pub(crate) fn zip_columns<R: PairRule>(
+/// What a rule makes of two columns, row by row. The rule is of the columns' types, and makes truths of this nullability.
+#[tactic(auto, unfolding(vx_dtype::specs::TypeRules::no_name_twice))]
+pub(crate) fn zip_columns<R: TruthRule>(
     alloc: Global,
     rule: &R,
-    dtype: DType,
+    nullability: Nullability,
     l: &ColumnRef,
     r: &ColumnRef,
 ) -> Mem<ColumnRef>
@@ -70,19 +80,19 @@ pub(crate) fn zip_columns<R: PairRule>(
     requires right { r.now.ty ≡ R.right rule.now }
     requires left_kept { keeps_values l.now.ty ≡ true }
     requires right_kept { keeps_values r.now.ty ≡ true }
-    requires made { type_view dtype ≡ R.made rule.now }
-    requires names { no_name_twice (type_view dtype) ≡ true }
-    ensures dtype { IfOk result (λ c. c.ty ≡ type_view dtype) }
+    requires made { nullability ≡ R.nullability rule.now }
+    ensures dtype { IfOk result (λ c. c.ty ≡ bool_ty nullability) }
     ensures rows { IfOk result (λ c. c.rows ≡ zip_rows (R.rule rule.now) l.now.rows r.now.rows) }
 {
+    let dtype = DType::Bool(nullability);
     match (l.constant_value(), r.constant_value()) {
         (Some(x), Some(y)) => {
-            let made = rule.at(alloc, x, y)?;
-            Ok(ColumnRef::of_constant(dtype, made, l.len()))
+            let truth = rule.at(x, y);
+            Ok(ColumnRef::of_constant(dtype, of_truth(truth), l.len()))
         }
         _ => {
-            let made = zip_values(alloc, rule, l, r)?;
-            ColumnRef::of_rows(alloc, dtype, made)
+            let truths = zip_truths(alloc, rule, l, r)?;
+            ColumnRef::of_truths(alloc, dtype, truths)
         }
     }
 }
@@ -145,7 +155,7 @@ pub(crate) fn map_column<R: RowRule>(
             let made = map_values(alloc, rule, values_in(rows))?;
             ColumnRef::of_rows(alloc, dtype, made)
         }
-        Cells::Columns { .. } => {
+        _ => {
             let rows = column.made_rows(alloc)?;
             let made = map_values(alloc, rule, rows.as_slice())?;
             ColumnRef::of_rows(alloc, dtype, made)

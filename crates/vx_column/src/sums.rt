@@ -115,7 +115,9 @@ fn reckoned_rows(
 {
     let mut made = Vec::with_capacity(alloc, l.len())?;
     for i in 0..l.len() {
-        match rule.at(l.value_at(i), r.value_at(i)) {
+        let left = l.value_at(i);
+        let right = r.value_at(i);
+        match rule.at(left.get(), right.get()) {
             Some(value) => made.push(value)?,
             None => return Ok(None),
         }

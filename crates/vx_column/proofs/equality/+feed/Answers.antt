@@ -1,14 +1,16 @@
-use Rattle.std.proofs.Common.{rules, ◌≡◌, ◌<◌, ◌≤◌, true, ap, sym, ◌∙◌, subst, arith, length, get_or, fold}
+use Rattle.std.proofs.Common.{None, rules, ◌≡◌, ◌<◌, ◌≤◌, true, ap, sym, ◌∙◌, subst, arith, length, get_or, fold}
 use Rattle.std.specs.List.{All}
 use Rattle.std.proofs.Math.ListN.{replicate}
 use Rattle.vx_dtype.specs.TypeRules.{field_names, fields_of, depth_of}
 use Rattle.vx_dtype.specs.Fits.{fits}
 use Rattle.vx_dtype.specs.RawViews.{raw_view}
 use Rattle.vx_column.specs.Columns.{Column, seen, seen_rows, values_fit}
-use Rattle.vx_column.specs.Cells.{cell_rows, structs_of, AreFieldsOf, ArePartsOf}
+use Rattle.vx_column.specs.Cells.{cell_rows, structs_of, AreFieldsOf, ArePartsOf, AreTruthsOf}
 use Rattle.vx_column.proofs.StructLemmas.{all_rows_at}
 use Rattle.vx_column.proofs.CellLemmas.{deepest, deepest_lt, depth_le-deepest, structs_length, constant_row, values_row, values_fit_at}
 use Rattle.vx_column.proofs.SameLemmas.{kept_fed, struct_fed, fields_fed_more, fields_fed_all}
+use Rattle.vx_words.specs.Truths.{vals_of}
+use Rattle.vx_column.proofs.TruthLemmas.{truth_stands}
 use Rattle.vx_column.proofs.equality.+feed.Goals as goal
 
 pub feed_at-returns-in-Constant : goal.feed_at-returns-in-Constant
@@ -20,7 +22,7 @@ feed_at-returns-in-Constant g t c =
 pub feed_at-returns-in-Rows : goal.feed_at-returns-in-Rows
 feed_at-returns-in-Rows g t c =
     let rows : seen_rows c.args.column.now.ty c.in-Rows.rows.value.items ≡ c.args.column.now.rows = ap (cell_rows c.args.column.now.ty) (sym c.in-Rows.is) ∙ c.cells.ensures.rows in
-    let fit : values_fit c.args.column.now.ty c.in-Rows.rows.value.items ≡ true = subst (ArePartsOf c.args.column.now.ty) c.in-Rows.is c.cells.ensures.parts in
+    let fit : values_fit c.args.column.now.ty c.in-Rows.rows.value.items ≡ true = (subst (ArePartsOf c.args.column.now.ty) c.in-Rows.is c.cells.ensures.parts).fit in
     let read = c.index-values-i.is ∙ ap (λ xs. get_or xs c.args.i c.index-values-i.result) c.values_in-values.ensures in
     c.hash-in-Rows.ensures ∙ ap (fold g.H.Hasher.write c.args.state.now) (kept_fed c.args.column.now c.args.i c.index-values-i.result (values_fit_at c.args.column.now c.in-Rows.rows.value.items c.args.i _ rows fit c.requires read) (values_row c.args.column.now c.in-Rows.rows.value.items c.args.i _ rows c.requires read))
 
@@ -52,3 +54,11 @@ feed_fields-loop-k-preserved g t c =
 pub feed_fields-returns : goal.feed_fields-returns
 feed_fields-returns g t c =
     fields_fed_all g.H.Hasher.write c.loop-k.state _ c.write_u8-2.new.self c.args.columns.now c.loop-k.k c.args.i (omega arith) c.loop-k.invariant c.write_u8-2.ensures
+
+pub feed_at-returns-in-Truths : goal.feed_at-returns-in-Truths
+feed_at-returns-in-Truths g t c =
+    let rows : vals_of c.in-Truths.truths.value ≡ c.args.column.now.rows = ap (cell_rows c.args.column.now.ty) (sym c.in-Truths.is) ∙ c.cells.ensures.rows in
+    let parts : AreTruthsOf c.args.column.now.ty c.in-Truths.truths.value = subst (ArePartsOf c.args.column.now.ty) c.in-Truths.is c.cells.ensures.parts in
+    let read = c.truth_at.ensures ∙ ap (λ ts. get_or ts c.args.i None) c.truths_in.ensures in
+    let stands = truth_stands c.args.column.now c.in-Truths.truths.value c.args.i c.truth_at.result c.of_truth.result parts rows read c.requires c.of_truth.ensures.value c.of_truth.ensures.fit in
+    c.hash-in-Truths.ensures ∙ ap (fold g.H.Hasher.write c.args.state.now) (kept_fed c.args.column.now c.args.i c.of_truth.result stands.0 stands.1)

@@ -8,10 +8,12 @@ use Rattle.vx_dtype.specs.Fits.{fits}
 use Rattle.vx_dtype.specs.RawViews.{raw_view}
 use Rattle.vx_dtype.specs.declared.values.ScalarValue.{ScalarValue}
 use Rattle.vx_column.specs.Columns.{Column, seen, seen_rows, values_fit}
-use Rattle.vx_column.specs.Cells.{cell_rows, structs_of, AreFieldsOf, ArePartsOf, HasFit, HasAt}
+use Rattle.vx_column.specs.Cells.{cell_rows, structs_of, AreFieldsOf, ArePartsOf, AreTruthsOf, HasFit, HasAt}
 use Rattle.vx_column.proofs.StructLemmas.{all_rows_at}
 use Rattle.vx_column.proofs.CellLemmas.{deepest, deepest_lt, depth_le-deepest, structs_length, constant_row, values_row, values_fit_at}
 use Rattle.vx_column.proofs.SameLemmas.{has_kept, has_struct, no_null, struct_parts, parts_of_row, zip_length, zip_at, zip_more, zip_all}
+use Rattle.vx_words.specs.Truths.{vals_of}
+use Rattle.vx_column.proofs.TruthLemmas.{truth_stands}
 use Rattle.vx_column.proofs.equality.+has.Goals as goal
 
 pub has_at-returns-in-Constant : goal.has_at-returns-in-Constant
@@ -24,7 +26,7 @@ has_at-returns-in-Constant t c =
 pub has_at-returns-in-Rows : goal.has_at-returns-in-Rows
 has_at-returns-in-Rows t c =
     let rows : seen_rows c.args.column.now.ty c.in-Rows.rows.value.items ≡ c.args.column.now.rows = ap (cell_rows c.args.column.now.ty) (sym c.in-Rows.is) ∙ c.cells.ensures.rows in
-    let fit : values_fit c.args.column.now.ty c.in-Rows.rows.value.items ≡ true = subst (ArePartsOf c.args.column.now.ty) c.in-Rows.is c.cells.ensures.parts in
+    let fit : values_fit c.args.column.now.ty c.in-Rows.rows.value.items ≡ true = (subst (ArePartsOf c.args.column.now.ty) c.in-Rows.is c.cells.ensures.parts).fit in
     let read = c.index-values-i.is ∙ ap (λ xs. get_or xs c.args.i c.index-values-i.result) c.values_in-values.ensures in
     let same : Decides c.eq-in-Rows.result (raw_view c.index-values-i.result ≡ raw_view c.args.value.now) = rw c.eq-in-Rows.ensures (raw_decides (raw_view c.index-values-i.result) (raw_view c.args.value.now)) in
     has_kept c.args.column.now c.args.i c.index-values-i.result c.args.value.now _ (values_fit_at c.args.column.now c.in-Rows.rows.value.items c.args.i _ rows fit c.requires.row read) c.requires.fit (values_row c.args.column.now c.in-Rows.rows.value.items c.args.i _ rows c.requires.row read) same
@@ -90,3 +92,12 @@ pub have_at-returns : goal.have_at-returns
 have_at-returns t c =
     let number = zip_length HasFit c.args.columns.now c.args.values.now c.requires.fit in
     (λ e. zip_all (HasAt c.args.i) c.args.columns.now c.args.values.now c.loop-k.k (omega arith) (omega (arith, number)) c.loop-k.invariant, λ p. refl)
+
+pub has_at-returns-in-Truths : goal.has_at-returns-in-Truths
+has_at-returns-in-Truths t c =
+    let rows : vals_of c.in-Truths.truths.value ≡ c.args.column.now.rows = ap (cell_rows c.args.column.now.ty) (sym c.in-Truths.is) ∙ c.cells.ensures.rows in
+    let parts : AreTruthsOf c.args.column.now.ty c.in-Truths.truths.value = subst (ArePartsOf c.args.column.now.ty) c.in-Truths.is c.cells.ensures.parts in
+    let read = c.truth_at.ensures ∙ ap (λ ts. get_or ts c.args.i None) c.truths_in.ensures in
+    let stands = truth_stands c.args.column.now c.in-Truths.truths.value c.args.i c.truth_at.result c.of_truth-own.result parts rows read c.requires.row c.of_truth-own.ensures.value c.of_truth-own.ensures.fit in
+    let same : Decides c.eq-in-Truths.result (raw_view c.of_truth-own.result ≡ raw_view c.args.value.now) = rw c.eq-in-Truths.ensures (raw_decides (raw_view c.of_truth-own.result) (raw_view c.args.value.now)) in
+    has_kept c.args.column.now c.args.i c.of_truth-own.result c.args.value.now _ stands.0 c.requires.fit stands.1 same

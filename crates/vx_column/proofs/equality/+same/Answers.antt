@@ -27,7 +27,7 @@ same-has_rows-requires-clause-lengths t c =
 
 pub same-has_rows-requires-clause-fit : goal.same-has_rows-requires-clause-fit
 same-has_rows-requires-clause-fit t c =
-    let fit : values_fit c.args.left.now.ty c.in-Rows.rows.value.items ≡ true = subst (ArePartsOf c.args.left.now.ty) c.in-Rows.is c.cells.ensures.parts in
+    let fit : values_fit c.args.left.now.ty c.in-Rows.rows.value.items ≡ true = (subst (ArePartsOf c.args.left.now.ty) c.in-Rows.is c.cells.ensures.parts).fit in
     (λ j. values_fit (sym c.requires j) (c.values_in.ensures j)) ∙ fit
 
 pub same-returns-in-Rows : goal.same-returns-in-Rows
@@ -58,7 +58,7 @@ has_structs-has_rows-requires-clause-lengths t c =
 
 pub has_structs-has_rows-requires-clause-fit : goal.has_structs-has_rows-requires-clause-fit
 has_structs-has_rows-requires-clause-fit t c =
-    let fit : values_fit c.args.column.now.ty c.in-Rows.rows.value.items ≡ true = subst (ArePartsOf c.args.column.now.ty) c.in-Rows.is c.cells.ensures.parts in
+    let fit : values_fit c.args.column.now.ty c.in-Rows.rows.value.items ≡ true = (subst (ArePartsOf c.args.column.now.ty) c.in-Rows.is c.cells.ensures.parts).fit in
     (λ j. values_fit (sym c.requires.shape.types j) (c.values_in.ensures j)) ∙ fit
 
 pub has_structs-returns-in-Rows : goal.has_structs-returns-in-Rows

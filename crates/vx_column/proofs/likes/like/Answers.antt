@@ -7,6 +7,7 @@ use Rattle.vx_dtype.specs.RawViews.{raw_view}
 use Rattle.vx_column.specs.Columns.{Column, seen}
 use Rattle.vx_column.proofs.RowLemmas.{zip_constant}
 use Rattle.vx_column.proofs.PatternLemmas.{text_is}
+use Rattle.vx_column.proofs.TruthLemmas.{bool_names}
 use Rattle.vx_column.proofs.likes.like.Goals as goal
 
 pub returns-in_ok-truth-in-Some-Some-clause-rows : goal.returns-in_ok-truth-in-Some-Some-clause-rows
@@ -20,3 +21,6 @@ returns-in_ok-truth-in-Some-Some-clause-rows c =
     let pattern : fits (raw_view y) (text_ty c.nullability-right.result) ≡ true = ap (fits (raw_view y)) (sym right) ∙ c.in-Some-Some.ensures'.fit in
     let value : seen (bool_ty c.union.result) c.of_truth.result ≡ rule (seen (text_ty c.nullability-left.result) x) (seen (text_ty c.nullability-right.result) y) = c.of_truth.ensures.value c.union.result ∙ c.in_ok-truth-in-Some-Some.ensures.value ∙ (λ j. rule (sym (c.text_of.ensures.value _ text) j) (sym (c.text_of-in-Some-Some.ensures.value _ pattern) j)) in
     ap (λ (r : Column). r.rows) c.of_constant.ensures ∙ zip_constant rule _ _ (bool_ty c.union.result) (bool_ty c.union.result) c.args.c.now c.args.pattern.now c.len.result x y c.of_truth.result left right refl c.len.ensures c.requires.lengths c.in-Some-Some.ensures.value c.in-Some-Some.ensures'.value value
+
+pub of_constant-requires-clause-names : goal.of_constant-requires-clause-names
+of_constant-requires-clause-names c = bool_names (bool_ty c.union.result) refl

@@ -1,4 +1,4 @@
-use Rattle.std.proofs.Common.{◌≡◌, ◌<◌, ap, sym, ◌∙◌, ◌≤◌, get_or, subst, arith, length, map}
+use Rattle.std.proofs.Common.{None, ◌≡◌, ◌<◌, ap, sym, ◌∙◌, ◌≤◌, get_or, subst, arith, length, map}
 use Rattle.std.specs.List.{All, AllZip}
 use Rattle.vx_dtype.specs.TypeRules.{field_names, fields_of, depth_of}
 use Rattle.vx_dtype.specs.Values.{raw_struct}
@@ -6,16 +6,18 @@ use Rattle.vx_dtype.specs.RawViews.{raw_view, raws_of}
 use Rattle.vx_dtype.specs.declared.values.ScalarValue.{ScalarValue}
 use Rattle.vx_column.specs.Columns.{Column, seen_rows}
 use Rattle.vx_column.specs.StructColumns.{StandsAt}
-use Rattle.vx_column.specs.Cells.{cell_rows, structs_of, AreFieldsOf, ArePartsOf}
+use Rattle.vx_column.specs.Cells.{cell_rows, structs_of, AreFieldsOf, ArePartsOf, AreTruthsOf}
 use Rattle.vx_column.proofs.StructLemmas.{all_rows_at, all_zip_more, if_ok_map}
 use Rattle.vx_column.proofs.CellLemmas.{deepest, deepest_lt, depth_le-deepest, structs_length, values_row, values_fit_at, clone_stands, struct_stands_at}
+use Rattle.vx_words.specs.Truths.{vals_of}
+use Rattle.vx_column.proofs.TruthLemmas.{truth_stands}
 use Rattle.vx_column.proofs.reading.+made.Goals as goal
 
 pub made_at-returns-in_ok-clone-in-Rows : goal.made_at-returns-in_ok-clone-in-Rows
 made_at-returns-in_ok-clone-in-Rows t c =
     let same : c.values_in-values.result.now ≡ c.in-Rows.rows.value.items = c.values_in-values.ensures in
     let rows : seen_rows c.args.column.now.ty c.in-Rows.rows.value.items ≡ c.args.column.now.rows = ap (cell_rows c.args.column.now.ty) (sym c.in-Rows.is) ∙ c.cells.ensures.rows in
-    let parts = subst (ArePartsOf c.args.column.now.ty) c.in-Rows.is c.cells.ensures.parts in
+    let parts = (subst (ArePartsOf c.args.column.now.ty) c.in-Rows.is c.cells.ensures.parts).fit in
     let read = c.index-values-i.is ∙ ap (λ xs. get_or xs c.args.i c.index-values-i.result) same in
     clone_stands c.args.column.now c.args.i c.index-values-i.result _ (values_fit_at c.args.column.now c.in-Rows.rows.value.items c.args.i _ rows parts c.requires read) (values_row c.args.column.now c.in-Rows.rows.value.items c.args.i _ rows c.requires read) c.in_ok-clone-in-Rows.ensures.cases
 
@@ -46,3 +48,10 @@ row_of-made_at-requires t c =
 pub row_of-loop-field-preserved : goal.row_of-loop-field-preserved
 row_of-loop-field-preserved t c =
     rw c.in_ok-push.ensures.items (all_zip_more (StandsAt c.args.i) c.args.fields.now c.loop-field.row.items c.loop-field.field-index c.field-item.result _ c.loop-field-test.true c.loop-field.invariant (subst (λ f. StandsAt c.args.i f c.in_ok-made_at.field-0) c.field-item.is c.in_ok-made_at.ensures))
+
+pub made_at-returns-in-Truths : goal.made_at-returns-in-Truths
+made_at-returns-in-Truths t c =
+    let rows : vals_of c.in-Truths.truths.value ≡ c.args.column.now.rows = ap (cell_rows c.args.column.now.ty) (sym c.in-Truths.is) ∙ c.cells.ensures.rows in
+    let parts : AreTruthsOf c.args.column.now.ty c.in-Truths.truths.value = subst (ArePartsOf c.args.column.now.ty) c.in-Truths.is c.cells.ensures.parts in
+    let read = c.truth_at.ensures ∙ ap (λ ts. get_or ts c.args.i None) c.truths_in.ensures in
+    truth_stands c.args.column.now c.in-Truths.truths.value c.args.i c.truth_at.result c.of_truth.result parts rows read c.requires c.of_truth.ensures.value c.of_truth.ensures.fit

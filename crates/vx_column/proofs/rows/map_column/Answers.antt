@@ -22,5 +22,5 @@ returns-in_ok-at-in-Constant-clause-rows g c =
 
 pub map_values-requires : goal.map_values-requires
 map_values-requires g c =
-    let fit : values_fit c.args.column.now.ty c.in-Rows.rows.value.items ≡ true = subst (ArePartsOf c.args.column.now.ty) c.in-Rows.is c.cells.ensures.parts in
+    let fit : values_fit c.args.column.now.ty c.in-Rows.rows.value.items ≡ true = (subst (ArePartsOf c.args.column.now.ty) c.in-Rows.is c.cells.ensures.parts).fit in
     rw (← c.requires.taken, c.values_in.ensures) fit

@@ -19,7 +19,7 @@ pub returns-in-Rows : goal.returns-in-Rows
 returns-in-Rows c =
     let same : c.values_in-values.result.now ≡ c.in-Rows.rows.value.items = c.values_in-values.ensures in
     let rows : seen_rows c.args.self.now.ty c.in-Rows.rows.value.items ≡ c.args.self.now.rows = ap (cell_rows c.args.self.now.ty) (sym c.in-Rows.is) ∙ c.cells.ensures.rows in
-    let fit : values_fit c.args.self.now.ty c.in-Rows.rows.value.items ≡ true = subst (ArePartsOf c.args.self.now.ty) c.in-Rows.is c.cells.ensures.parts in
+    let fit : values_fit c.args.self.now.ty c.in-Rows.rows.value.items ≡ true = (subst (ArePartsOf c.args.self.now.ty) c.in-Rows.is c.cells.ensures.parts).fit in
     let read = c.index-values-i.is ∙ ap (λ xs. get_or xs c.args.i c.index-values-i.result) same in
     valid_kept c.args.self.now c.args.i c.index-values-i.result _ (values_fit_at c.args.self.now _ c.args.i _ rows fit c.requires read) (values_row c.args.self.now _ c.args.i _ rows c.requires read) c.is_null_value-in-Rows.ensures
 

@@ -6,10 +6,11 @@ use Rattle.vx_dtype.specs.TypeViews.{type_view}
 use Rattle.vx_dtype.specs.Fits.{fits}
 use Rattle.vx_dtype.specs.RawViews.{raw_view}
 use Rattle.vx_column.specs.Columns.{Column, column, seen, seen_rows, values_fit}
-use Rattle.vx_column.specs.Cells.{cell_rows, ArePartsOf}
+use Rattle.vx_column.specs.Cells.{cell_rows, ArePartsOf, AreTruthsOf}
 use Rattle.vx_column.proofs.FitLemmas.{names_with_nullability, fits_nullable}
 use Rattle.vx_column.proofs.StructLemmas.{if_ok_map}
 use Rattle.vx_column.proofs.CellLemmas.{nullable_constant, nullable_values, values_fit_nullable}
+use Rattle.vx_column.proofs.TruthLemmas.{truths_made_nullable}
 use Rattle.vx_column.proofs.columns.ColumnRef.made_nullable.Goals as goal
 
 pub of_constant-requires-clause-fit : goal.of_constant-requires-clause-fit
@@ -31,7 +32,7 @@ of_constant-requires-clause-names c =
 
 pub of_shared-requires-clause-fit : goal.of_shared-requires-clause-fit
 of_shared-requires-clause-fit c =
-    let fit : values_fit c.args.self.now.ty c.in-Rows.rows.value.items ≡ true = subst (ArePartsOf c.args.self.now.ty) c.in-Rows.is c.cells.ensures.parts in
+    let fit : values_fit c.args.self.now.ty c.in-Rows.rows.value.items ≡ true = (subst (ArePartsOf c.args.self.now.ty) c.in-Rows.is c.cells.ensures.parts).fit in
     let type : type_view c.in_ok-dtype.dtype ≡ with_nullability c.args.self.now.ty Nullable = c.in_ok-dtype.ensures ∙ ap (λ t. with_nullability t Nullable) c.dtype.ensures.shown in
     (λ j. values_fit (type j) (c.in_ok-clone-in-Rows.ensures.cases j).items) ∙ values_fit_nullable c.args.self.now.ty c.in-Rows.rows.value.items fit
 
@@ -60,3 +61,9 @@ pub returns-in_ok-made_rows-in-Columns : goal.returns-in_ok-made_rows-in-Columns
 returns-in_ok-made_rows-in-Columns c =
     let type : type_view c.in_ok-dtype.dtype ≡ with_nullability c.args.self.now.ty Nullable = c.in_ok-dtype.ensures ∙ ap (λ t. with_nullability t Nullable) c.dtype.ensures.shown in
     if_ok_map _ _ c.of_rows.result (λ (x : Column) (h : x ≡ column (type_view c.in_ok-dtype.dtype) (seen_rows (type_view c.in_ok-dtype.dtype) c.in_ok-made_rows-in-Columns.field-0.items)). h ∙ nullable_values c.args.self.now _ c.in_ok-made_rows-in-Columns.field-0.items type c.in_ok-made_rows-in-Columns.ensures.rows) c.of_rows.ensures
+
+pub of_shared_truths-requires : goal.of_shared_truths-requires
+of_shared_truths-requires c =
+    let parts : AreTruthsOf c.args.self.now.ty c.in-Truths.truths.value = subst (ArePartsOf c.args.self.now.ty) c.in-Truths.is c.cells.ensures.parts in
+    let type : type_view c.in_ok-dtype.dtype ≡ with_nullability c.args.self.now.ty Nullable = c.in_ok-dtype.ensures ∙ ap (λ t. with_nullability t Nullable) c.dtype.ensures.shown in
+    rw type (truths_made_nullable c.args.self.now.ty _ parts.kind)

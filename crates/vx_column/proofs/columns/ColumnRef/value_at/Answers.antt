@@ -1,7 +1,9 @@
-use Rattle.std.proofs.Common.{◌≡◌, true, ap, sym, ◌∙◌, subst, get_or}
+use Rattle.std.proofs.Common.{None, ◌≡◌, true, ap, sym, ◌∙◌, subst, get_or}
 use Rattle.vx_column.specs.Columns.{seen_rows, values_fit}
-use Rattle.vx_column.specs.Cells.{cell_rows, ArePartsOf}
+use Rattle.vx_column.specs.Cells.{cell_rows, ArePartsOf, AreTruthsOf}
 use Rattle.vx_column.proofs.CellLemmas.{values_row, values_fit_at}
+use Rattle.vx_words.specs.Truths.{vals_of}
+use Rattle.vx_column.proofs.TruthLemmas.{truth_stands}
 use Rattle.vx_column.proofs.columns.ColumnRef.value_at.Goals as goal
 
 pub returns-in-Rows-clause-value : goal.returns-in-Rows-clause-value
@@ -13,6 +15,13 @@ returns-in-Rows-clause-value c =
 pub returns-in-Rows-clause-fit : goal.returns-in-Rows-clause-fit
 returns-in-Rows-clause-fit c =
     let rows : seen_rows c.args.self.now.ty c.in-Rows.rows.value.items ≡ c.args.self.now.rows = ap (cell_rows c.args.self.now.ty) (sym c.in-Rows.is) ∙ c.cells.ensures.rows in
-    let fit : values_fit c.args.self.now.ty c.in-Rows.rows.value.items ≡ true = subst (ArePartsOf c.args.self.now.ty) c.in-Rows.is c.cells.ensures.parts in
+    let fit : values_fit c.args.self.now.ty c.in-Rows.rows.value.items ≡ true = (subst (ArePartsOf c.args.self.now.ty) c.in-Rows.is c.cells.ensures.parts).fit in
     let read = c.index-values-i.is ∙ ap (λ xs. get_or xs c.args.i c.index-values-i.result) c.values_in-values.ensures in
     values_fit_at c.args.self.now c.in-Rows.rows.value.items c.args.i _ rows fit c.requires.row read
+
+pub returns-in-Truths-clause-fit : goal.returns-in-Truths-clause-fit
+returns-in-Truths-clause-fit c =
+    let rows : vals_of c.in-Truths.truths.value ≡ c.args.self.now.rows = ap (cell_rows c.args.self.now.ty) (sym c.in-Truths.is) ∙ c.cells.ensures.rows in
+    let parts : AreTruthsOf c.args.self.now.ty c.in-Truths.truths.value = subst (ArePartsOf c.args.self.now.ty) c.in-Truths.is c.cells.ensures.parts in
+    let read = c.truth_at.ensures ∙ ap (λ ts. get_or ts c.args.i None) c.truths_in.ensures in
+    (truth_stands c.args.self.now c.in-Truths.truths.value c.args.i c.truth_at.result c.of_truth.result parts rows read c.requires.row c.of_truth.ensures.value c.of_truth.ensures.fit).0
