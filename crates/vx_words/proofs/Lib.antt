@@ -3,3 +3,5 @@ pub mod LaneLemmas
 pub mod BitLemmas
 pub mod TruthLemmas
 pub mod ListLemmas
+pub mod NextLemmas
+pub mod CountLemmas

@@ -1,5 +1,5 @@
 -- Truths at the places of words that have bits for no more places than they need.
-use Rattle.std.specs.Prelude.{◌≡◌, ℕ, ◌+◌, ◌/◌, ◌≤◌, Bool, true, false, Option, Some, List, [], ◌∷◌, cond, length, map}
+use Rattle.std.specs.Prelude.{◌≡◌, ℕ, ◌+◌, ◌/◌, ◌≤◌, Bool, true, false, Option, Some, None, List, [], ◌∷◌, cond, length, map, slice_index_or}
 use Rattle.std.specs.List.{range_with_len}
 use Rattle.vx_dtype.specs.Values.{Val}
 use Rattle.vx_words.specs.Words.{bit_of, truth_of_words, truth_val, AreBareUnderNull}
@@ -27,6 +27,10 @@ vals_of truths = map truth_val truths
 abbrev pub is_true : Option Bool → Bool
 is_true (Some true) = true
 is_true _ = false
+
+-- whether the truth at a place is true
+abbrev pub true_at : List (Option Bool) → ℕ → Bool
+true_at truths i = is_true (slice_index_or truths i None)
 
 -- the truths at the places where the other list is true
 abbrev pub kept_truths : List (Option Bool) → List (Option Bool) → List (Option Bool)

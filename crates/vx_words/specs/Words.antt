@@ -1,5 +1,5 @@
 -- Truths kept as words of bits: for each place a bit that says whether there is a truth, and a bit that says which.
-use Rattle.std.specs.Prelude.{◌≡◌, ℕ, ◌*◌, ◌/◌, ◌%◌, ◌<◌, Bool, true, false, ◌==◌, Option, Some, None, List, length, slice_index}
+use Rattle.std.specs.Prelude.{◌≡◌, ℕ, ◌*◌, ◌/◌, ◌%◌, ◌<◌, ◌≤◌, Bool, true, false, ◌==◌, Option, Some, None, List, length, slice_index}
 use Rattle.std.specs.Int.{bit_at}
 use Rattle.vx_dtype.specs.Values.{Val, null_val, bool_val}
 
@@ -44,3 +44,15 @@ KeepFirst n old new = (k : ℕ) → k < n → slice_index new k ≡ slice_index 
 -- two lists of words have the same bit at each place
 abbrev pub HaveSameBits : List ℕ → List ℕ → Type 0
 HaveSameBits left right = (i : ℕ) → bit_of left i ≡ bit_of right i
+
+-- of n places k is the first from one on at which p holds
+pub record IsFirstPlace (p : ℕ → Bool) (n from k : ℕ) : Type 0 where
+  pub from_there : from ≤ k
+  pub within : k < n
+  pub holds : p k ≡ true
+  pub none_before : (i : ℕ) → from ≤ i → i < k → p i ≡ false
+
+-- the first of n places from one on at which p holds; none where p holds at none of them
+abbrev pub IsNextPlace : (ℕ → Bool) → ℕ → ℕ → Option ℕ → Type 0
+IsNextPlace p n from None = (i : ℕ) → from ≤ i → i < n → p i ≡ false
+IsNextPlace p n from (Some k) = IsFirstPlace p n from k

@@ -1,6 +1,7 @@
 // Single bits of lists of words, and words for a number of places.
-ghost use Rattle.std.specs.Prelude.{◌≡◌, ℕ, ◌+◌, ◌-◌, ◌*◌, ◌^◌, ◌<◌, ◌≤◌, ◌==◌, ◌&&◌, ◌||◌, false, nat_lt, length, replicate, IfOk};
-ghost use Rattle.vx_words.specs.Words.{bit_of};
+ghost use Rattle.std.specs.Prelude.{◌≡◌, ℕ, ◌+◌, ◌-◌, ◌*◌, ◌^◌, ◌<◌, ◌≤◌, ◌==◌, ◌&&◌, ◌||◌, false, nat_lt, length, replicate, count_by, IfOk};
+ghost use Rattle.std.specs.List.{range_with_len};
+ghost use Rattle.vx_words.specs.Words.{bit_of, IsNextPlace};
 ghost use Rattle.vx_words.specs.Truths.{words_for};
 
 use std::alloc::Global;
@@ -15,6 +16,37 @@ pub(crate) fn bit(words: &[u64], i: usize) -> bool
     ensures { result ≡ bit_of words.now i }
 {
     (words[i / PLACES] >> (i % PLACES)) & 1 == 1
+}
+
+/// The first place from one on whose bit is set. There are no more words than a place can be counted in.
+pub(crate) fn next_bit(words: &[u64], from: usize) -> Option<usize>
+    requires within { from < 64 * length words.now }
+    requires counted { length words.now ≤ 2 ^ 58 }
+    ensures { IsNextPlace (bit_of words.now) (64 * length words.now) from result }
+{
+    let first = from / PLACES;
+    let rest = words[first] >> (from % PLACES);
+    if rest != 0 {
+        return Some(from + rest.trailing_zeros() as usize);
+    }
+    'words: for k in first + 1..words.len() {
+        if words[k] != 0 {
+            return Some(k * PLACES + words[k].trailing_zeros() as usize);
+        }
+    }
+    None
+}
+
+/// How many bits are set, where these can be counted.
+pub(crate) fn bit_count(words: &[u64]) -> usize
+    requires { count_by (bit_of words.now) (range_with_len 0 (64 * length words.now)) < 2 ^ 64 }
+    ensures { result ≡ count_by (bit_of words.now) (range_with_len 0 (64 * length words.now)) }
+{
+    let mut count = 0;
+    'words: for word in words {
+        count += word.count_ones() as usize;
+    }
+    count
 }
 
 /// Sets the bit at a place, if it is to be.

@@ -3,11 +3,11 @@ ghost use Rattle.std.specs.Prelude.{◌≡◌, ℕ, ◌+◌, ◌*◌, ◌^◌, �
 ghost use Rattle.std.specs.Cmp.{partial_equiv_from_equiv};
 ghost use Rattle.std.specs.Simd.Lanes.{zip2};
 ghost use Rattle.vx_dtype.specs.Logic.{and3, or3, not3, is_null3};
-ghost use Rattle.vx_words.specs.Words.{truth_of_words, HaveSameBits};
-ghost use Rattle.vx_words.specs.Truths.{AreTidy, truths_of_words, vals_of, is_true, kept_truths};
+ghost use Rattle.vx_words.specs.Words.{truth_of_words, HaveSameBits, IsNextPlace};
+ghost use Rattle.vx_words.specs.Truths.{AreTidy, truths_of_words, vals_of, is_true, true_at, kept_truths};
 ghost use Rattle.vx_words.specs.TruthsEqual.{truths_eq, truths_eq_equiv};
 
-use crate::bits::{bit, ones, push_bit, repeated_bit, zeros};
+use crate::bits::{bit, bit_count, next_bit, ones, push_bit, repeated_bit, zeros};
 use crate::logic::{and_words, not_words, or_words};
 use std::alloc::{AllocError, Global};
 use std::marker::Model;
@@ -54,16 +54,16 @@ impl Truths {
         Ok(Truths::of_words(len, valid, values))
     }
 
-    /// The first `len` truths of words that have bits for no place more.
-    fn of_words(len: usize, valid: Vec<u64>, values: Vec<u64>) -> Truths
+    /// The first `len` truths of two lists of words. Bit i % 64 of word i / 64, counted from the least, stands for place i: in `valid` whether there is a truth, in `values` whether it is true. Each list has as many words as the places need, and no bit is set past them, nor in `values` where there is no truth.
+    pub fn of_words(len: usize, valid: Vec<u64>, values: Vec<u64>) -> Truths
         requires { AreTidy len valid.items values.items }
         ensures { result ≡ truths_of_words valid.items values.items len }
     {
         Truths { len, valid, values }
     }
 
-    /// The words of validity and those of the values.
-    fn words(&self) -> (&[u64], &[u64])
+    /// The words of validity and those of the values: bit i % 64 of word i / 64, counted from the least, says of place i whether there is a truth, and whether it is true.
+    pub fn words(&self) -> (&[u64], &[u64])
         ensures truths { truths_of_words result.0.now result.1.now (length self.now) ≡ self.now }
         ensures tidy { AreTidy (length self.now) result.0.now result.1.now }
     {
@@ -133,14 +133,23 @@ impl Truths {
         Truths::of_words(self.len(), known, are_known).not(alloc)
     }
 
+    /// The first place from `from` on, counted from 0, at which the truth is true; none where there is no such place.
+    pub fn next_true(&self, from: usize) -> Option<usize>
+        ensures { IsNextPlace (true_at self.now) (length self.now) from result }
+    {
+        if from >= self.len {
+            return None;
+        }
+        next_bit(self.values.as_slice(), from)
+    }
+
     /// How many of the truths are true.
     pub fn true_count(&self) -> usize
         ensures { result ≡ count_by is_true self.now }
     {
-        let mut count = 0;
-        for i in 0..self.len() {
-            count += usize::from(is_true(self.truth_at(i)));
-        }
+        let places = self.len;
+        let count = bit_count(self.values.as_slice());
+        prove!(count <= places);
         count
     }
 
