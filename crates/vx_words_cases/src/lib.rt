@@ -4,6 +4,8 @@
 #[cfg(test)]
 mod ample;
 #[cfg(test)]
+mod places;
+#[cfg(test)]
 mod truths;
 #[cfg(test)]
 mod words;

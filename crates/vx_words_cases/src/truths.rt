@@ -65,6 +65,20 @@ fn disjunction(l: Option<bool>, r: Option<bool>) -> Option<bool> {
     }
 }
 
+/// Whether the next true place from each place on is that of a plain loop, which goes from the end.
+fn next_places_are_right(truths: &Truths, options: &[Option<bool>]) -> bool {
+    let mut next = None;
+    for from in (0..options.len()).rev() {
+        if options[from] == Some(true) {
+            next = Some(from);
+        }
+        if truths.next_true(from) != next {
+            return false;
+        }
+    }
+    truths.next_true(options.len()).is_none()
+}
+
 /// Whether the calls of one list are those of a plain loop.
 fn one_list_is_right(alloc: Global, options: &[Option<bool>]) -> Result<bool, Fail> {
     let mut negated = Vec::new(alloc);
@@ -82,7 +96,8 @@ fn one_list_is_right(alloc: Global, options: &[Option<bool>]) -> Result<bool, Fa
         reads(&truths, options)
             && reads(&truths.not(alloc)?, negated.as_slice())
             && reads(&truths.is_null(alloc)?, nulls.as_slice())
-            && truths.true_count() == count,
+            && truths.true_count() == count
+            && next_places_are_right(&truths, options),
     )
 }
 
