@@ -5,3 +5,4 @@ pub mod TruthLemmas
 pub mod ListLemmas
 pub mod NextLemmas
 pub mod CountLemmas
+pub mod KeptLemmas

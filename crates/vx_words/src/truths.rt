@@ -1,5 +1,5 @@
 // Truths at places that are counted from 0, kept as words of bits.
-ghost use Rattle.std.specs.Prelude.{◌≡◌, ℕ, ◌+◌, ◌*◌, ◌^◌, ◌<◌, ◌≤◌, Option, Some, None, [], ◌∷◌, ◌++◌, length, map, replicate, slice_index_or, count_by, cond, IfOk, Decides};
+ghost use Rattle.std.specs.Prelude.{◌≡◌, ℕ, ◌+◌, ◌*◌, ◌<◌, Option, Some, None, [], ◌∷◌, ◌++◌, length, map, replicate, slice_index_or, count_by, IfOk, Decides};
 ghost use Rattle.std.specs.Cmp.{partial_equiv_from_equiv};
 ghost use Rattle.std.specs.Simd.Lanes.{zip2};
 ghost use Rattle.vx_dtype.specs.Logic.{and3, or3, not3, is_null3};
@@ -161,9 +161,13 @@ impl Truths {
         let mut valid = Vec::new(alloc);
         let mut values = Vec::new(alloc);
         let mut len = 0;
-        for i in 0..self.len() {
-            let kept = is_true(keep.truth_at(i));
-            len = push_if(kept, &mut valid, &mut values, len, self.truth_at(i))?;
+        let mut from = 0;
+        let places = keep.len();
+        'kept: while let Some(i) = keep.next_true(from) {
+            prove!(i < places);
+            push_truth(&mut valid, &mut values, len, self.truth_at(i))?;
+            len += 1;
+            from = i + 1;
         }
         Ok(Truths::of_words(len, valid, values))
     }
@@ -252,33 +256,4 @@ fn same_bits(l: &[u64], r: &[u64]) -> bool
         }
     }
     true
-}
-
-/// Whether a truth is true.
-fn is_true(truth: Option<bool>) -> bool
-    ensures { result ≡ is_true truth }
-{
-    matches!(truth, Some(true))
-}
-
-/// Adds a truth after the first `len`, if it is kept. Gives how many there are then.
-fn push_if(
-    kept: bool,
-    valid: &mut Vec<u64>,
-    values: &mut Vec<u64>,
-    len: usize,
-    truth: Option<bool>,
-) -> Mem<usize>
-    requires room { len + 1 < 2 ^ 64 }
-    requires tidy { AreTidy len valid.old.items values.old.items }
-    ensures most { IfOk result (λ n. n ≤ len + 1) }
-    ensures tidy { IfOk result (λ n. AreTidy n valid.new.items values.new.items) }
-    ensures truths { IfOk result (λ n. truths_of_words valid.new.items values.new.items n
-        ≡ truths_of_words valid.old.items values.old.items len ++ cond kept (truth ∷ []) []) }
-{
-    if !kept {
-        return Ok(len);
-    }
-    push_truth(valid, values, len, truth)?;
-    Ok(len + 1)
 }
