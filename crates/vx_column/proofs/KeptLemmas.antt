@@ -1,25 +1,22 @@
 -- The rows of a column that are kept where another column is true, and so of structs of columns.
-use Rattle.std.proofs.Common.{◌≡◌, refl, ap, ◌∙◌, sym, subst, ℕ, zero, suc, ◌+◌, ◌<◌, ◌≤◌, Bool, true, false, ◌==◌, None, cond, List, [], ◌∷◌, ◌++◌, map, length, take, get_or, arith}
+use Rattle.std.proofs.Common.{◌≡◌, refl, ap, ◌∙◌, sym, subst, ℕ, zero, suc, ◌+◌, ◌<◌, Bool, true, false, ◌==◌, None, cond, List, [], ◌∷◌, map, length, get_or, arith}
 use Rattle.std.proofs.lemmas.Bool.Decides.{nat_tests}
 use Rattle.std.specs.List.{range_with_len}
 use Rattle.std.proofs.Math.ListN.{replicate}
-use Rattle.std.proofs.lemmas.List.{get_or-map, length-map, length-replicate, take_all}
+use Rattle.std.proofs.lemmas.List.{get_or-map, length-map, length-replicate}
 use Rattle.std.proofs.lemmas.List.FromFn.{fill_by_all}
-use Rattle.std.proofs.lemmas.List.Sums.{count_by_more_yes, count_by_more_no}
-use Rattle.vx_dtype.specs.Types.{Bytes, Ty, bool_ty}
-use Rattle.vx_dtype.specs.declared.Nullability.{Nullability}
-use Rattle.vx_dtype.specs.TypeRules.{field_names, fields_of, nullability_of, is_bool_ty}
-use Rattle.vx_dtype.specs.Fits.{fits, val_fits}
+use Rattle.vx_dtype.specs.Types.{Bytes, Ty}
+use Rattle.vx_dtype.specs.TypeRules.{field_names, fields_of}
+use Rattle.vx_dtype.specs.Fits.{val_fits}
 use Rattle.vx_dtype.specs.RawViews.{raw_view}
 use Rattle.vx_dtype.specs.declared.values.ScalarValue.{ScalarValue}
 use Rattle.vx_dtype.specs.Values.{Val, null_val, struct_val, member, valued}
 use Rattle.vx_dtype.specs.Logic.{is_true_val}
-use Rattle.vx_column.specs.Columns.{Column, column, row_at, rows_fit, values_fit, seen, seen_rows, kept_rows, true_count}
+use Rattle.vx_column.specs.Columns.{Column, column, row_at, rows_fit, seen, seen_rows, kept_rows, true_count}
 use Rattle.vx_column.specs.StructColumns.{column_types, all_have_rows, struct_row, row_members}
 use Rattle.vx_column.specs.Cells.{structs_of, all_rows_fit, AreFieldsOf, kept_column}
 use Rattle.vx_column.proofs.FitLemmas.{both_of, of_both}
 use Rattle.vx_column.proofs.TrueCounts.{true_count-cons, length_kept}
-use Rattle.vx_column.proofs.RowLemmas.{fits_at, seen_row, values_fit_more, kept_rows_keep, kept_rows_skip}
 
 -- of rows of one value as many are kept as are true
 kept_repeated_step : (b : Bool) (v : Val) (m : ℕ) (ws : List Val) → ws ≡ replicate m v → cond b (v ∷ ws) ws ≡ replicate (cond b 1 0 + m) v
@@ -136,26 +133,6 @@ kept_structs fs cs n ks h e =
 pub length_seen : (t : Ty) (xs : List ScalarValue) → length (seen_rows t xs) ≡ length xs
 length_seen t [] = refl
 length_seen t (x ∷ xs) = ap (λ n. suc n) (length_seen t xs)
-
-pub keep_step : (t : Ty) (xs : List ScalarValue) (ks : List Val) (ms ns : List ScalarValue) (i : ℕ) (x m : ScalarValue) → i < length xs → length xs ≡ length ks → values_fit t xs ≡ true → x ≡ get_or xs i x → raw_view m ≡ raw_view x → is_true_val (get_or ks i null_val) ≡ true → ns ≡ ms ++ m ∷ [] → (values_fit t ms ≡ true) × (seen_rows t ms ≡ kept_rows (take i (seen_rows t xs)) (take i ks)) → (values_fit t ns ≡ true) × (seen_rows t ns ≡ kept_rows (take (i + 1) (seen_rows t xs)) (take (i + 1) ks))
-keep_step t xs ks ms ns i x m h l f is v b e before =
-    let fit : fits (raw_view m) t ≡ true = ap (λ r. fits r t) v ∙ fits_at t xs i x f h is in
-    let value : seen t m ≡ get_or (seen_rows t xs) i null_val = ap (λ r. valued r t) v ∙ ap (seen t) is ∙ seen_row t xs i x h in
-    let rows : i < length (seen_rows t xs) = omega (arith, length_seen t xs) in
-    let keeps : i < length ks = omega (arith, l) in
-    (rw e (values_fit_more t ms m before.0 fit), kept_rows_keep t (seen_rows t xs) ks ms ns i m rows keeps b value e before.1)
-
-pub skip_step : (t : Ty) (xs : List ScalarValue) (ks : List Val) (ms : List ScalarValue) (i : ℕ) → i < length xs → length xs ≡ length ks → is_true_val (get_or ks i null_val) ≡ false → (values_fit t ms ≡ true) × (seen_rows t ms ≡ kept_rows (take i (seen_rows t xs)) (take i ks)) → (values_fit t ms ≡ true) × (seen_rows t ms ≡ kept_rows (take (i + 1) (seen_rows t xs)) (take (i + 1) ks))
-skip_step t xs ks ms i h l b before =
-    let rows : i < length (seen_rows t xs) = omega (arith, length_seen t xs) in
-    let keeps : i < length ks = omega (arith, l) in
-    (before.0, kept_rows_skip (seen_rows t xs) ks (seen_rows t ms) i rows keeps b before.1)
-
-pub kept_whole : (t : Ty) (xs : List ScalarValue) (ks ws : List Val) (i : ℕ) → length xs ≤ i → length xs ≡ length ks → ws ≡ kept_rows (take i (seen_rows t xs)) (take i ks) → ws ≡ kept_rows (seen_rows t xs) ks
-kept_whole t xs ks ws i h l e =
-    let rows : length (seen_rows t xs) ≤ i = omega (arith, length_seen t xs) in
-    let keeps : length ks ≤ i = omega (arith, l) in
-    e ∙ (λ j. kept_rows (take_all i (seen_rows t xs) rows j) (take_all i ks keeps j))
 
 -- the column of what was kept, by its parts
 pub kept_constant : (c : Column) (ks : List Val) (d : Ty) (n m : ℕ) (x y : ScalarValue) → d ≡ c.ty → replicate n (seen c.ty x) ≡ c.rows → length c.rows ≡ length ks → m ≡ true_count ks → raw_view y ≡ raw_view x → column d (replicate m (seen d y)) ≡ kept_column ks c

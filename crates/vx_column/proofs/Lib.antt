@@ -17,3 +17,4 @@ mod KeptLemmas
 mod ColumnFields
 mod SameLemmas
 mod TruthLemmas
+mod KeptPlaces

@@ -11,7 +11,7 @@ use Rattle.vx_dtype.specs.declared.Nullability.TheVariants.{NonNullable, Nullabl
 use Rattle.vx_dtype.specs.TypeRules.{is_bool_ty, is_nullable, no_name_twice, nullability_of, union, with_nullability}
 use Rattle.vx_dtype.specs.Values.{Raw, raw_null, raw_bool, Val, null_val, bool_val, valued}
 use Rattle.vx_dtype.specs.Fits.{fits, val_fits}
-use Rattle.vx_dtype.specs.Logic.{and3, or3, not3, is_null3, is_true_val}
+use Rattle.vx_dtype.specs.Logic.{not3, is_null3, is_true_val}
 use Rattle.vx_dtype.specs.RawViews.{raw_view}
 use Rattle.vx_dtype.specs.declared.values.ScalarValue.{ScalarValue}
 use Rattle.vx_words.specs.Words.{truth_val}
@@ -211,8 +211,8 @@ is_true_of None = refl
 is_true_of (Some true) = refl
 is_true_of (Some false) = refl
 
-pub true_at : (ts : List (Option Bool)) (i : ℕ) (t : Option Bool) → t ≡ get_or ts i None → is_true_val (get_or (vals_of ts) i null_val) ≡ is_true t
-true_at ts i t e = ap is_true_val (sym (val_at ts i)) ∙ is_true_of (get_or ts i None) ∙ ap is_true (sym e)
+pub is_true_at : (ts : List (Option Bool)) (i : ℕ) (t : Option Bool) → t ≡ get_or ts i None → is_true_val (get_or (vals_of ts) i null_val) ≡ is_true t
+is_true_at ts i t e = ap is_true_val (sym (val_at ts i)) ∙ is_true_of (get_or ts i None) ∙ ap is_true (sym e)
 
 pub true_count_of : (ts : List (Option Bool)) → count_by is_true ts ≡ true_count (vals_of ts)
 true_count_of [] = refl

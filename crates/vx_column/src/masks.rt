@@ -142,16 +142,18 @@ fn filter_values(
     values: &[ScalarValue],
     keep: &Truths,
 ) -> Mem<Vec<ScalarValue>>
-    requires lengths { length values.now ≡ length (vals_of keep.now) }
+    requires lengths { length values.now ≡ length keep.now }
     requires values { values_fit (type_view dtype.now) values.now ≡ true }
     ensures fit { IfOk result (λ vs. values_fit (type_view dtype.now) vs.items ≡ true) }
     ensures values { IfOk result (λ vs. seen_rows (type_view dtype.now) vs.items ≡ kept_rows (seen_rows (type_view dtype.now) values.now) (vals_of keep.now)) }
 {
     let mut kept = Vec::new(alloc);
-    for i in 0..values.len() {
-        if is_true(keep.truth_at(i)) {
-            kept.push(values[i].clone()?)?;
-        }
+    let mut from = 0;
+    let places = keep.len();
+    'kept: while let Some(i) = keep.next_true(from) {
+        prove!(i < places);
+        kept.push(values[i].clone()?)?;
+        from = i + 1;
     }
     Ok(kept)
 }

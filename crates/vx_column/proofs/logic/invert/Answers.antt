@@ -1,4 +1,4 @@
-use Rattle.std.proofs.Common.{◌≡◌, true, ap, sym, ◌∙◌, subst, refl, map}
+use Rattle.std.proofs.Common.{◌≡◌, true, ap, sym, ◌∙◌, refl, map}
 use Rattle.std.proofs.Math.ListN.{replicate}
 use Rattle.vx_dtype.specs.TypeRules.{nullability_of}
 use Rattle.vx_dtype.specs.Logic.{not3}

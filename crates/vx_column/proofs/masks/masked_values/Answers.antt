@@ -1,7 +1,6 @@
-use Rattle.std.proofs.Common.{◌≡◌, ◌<◌, ap, sym, ◌∙◌, length, arith, refl}
-use Rattle.vx_dtype.specs.Values.{null_val}
+use Rattle.std.proofs.Common.{◌<◌, ap, sym, ◌∙◌, length, arith}
 use Rattle.vx_words.specs.Truths.{vals_of}
-use Rattle.vx_column.specs.Columns.{seen, row_at, masked}
+use Rattle.vx_column.specs.Columns.{row_at, masked}
 use Rattle.vx_column.proofs.RowLemmas.{values_fit_more}
 use Rattle.vx_column.proofs.TruthLemmas.{length_vals, val_at, zip_made_step}
 use Rattle.vx_column.proofs.masks.masked_values.Goals as goal

@@ -1,5 +1,4 @@
-use Rattle.std.proofs.Common.{◌≡◌, ◌<◌, ap, sym, ◌∙◌, length, refl, arith}
-use Rattle.std.proofs.lemmas.List.{take_all}
+use Rattle.std.proofs.Common.{◌≡◌, ◌<◌, sym, ◌∙◌, length, arith}
 use Rattle.vx_column.specs.Columns.{seen, row_at}
 use Rattle.vx_column.proofs.TruthLemmas.{truths_fit_more, zip_truths_step}
 use Rattle.vx_column.proofs.rows.zip_truths.Goals as goal

@@ -1,6 +1,5 @@
-use Rattle.std.proofs.Common.{◌≡◌, ◌<◌, ◌∙◌, sym, ap, refl, true, length, option_copied, arith}
-use Rattle.std.proofs.lemmas.List.{take_all}
-use Rattle.vx_dtype.specs.TypeRules.{nullability_of, union}
+use Rattle.std.proofs.Common.{◌≡◌, ◌<◌, ◌∙◌, sym, ap, true, length, option_copied, arith}
+use Rattle.vx_dtype.specs.TypeRules.{nullability_of}
 use Rattle.vx_dtype.specs.Like.{like3}
 use Rattle.vx_words.specs.Words.{truth_val}
 use Rattle.vx_column.specs.Columns.{row_at}

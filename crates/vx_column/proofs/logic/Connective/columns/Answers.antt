@@ -1,4 +1,4 @@
-use Rattle.std.proofs.Common.{◌≡◌, true, ap, sym, ◌∙◌, subst, refl}
+use Rattle.std.proofs.Common.{◌≡◌, true, ap, ◌∙◌, refl}
 use Rattle.std.proofs.Math.ListN.{replicate}
 use Rattle.vx_dtype.specs.TypeRules.{nullability_of}
 use Rattle.vx_dtype.specs.RawViews.{raw_view}
