@@ -1,3 +1,5 @@
-// Tests of vx_dtype.
+//! Tests of vx_dtype.
+
+mod pairs;
 pub mod scalars;
 mod types;

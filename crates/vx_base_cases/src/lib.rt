@@ -6,6 +6,10 @@ mod display;
 #[cfg(test)]
 mod dtype;
 #[cfg(test)]
+mod lists;
+#[cfg(test)]
 mod readme;
+#[cfg(test)]
+mod strings;
 #[cfg(test)]
 mod texts;

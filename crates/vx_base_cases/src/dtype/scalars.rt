@@ -1,52 +1,86 @@
-// Scalars: the ends of integer types, printed texts, order, and ample memory.
+//! Scalars: printed texts, and ample memory.
+
+use crate::dtype::pairs::fields;
+use crate::lists::with;
+use crate::strings::is_text;
 use std::alloc::Global;
 use std::fmt::Write;
-use std::process::Abort;
-use std::test::Fail;
 use vx_dtype::Nullability::NonNullable;
-use vx_dtype::{DType, FieldName, FieldNames, PType, Scalar, ScalarError, StructFields};
+use vx_dtype::{DType, Mem, PType, Scalar, ScalarError};
 
-fn prints(rt: &impl Abort, alloc: Global, scalar: &Scalar, want: &str) -> Result<(), Fail> {
+/// A scalar, or why it isn't made.
+type Made = Result<Scalar, ScalarError>;
+
+/// The text of a scalar.
+fn text_of(alloc: Global, scalar: &Scalar) -> Mem<String> {
     let mut text = String::new(alloc);
     write!(text, "{scalar}")?;
-    assert_eq!(rt; text.as_str(), want);
-    Ok(())
+    Ok(text)
 }
 
-fn one_and_two(alloc: Global) -> Result<Vec<Scalar>, Fail> {
-    let mut items = Vec::new(alloc);
-    items.push(Scalar::from(1i32))?;
-    items.push(Scalar::from(2i32))?;
-    Ok(items)
+/// Whether a scalar is made and has this text.
+fn prints(alloc: Global, scalar: Made, want: &str) -> bool {
+    match &scalar {
+        Ok(scalar) => is_text(text_of(alloc, scalar), want),
+        Err(_) => false,
+    }
 }
 
-pub fn pet_type(alloc: Global) -> Result<DType, Fail> {
-    let mut names = Vec::new(alloc);
-    names.push(FieldName::new(alloc, "dog")?)?;
-    names.push(FieldName::new(alloc, "cat")?)?;
-    let mut dtypes = Vec::new(alloc);
-    dtypes.push(DType::Primitive(PType::U32, NonNullable))?;
-    dtypes.push(DType::Utf8(NonNullable))?;
-    let names = FieldNames::new(alloc, names)?;
-    let fields = StructFields::new(alloc, names, dtypes)?;
+/// A text, never null.
+fn text(alloc: Global, s: &str) -> Mem<Scalar> {
+    Scalar::utf8(alloc, s, NonNullable)
+}
+
+/// The answer of a call that has no refusal but for want of memory.
+fn answered(answer: Mem<Scalar>) -> Made {
+    match answer {
+        Ok(scalar) => Ok(scalar),
+        Err(_) => Err(ScalarError::NoMemory),
+    }
+}
+
+/// Two scalars.
+fn two(alloc: Global, first: Mem<Scalar>, second: Mem<Scalar>) -> Mem<Vec<Scalar>> {
+    with(with(Ok(Vec::new(alloc)), first), second)
+}
+
+/// The list of these numbers.
+fn list(alloc: Global, items: Mem<Vec<Scalar>>) -> Made {
+    let element = DType::Primitive(PType::I32, NonNullable);
+    match items {
+        Ok(items) => Scalar::list(alloc, element, items, NonNullable),
+        Err(_) => Err(ScalarError::NoMemory),
+    }
+}
+
+/// The type of a pet.
+fn pet_type(alloc: Global) -> Mem<DType> {
+    let number = DType::Primitive(PType::U32, NonNullable);
+    let fields = fields(alloc, "dog", "cat", number, DType::Utf8(NonNullable))?;
     Ok(DType::Struct(fields, NonNullable))
 }
 
-fn list_of(alloc: Global, element: DType) -> Result<Result<Scalar, ScalarError>, Fail> {
-    Ok(Scalar::list(alloc, element, one_and_two(alloc)?, NonNullable))
+/// The struct of these values.
+fn pets(alloc: Global, dtype: Mem<DType>, values: Mem<Vec<Scalar>>) -> Made {
+    match (dtype, values) {
+        (Ok(dtype), Ok(values)) => Scalar::struct_(alloc, dtype, values),
+        _ => Err(ScalarError::NoMemory),
+    }
 }
 
 // With memory at hand each call that may lack it answers.
 #[test]
-fn ample(rt: HostRuntime) -> Result<(), Fail> {
+fn ample(rt: HostRuntime) {
     let alloc = rt.alloc();
-    let text = Scalar::utf8(alloc, "text", NonNullable)?;
-    prints(&rt, alloc, &text, "\"text\"")?;
-    let list = list_of(alloc, DType::Primitive(PType::I32, NonNullable))??;
-    prints(&rt, alloc, &list, "[1i32, 2i32]")?;
-    let mut fields = Vec::new(alloc);
-    fields.push(Scalar::from(32u32))?;
-    fields.push(Scalar::utf8(alloc, "rufus", NonNullable)?)?;
-    let pets = Scalar::struct_(alloc, pet_type(alloc)?, fields)?;
-    prints(&rt, alloc, &pets, "{dog: 32u32, cat: \"rufus\"}")
+    assert!(rt; prints(alloc, answered(text(alloc, "text")), "\"text\""));
+    let numbers = two(alloc, Ok(Scalar::from(1i32)), Ok(Scalar::from(2i32)));
+    assert!(rt; prints(alloc, list(alloc, numbers), "[1i32, 2i32]"));
+    let values = two(alloc, Ok(Scalar::from(32u32)), text(alloc, "rufus"));
+    assert!(rt;
+        prints(
+            alloc,
+            pets(alloc, pet_type(alloc), values),
+            "{dog: 32u32, cat: \"rufus\"}"
+        )
+    );
 }
