@@ -66,7 +66,7 @@ fn match_gives(
 #[test]
 fn texts_and_patterns(rt: HostRuntime) {
     let alloc = rt.alloc();
-    for (text, pattern, exact, folded) in MATCHES {
+    for &(text, pattern, exact, folded) in &MATCHES {
         assert!(rt; match_gives(alloc, text, pattern, false, false, exact));
         assert!(rt; match_gives(alloc, text, pattern, true, false, !exact));
         assert!(rt; match_gives(alloc, text, pattern, false, true, folded));
