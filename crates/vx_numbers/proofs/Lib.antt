@@ -1,0 +1,4 @@
+pub mod PlaceLemmas
+pub mod TestBits
+pub mod ComparisonLemmas
+pub mod RangeLemmas

@@ -1,0 +1,4 @@
+pub mod Numbers
+pub mod Lanes
+pub mod NumbersEqual
+pub mod LaneViews

@@ -1,0 +1,83 @@
+// Comparisons of the values of lanes, 64 places a word.
+ghost use Rattle.std.specs.Prelude.{◌≡◌, ℕ, ◌+◌, ◌*◌, ◌<◌, ◌≤◌, ◌&&◌, nat_lt, length, map, IfOk};
+ghost use Rattle.vx_words.specs.Words.{word_bit};
+ghost use Rattle.vx_numbers.specs.Lanes.{AreBits, holds_at, holds_with};
+
+use crate::bits::PLACES;
+use crate::operators::Operator;
+use crate::width::Width;
+use std::alloc::Global;
+use vx_dtype::Mem;
+
+/// Of up to 64 places, where the comparison is true: the least bit is that of the first.
+#[inline(always)]
+fn word<T: Width, O: Operator>(left: &[T], right: &[T]) -> u64
+    requires few { length left.now ≤ 64 }
+    requires as_many { length right.now ≡ length left.now }
+    ensures { (j : ℕ) → word_bit result j
+        ≡ (nat_lt j (length left.now) && holds_at O.operator (map T.value left.now) (map T.value right.now) j) }
+{
+    let mut word = 0;
+    'places: for j in 0..left.len() {
+        word |= u64::from(O::holds(left[j], right[j])) << j;
+    }
+    word
+}
+
+/// Of up to 64 places, where the comparison with one number is true: the least bit is that of the first.
+#[inline(always)]
+fn word_with<T: Width, O: Operator>(left: &[T], right: T) -> u64
+    requires few { length left.now ≤ 64 }
+    ensures { (j : ℕ) → word_bit result j
+        ≡ (nat_lt j (length left.now) && holds_with O.operator (map T.value left.now) (T.value right) j) }
+{
+    let mut word = 0;
+    'places: for j in 0..left.len() {
+        word |= u64::from(O::holds(left[j], right)) << j;
+    }
+    word
+}
+
+/// Where the comparison is true of the values of two lanes.
+pub(crate) fn words<T: Width, O: Operator>(alloc: Global, left: &[T], right: &[T]) -> Mem<Vec<u64>>
+    requires { length right.now ≡ length left.now }
+    ensures { IfOk result (λ words. AreBits words.items (length left.now)
+        (holds_at O.operator (map T.value left.now) (map T.value right.now))) }
+{
+    let full = left.len() / PLACES;
+    let mut words = Vec::with_capacity(alloc, left.len().div_ceil(PLACES))?;
+    'full: for k in 0..full {
+        let from = k * PLACES;
+        let to = from + PLACES;
+        words.push(word::<T, O>(&left[from..to], &right[from..to]))?;
+    }
+    let from = full * PLACES;
+    if from == left.len() {
+        return Ok(words);
+    }
+    words.push(word::<T, O>(&left[from..], &right[from..]))?;
+    Ok(words)
+}
+
+/// Where the comparison with one number is true of the values of a lane.
+pub(crate) fn words_with<T: Width, O: Operator>(
+    alloc: Global,
+    left: &[T],
+    right: T,
+) -> Mem<Vec<u64>>
+    ensures { IfOk result (λ words. AreBits words.items (length left.now)
+        (holds_with O.operator (map T.value left.now) (T.value right))) }
+{
+    let full = left.len() / PLACES;
+    let mut words = Vec::with_capacity(alloc, left.len().div_ceil(PLACES))?;
+    'full: for k in 0..full {
+        let from = k * PLACES;
+        words.push(word_with::<T, O>(&left[from..from + PLACES], right))?;
+    }
+    let from = full * PLACES;
+    if from == left.len() {
+        return Ok(words);
+    }
+    words.push(word_with::<T, O>(&left[from..], right))?;
+    Ok(words)
+}

@@ -1,0 +1,233 @@
+// Numbers of one width, and those of them that are null.
+ghost use Rattle.std.specs.Prelude.{◌≡◌, ℕ, ◌+◌, ◌*◌, ◌<◌, ◌≤◌, ◌^◌, true, Option, Some, None, [], ◌∷◌, ◌++◌, length, map, slice_index_or, cond, IfOk, Decides};
+ghost use Rattle.std.specs.Option.{option_map};
+ghost use Rattle.std.specs.Simd.Lanes.{zip2};
+ghost use Rattle.vx_numbers.specs.Numbers.{all_in_range, fits_ptype, compared, null_test, kept_numbers};
+ghost use Rattle.vx_numbers.specs.NumbersEqual.{number_eq};
+ghost use Rattle.vx_numbers.specs.Lanes.{numbers_of, number_in, stored, AreTidyNumbers};
+
+use crate::bits::{bit, both, push_bit};
+use crate::kernels::{words, words_with};
+use crate::operators::Operator;
+use crate::width::Width;
+use std::alloc::{AllocError, Global};
+use std::marker::Model;
+use vx_dtype::Mem;
+use vx_words::Truths;
+
+/// Numbers of one width, null at some places.
+#[derive(Debug, Drop)]
+pub(crate) struct Lane<T: Width> {
+    valid: Vec<u64>,
+    values: Vec<T>,
+}
+
+impl<T: Width> Model for Lane<T> {
+    ghost use Rattle.std.specs.Prelude.{ℤ, Option, List, map};
+    ghost use Rattle.vx_numbers.specs.Lanes.{numbers_of, AreTidyNumbers};
+
+    ghost Value = { List (Option ℤ) };
+
+    ghost view = { λ lane. numbers_of lane.valid.items (map T.value lane.values.items) };
+
+    ghost invariant = { λ lane. AreTidyNumbers lane.valid.items (map T.value lane.values.items) };
+}
+
+impl<T: Width> Lane<T> {
+    /// The list of these numbers.
+    pub(crate) fn from_options(alloc: Global, numbers: &[Option<i128>]) -> Mem<Lane<T>>
+        requires { all_in_range T.ptype numbers.now ≡ true }
+        ensures { IfOk result (λ lane. lane ≡ numbers.now) }
+    {
+        let mut valid = Vec::with_capacity(alloc, numbers.len().div_ceil(64))?;
+        let mut values = Vec::with_capacity(alloc, numbers.len())?;
+        for i in 0..numbers.len() {
+            push(&mut valid, &mut values, of_number::<T>(numbers[i]))?;
+        }
+        Ok(Lane { valid, values })
+    }
+
+    /// The words of validity and the values.
+    fn parts(&self) -> (&[u64], &[T])
+        ensures numbers { numbers_of result.0.now (map T.value result.1.now) ≡ self.now }
+        ensures tidy { AreTidyNumbers result.0.now (map T.value result.1.now) }
+    {
+        (self.valid.as_slice(), self.values.as_slice())
+    }
+
+    /// How many places there are.
+    pub(crate) fn len(&self) -> usize
+        ensures { result ≡ length self.now }
+    {
+        self.values.len()
+    }
+
+    /// The number at a place, counted from 0.
+    pub(crate) fn number_at(&self, i: usize) -> Option<i128>
+        requires { i < length self.now }
+        ensures { result ≡ slice_index_or self.now i None }
+    {
+        let (valid, values) = self.parts();
+        if !bit(valid, i) {
+            return None;
+        }
+        Some(values[i].number())
+    }
+
+    /// The comparison of each number with the one at its place in the other list; null where one is null.
+    pub(crate) fn compare<O: Operator>(&self, alloc: Global, other: &Lane<T>) -> Mem<Truths>
+        requires { length other.now ≡ length self.now }
+        ensures { IfOk result (λ truths. truths ≡ zip2 (compared O.operator) self.now other.now) }
+    {
+        let (left, ls) = self.parts();
+        let (right, rs) = other.parts();
+        let valid = both(alloc, left, right)?;
+        let tests = words::<T, O>(alloc, ls, rs)?;
+        let truths = both(alloc, tests.as_slice(), valid.as_slice())?;
+        Ok(Truths::of_words(ls.len(), valid, truths))
+    }
+
+    /// The comparison of each number with this one; null where one is null.
+    pub(crate) fn compare_with<O: Operator>(
+        &self,
+        alloc: Global,
+        number: Option<i128>,
+    ) -> Mem<Truths>
+        requires { fits_ptype T.ptype number ≡ true }
+        ensures { IfOk result (λ truths. truths ≡ map (λ n. compared O.operator n number) self.now) }
+    {
+        let Some(number) = number else {
+            return Truths::repeated(alloc, None, self.len());
+        };
+        let (valid, values) = self.parts();
+        let tests = words_with::<T, O>(alloc, values, T::of_number(number))?;
+        let truths = both(alloc, tests.as_slice(), valid)?;
+        let valid = Vec::from_slice(alloc, valid)?;
+        Ok(Truths::of_words(values.len(), valid, truths))
+    }
+
+    /// Whether there is no number, place by place.
+    pub(crate) fn is_null(&self, alloc: Global) -> Mem<Truths>
+        ensures { IfOk result (λ truths. truths ≡ map null_test self.now) }
+    {
+        let (valid, values) = self.parts();
+        let words = Vec::from_slice(alloc, valid)?;
+        let known = Truths::of_words(values.len(), Vec::from_slice(alloc, valid)?, words);
+        let nulls = known.is_null(alloc)?;
+        Ok(nulls)
+    }
+
+    /// The numbers at the places where the other list is true, in order.
+    pub(crate) fn filter(&self, alloc: Global, keep: &Truths) -> Mem<Lane<T>>
+        requires { length keep.now ≡ length self.now }
+        ensures { IfOk result (λ lane. lane ≡ kept_numbers self.now keep.now) }
+    {
+        let mut valid = Vec::new(alloc);
+        let mut values = Vec::new(alloc);
+        for i in 0..self.len() {
+            let kept = keep.truth_at(i) == Some(true);
+            push_if(kept, &mut valid, &mut values, self.value_at(i))?;
+        }
+        Ok(Lane { valid, values })
+    }
+
+    /// Whether two lists have the same numbers.
+    pub(crate) fn same(&self, other: &Lane<T>) -> bool
+        ensures { Decides result (self.now ≡ other.now) }
+    {
+        if self.len() != other.len() {
+            return false;
+        }
+        'places: for i in 0..self.len() {
+            if !same_number(self.value_at(i), other.value_at(i)) {
+                return false;
+            }
+        }
+        true
+    }
+
+    /// The number at a place, in the type's own width.
+    fn value_at(&self, i: usize) -> Option<T>
+        requires { i < length self.now }
+        ensures { option_map T.value result ≡ slice_index_or self.now i None }
+    {
+        let (valid, values) = self.parts();
+        if !bit(valid, i) {
+            return None;
+        }
+        Some(values[i])
+    }
+}
+
+impl<T: Width> Clone for Lane<T> {
+    ghost is_clone = { λ lane copy. copy ≡ lane };
+
+    fn clone(&self) -> Result<Lane<T>, AllocError> {
+        let alloc = *self.valid.allocator();
+        let valid = Vec::from_slice(alloc, self.valid.as_slice())?;
+        let values = Vec::from_slice(alloc, self.values.as_slice())?;
+        Ok(Lane { valid, values })
+    }
+}
+
+/// A number, or null, in the type's own width.
+fn of_number<T: Width>(number: Option<i128>) -> Option<T>
+    requires { fits_ptype T.ptype number ≡ true }
+    ensures { option_map T.value result ≡ number }
+{
+    match number {
+        Some(number) => Some(T::of_number(number)),
+        None => None,
+    }
+}
+
+/// Whether two numbers are one, or both are null.
+fn same_number<T: Width>(left: Option<T>, right: Option<T>) -> bool
+    ensures { result ≡ number_eq (option_map T.value left) (option_map T.value right) }
+{
+    match (left, right) {
+        (None, None) => true,
+        (Some(left), Some(right)) => left.is(right),
+        _ => false,
+    }
+}
+
+/// Adds a number, or null, after the last.
+fn push<T: Width>(valid: &mut Vec<u64>, values: &mut Vec<T>, number: Option<T>) -> Mem<()>
+    requires { AreTidyNumbers valid.old.items (map T.value values.old.items) }
+    ensures tidy { IfOk result (λ _. AreTidyNumbers valid.new.items (map T.value values.new.items)) }
+    ensures numbers { IfOk result (λ _. numbers_of valid.new.items (map T.value values.new.items)
+        ≡ numbers_of valid.old.items (map T.value values.old.items) ++ option_map T.value number ∷ []) }
+{
+    push_bit(valid, values.len(), number.is_some())?;
+    values.push(value_of(number))?;
+    Ok(())
+}
+
+/// Adds a number, or null, after the last, if it is kept.
+fn push_if<T: Width>(
+    kept: bool,
+    valid: &mut Vec<u64>,
+    values: &mut Vec<T>,
+    number: Option<T>,
+) -> Mem<()>
+    requires { AreTidyNumbers valid.old.items (map T.value values.old.items) }
+    ensures tidy { IfOk result (λ _. AreTidyNumbers valid.new.items (map T.value values.new.items)) }
+    ensures numbers { IfOk result (λ _. numbers_of valid.new.items (map T.value values.new.items)
+        ≡ numbers_of valid.old.items (map T.value values.old.items) ++ cond kept (option_map T.value number ∷ []) []) }
+{
+    if !kept {
+        return Ok(());
+    }
+    push(valid, values, number)
+}
+
+/// The value that stands at a place: 0 under null.
+fn value_of<T: Width>(number: Option<T>) -> T
+    ensures { T.value result ≡ stored (option_map T.value number) }
+{
+    match number {
+        Some(number) => number,
+        None => T::zero(),
+    }
+}

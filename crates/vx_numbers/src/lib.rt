@@ -1,0 +1,11 @@
+//! Lists of integers of one type, kept in the type's own width beside words of validity.
+#![tactic(auto)]
+
+mod bits;
+mod kernels;
+mod lane;
+mod numbers;
+mod operators;
+mod width;
+
+pub use numbers::Numbers;
