@@ -2,13 +2,14 @@
 ghost use Rattle.std.specs.Prelude.{◌≡◌, ℕ, ◌+◌, ◌*◌, ◌<◌, ◌≤◌, ◌^◌, true, Option, Some, None, [], ◌∷◌, ◌++◌, length, map, slice_index_or, cond, IfOk, Decides};
 ghost use Rattle.std.specs.Option.{option_map};
 ghost use Rattle.std.specs.Simd.Lanes.{zip2};
-ghost use Rattle.vx_numbers.specs.Numbers.{all_in_range, fits_ptype, compared, null_test, kept_numbers};
+ghost use Rattle.vx_numbers.specs.Numbers.{all_in_range, fits_ptype, compared, null_test, kept_numbers, on_both, if_in_range};
 ghost use Rattle.vx_numbers.specs.NumbersEqual.{number_eq};
 ghost use Rattle.vx_numbers.specs.Lanes.{numbers_of, number_in, stored, AreTidyNumbers};
 
 use crate::bits::{bit, both, push_bit};
 use crate::kernels::{words, words_with};
 use crate::operators::Operator;
+use crate::totals::{Total, total_of};
 use crate::width::Width;
 use std::alloc::{AllocError, Global};
 use std::marker::Model;
@@ -129,6 +130,22 @@ impl<T: Width> Lane<T> {
             push_if(kept, &mut valid, &mut values, self.value_at(i))?;
         }
         Ok(Lane { valid, values })
+    }
+
+    /// The total of each number and the one at its place in the other list; null where one is null. None exactly where a total leaves the type.
+    pub(crate) fn totals<O: Total>(&self, alloc: Global, other: &Lane<T>) -> Mem<Option<Lane<T>>>
+        requires { length other.now ≡ length self.now }
+        ensures { IfOk result (λ lane. lane ≡ if_in_range T.ptype (zip2 (on_both O.rule) self.now other.now)) }
+    {
+        let mut valid = Vec::with_capacity(alloc, self.valid.len())?;
+        let mut values = Vec::with_capacity(alloc, self.len())?;
+        'places: for i in 0..self.len() {
+            let Some(total) = total_of::<T, O>(self.value_at(i), other.value_at(i)) else {
+                return Ok(None);
+            };
+            push(&mut valid, &mut values, total)?;
+        }
+        Ok(Some(Lane { valid, values }))
     }
 
     /// Whether two lists have the same numbers.

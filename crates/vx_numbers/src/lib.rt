@@ -6,6 +6,7 @@ mod kernels;
 mod lane;
 mod numbers;
 mod operators;
+mod totals;
 mod width;
 
 pub use numbers::Numbers;

@@ -1,14 +1,16 @@
 // Lists of numbers of one integer type.
 ghost use Rattle.std.specs.Prelude.{◌≡◌, ℕ, ◌<◌, true, Option, Some, None, length, map, slice_index_or, IfOk, Decides};
 ghost use Rattle.std.specs.Cmp.{partial_equiv_from_equiv};
+ghost use Rattle.std.specs.Option.{option_map};
 ghost use Rattle.std.specs.Simd.Lanes.{zip2};
-ghost use Rattle.vx_numbers.specs.Numbers.{number_list, all_in_range, fits_ptype, compared, null_test, kept_numbers};
+ghost use Rattle.vx_numbers.specs.Numbers.{number_list, all_in_range, fits_ptype, compared, null_test, kept_numbers, on_both, sums, differences, if_in_range};
 ghost use Rattle.vx_numbers.specs.NumbersEqual.{numbers_eq, numbers_eq_equiv};
 ghost use Rattle.vx_dtype.specs.TypeRules.{same_ptype};
 ghost use Rattle.vx_numbers.specs.LaneViews.{list_of};
 
 use crate::lane::Lane;
 use crate::operators::{Above, AtLeast, AtMost, Below, Equal, Unequal};
+use crate::totals::{Difference, Sum, Total};
 use crate::width::Width;
 use std::alloc::{AllocError, Global};
 use std::marker::Model;
@@ -148,6 +150,33 @@ impl Numbers {
         }
     }
 
+    /// The sum of each number and the one at its place in the other list; null where one is null. None exactly where a sum leaves the type.
+    pub fn checked_add(&self, alloc: Global, other: &Numbers) -> Mem<Option<Numbers>>
+        requires types { other.now.ptype ≡ self.now.ptype }
+        requires lengths { length other.now.numbers ≡ length self.now.numbers }
+        ensures { IfOk result (λ list. list ≡ option_map (number_list self.now.ptype)
+            (if_in_range self.now.ptype (sums self.now.numbers other.now.numbers))) }
+    {
+        let Some(lanes) = total_lanes::<Sum>(alloc, &self.lanes, &other.lanes)? else {
+            return Ok(None);
+        };
+        Ok(Some(Numbers { lanes }))
+    }
+
+    /// The difference of each number and the one at its place in the other list; null where one is null. None exactly where a difference
+    /// leaves the type.
+    pub fn checked_sub(&self, alloc: Global, other: &Numbers) -> Mem<Option<Numbers>>
+        requires types { other.now.ptype ≡ self.now.ptype }
+        requires lengths { length other.now.numbers ≡ length self.now.numbers }
+        ensures { IfOk result (λ list. list ≡ option_map (number_list self.now.ptype)
+            (if_in_range self.now.ptype (differences self.now.numbers other.now.numbers))) }
+    {
+        let Some(lanes) = total_lanes::<Difference>(alloc, &self.lanes, &other.lanes)? else {
+            return Ok(None);
+        };
+        Ok(Some(Numbers { lanes }))
+    }
+
     /// Whether there is no number, place by place.
     pub fn is_null(&self, alloc: Global) -> Mem<Truths>
         ensures { IfOk result (λ truths. truths ≡ map null_test self.now.numbers) }
@@ -267,6 +296,38 @@ fn filter_lanes(alloc: Global, lanes: &Lanes, keep: &Truths) -> Mem<Lanes>
         Lanes::I16(lane) => Ok(Lanes::I16(lane.filter(alloc, keep)?)),
         Lanes::I32(lane) => Ok(Lanes::I32(lane.filter(alloc, keep)?)),
         Lanes::I64(lane) => Ok(Lanes::I64(lane.filter(alloc, keep)?)),
+    }
+}
+
+/// The totals of the numbers of two lanes of one type. None exactly where a total leaves the type.
+fn total_lanes<O: Total>(alloc: Global, left: &Lanes, right: &Lanes) -> Mem<Option<Lanes>>
+    requires types { (list_of right.now).ptype ≡ (list_of left.now).ptype }
+    requires lengths { length (list_of right.now).numbers ≡ length (list_of left.now).numbers }
+    ensures { IfOk result (λ lanes. option_map list_of lanes ≡ option_map (number_list (list_of left.now).ptype)
+        (if_in_range (list_of left.now).ptype (zip2 (on_both O.rule) (list_of left.now).numbers (list_of right.now).numbers))) }
+{
+    match (left, right) {
+        (Lanes::U8(left), Lanes::U8(right)) => Ok(left.totals::<O>(alloc, right)?.map(Lanes::U8)),
+        (Lanes::U16(left), Lanes::U16(right)) => Ok(
+            left.totals::<O>(alloc, right)?.map(Lanes::U16),
+        ),
+        (Lanes::U32(left), Lanes::U32(right)) => Ok(
+            left.totals::<O>(alloc, right)?.map(Lanes::U32),
+        ),
+        (Lanes::U64(left), Lanes::U64(right)) => Ok(
+            left.totals::<O>(alloc, right)?.map(Lanes::U64),
+        ),
+        (Lanes::I8(left), Lanes::I8(right)) => Ok(left.totals::<O>(alloc, right)?.map(Lanes::I8)),
+        (Lanes::I16(left), Lanes::I16(right)) => Ok(
+            left.totals::<O>(alloc, right)?.map(Lanes::I16),
+        ),
+        (Lanes::I32(left), Lanes::I32(right)) => Ok(
+            left.totals::<O>(alloc, right)?.map(Lanes::I32),
+        ),
+        (Lanes::I64(left), Lanes::I64(right)) => Ok(
+            left.totals::<O>(alloc, right)?.map(Lanes::I64),
+        ),
+        _ => unreachable!(),
     }
 }
 

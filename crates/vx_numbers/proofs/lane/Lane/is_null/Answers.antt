@@ -17,6 +17,6 @@ returns g c =
     let v = c.parts.result.0.now in
     let zs = c.parts.result.1.now in
     let made : c.of_words-known.result ≡ truths_of_words v v (length zs) =
-    c.of_words-known.ensures ∙ (λ k. truths_of_words (c.in_ok-from_slice.ensures.items k) (c.in_ok-words.ensures.items k) (length zs)) in
+    ◌∙◌ {b = truths_of_words c.in_ok-from_slice.field-0.items c.in_ok-words.words.items (length zs)} c.of_words-known.ensures (λ k. truths_of_words (c.in_ok-from_slice.ensures.items k) (c.in_ok-words.ensures.items k) (length zs)) in
     nulls_seen v (map f zs) (length zs) c.args.self.now (length-map zs f) c.parts.ensures.numbers c.parts.ensures.tidy
     c.of_words-known.result c.in_ok-nulls.nulls made c.in_ok-nulls.ensures
