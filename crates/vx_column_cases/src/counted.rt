@@ -6,7 +6,7 @@ use std::alloc::Global;
 use vx_dtype::{DType, Nullability, Scalar};
 
 /// Whether a column is true at this many rows.
-fn counts(c: Made, want: usize) -> bool {
+pub(crate) fn counts(c: Made, want: usize) -> bool {
     match &c {
         Ok(c) => is_bool(c) && c.true_count() == want,
         Err(_) => false,

@@ -21,7 +21,7 @@ fn are_one(a: &ColumnRef, b: &ColumnRef) -> bool {
 }
 
 /// Whether two columns are made and are one.
-fn same(a: Made, b: Made) -> bool {
+pub(crate) fn same(a: Made, b: Made) -> bool {
     match (&a, &b) {
         (Ok(a), Ok(b)) => are_one(a, b),
         _ => false,
@@ -29,7 +29,7 @@ fn same(a: Made, b: Made) -> bool {
 }
 
 /// Whether two columns are made and differ.
-fn differ(a: Made, b: Made) -> bool {
+pub(crate) fn differ(a: Made, b: Made) -> bool {
     match (&a, &b) {
         (Ok(a), Ok(b)) => *a != *b,
         _ => false,

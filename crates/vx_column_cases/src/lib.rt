@@ -18,4 +18,6 @@ mod kinds;
 #[cfg(test)]
 mod structs;
 #[cfg(test)]
+mod truths;
+#[cfg(test)]
 mod wildcards;

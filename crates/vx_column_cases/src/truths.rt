@@ -1,0 +1,207 @@
+//! Boolean columns, which are kept as words of truths, beside plain loops, at lengths around those of words.
+
+use crate::calls::{and_gives, compare_gives, filter_gives, invert_gives, is_null_gives, or_gives};
+use crate::columns::{Made, constant, only, truths, truths_of, typed};
+use crate::counted::counts;
+use crate::kept::{differ, same};
+use std::alloc::Global;
+use vx_column::ColumnRef;
+use vx_dtype::{CompareOperator, DType, Nullability, PType, Scalar, ScalarValue};
+
+/// How many rows the columns of the tables have.
+const LENGTHS: [usize; 9] = [0, 1, 63, 64, 65, 127, 128, 129, 1_000];
+
+/// What stands at the rows of a column: of each three rows the right side has false, true and null, and of each nine the left side has
+/// three of each, so that each pair comes.
+#[derive(Clone, Copy)]
+enum Rows {
+    Left,
+    Right,
+    Conjunction,
+    Disjunction,
+    Negation,
+    NullTest,
+    /// Whether the left side is above the right one: false stands before true.
+    Above,
+}
+
+/// One of the three truths.
+fn truth(i: usize) -> Option<bool> {
+    match i % 3 {
+        0 => Some(false),
+        1 => Some(true),
+        _ => None,
+    }
+}
+
+fn conjunction(l: Option<bool>, r: Option<bool>) -> Option<bool> {
+    match (l, r) {
+        (Some(true), _) => r,
+        (Some(false), _) => l,
+        (None, Some(false)) => r,
+        (None, _) => l,
+    }
+}
+
+fn disjunction(l: Option<bool>, r: Option<bool>) -> Option<bool> {
+    match (l, r) {
+        (Some(false), _) => r,
+        (Some(true), _) => l,
+        (None, Some(true)) => r,
+        (None, _) => l,
+    }
+}
+
+fn negation(truth: Option<bool>) -> Option<bool> {
+    match truth {
+        Some(b) => Some(!b),
+        None => None,
+    }
+}
+
+fn is_above(l: Option<bool>, r: Option<bool>) -> Option<bool> {
+    match (l, r) {
+        (Some(l), Some(r)) => Some(l && !r),
+        _ => None,
+    }
+}
+
+/// What stands at a row.
+fn at(rows: Rows, i: usize) -> Option<bool> {
+    let (l, r) = (truth(i / 3), truth(i));
+    match rows {
+        Rows::Left => l,
+        Rows::Right => r,
+        Rows::Conjunction => conjunction(l, r),
+        Rows::Disjunction => disjunction(l, r),
+        Rows::Negation => negation(r),
+        Rows::NullTest => Some(r.is_none()),
+        Rows::Above => is_above(l, r),
+    }
+}
+
+/// So many rows, made by a plain loop. A test for null is never null.
+fn column(alloc: Global, rows: Rows, len: usize) -> Made {
+    let mut values = Vec::new(alloc);
+    for i in 0..len {
+        values.push(at(rows, i))?;
+    }
+    match rows {
+        Rows::NullTest => ColumnRef::bool(alloc, values, Nullability::NonNullable),
+        _ => ColumnRef::bool(alloc, values, Nullability::Nullable),
+    }
+}
+
+/// The left side at the rows where the right one is true.
+fn kept(alloc: Global, len: usize) -> Made {
+    let mut values = Vec::new(alloc);
+    for i in 0..len {
+        if at(Rows::Right, i) == Some(true) {
+            values.push(at(Rows::Left, i))?;
+        }
+    }
+    ColumnRef::bool(alloc, values, Nullability::Nullable)
+}
+
+/// The rows' numbers: of all, or of those where the right side is true.
+fn numbered(alloc: Global, len: usize, all: bool) -> Made {
+    let mut values = Vec::new(alloc);
+    for i in 0..len {
+        if all || at(Rows::Right, i) == Some(true) {
+            values.push(Some(i as i128))?;
+        }
+    }
+    ColumnRef::primitive(alloc, PType::I16, values, Nullability::NonNullable)
+}
+
+/// At how many rows the right side is true.
+fn true_rows(len: usize) -> usize {
+    let mut count = 0usize;
+    for i in 0..len {
+        count = count.wrapping_add(usize::from(at(Rows::Right, i) == Some(true)));
+    }
+    count
+}
+
+fn left(alloc: Global, len: usize) -> Made {
+    column(alloc, Rows::Left, len)
+}
+
+fn right(alloc: Global, len: usize) -> Made {
+    column(alloc, Rows::Right, len)
+}
+
+/// Whether the connectives and the comparison of two columns have the rows of plain loops.
+fn pairs_are_right(alloc: Global, len: usize) -> bool {
+    let (l, r) = (left(alloc, len), right(alloc, len));
+    if !and_gives(alloc, l, r, column(alloc, Rows::Conjunction, len)) {
+        return false;
+    }
+    let (l, r) = (left(alloc, len), right(alloc, len));
+    if !or_gives(alloc, l, r, column(alloc, Rows::Disjunction, len)) {
+        return false;
+    }
+    let (l, r) = (left(alloc, len), right(alloc, len));
+    compare_gives(
+        alloc,
+        l,
+        r,
+        CompareOperator::Gt,
+        column(alloc, Rows::Above, len),
+    )
+}
+
+/// Whether the calls of one column, and what is kept by it, have the rows of plain loops.
+fn rows_are_right(alloc: Global, len: usize) -> bool {
+    if !invert_gives(alloc, right(alloc, len), column(alloc, Rows::Negation, len)) {
+        return false;
+    }
+    if !is_null_gives(alloc, right(alloc, len), column(alloc, Rows::NullTest, len)) {
+        return false;
+    }
+    if !filter_gives(alloc, left(alloc, len), right(alloc, len), kept(alloc, len)) {
+        return false;
+    }
+    filter_gives(
+        alloc,
+        numbered(alloc, len, true),
+        right(alloc, len),
+        numbered(alloc, len, false),
+    )
+}
+
+#[test]
+fn truths_at_lengths_of_words(rt: HostRuntime) {
+    let alloc = rt.alloc();
+    for &len in &LENGTHS {
+        assert!(rt; pairs_are_right(alloc, len));
+        assert!(rt; rows_are_right(alloc, len));
+        assert!(rt; counts(right(alloc, len), true_rows(len)));
+    }
+}
+
+/// One true row, as one value.
+fn one_value(alloc: Global) -> Made {
+    constant(alloc, Scalar::from(true), 1)
+}
+
+/// One true row of a type that isn't nullable.
+fn one_truth(alloc: Global) -> Made {
+    truths_of(alloc, [Some(true)].as_slice(), Nullability::NonNullable)
+}
+
+#[test]
+fn truths_as_one_value_and_written_out(rt: HostRuntime) {
+    let alloc = rt.alloc();
+    let dtype = DType::Bool(Nullability::NonNullable);
+    assert!(rt; same(one_value(alloc), one_truth(alloc)));
+    assert!(rt;
+        same(
+            one_truth(alloc),
+            typed(alloc, dtype, only(alloc, ScalarValue::Bool(true)))
+        )
+    );
+    assert!(rt; differ(one_truth(alloc), truths(alloc, [Some(true)].as_slice())));
+    assert!(rt; differ(left(alloc, 65), right(alloc, 65)));
+    assert!(rt; same(right(alloc, 65), right(alloc, 65)));
+}
