@@ -1,16 +1,14 @@
-//! Scans over stores in memory: their reports, what each refusal leaves, and what a store is refused for.
+//! Scans over stores in memory: what a store is refused for, and the rows that a scan finds.
 
 use std::alloc::Global;
-use std::test::Fail;
 use vx_build::{col, gt, lit};
-use vx_column::ColumnRef;
-use vx_dtype::Nullability::{NonNullable, Nullable};
-use vx_dtype::{
-    DType, FieldName, FieldNames, FieldPath, PType, Scalar, ScalarValue, Stat, StructFields,
-};
+use vx_column::{ColumnError, ColumnRef};
+use vx_dtype::Nullability::NonNullable;
+use vx_dtype::{DType, FieldName, FieldNames, Mem, PType, ScalarValue, StructFields};
+use vx_expr::ExprRef;
 use vx_scan::{MemoryStore, ScanError, ScanReport, TableError, scan, scan_exprs};
 use vx_wire::{ExprRegistry, ExprRegistryExt};
-use vx_zones::{Scalars, ZoneMap, ZoneStat};
+use vx_zones::{ZoneError, ZoneMap};
 
 /// `($.x > 10i64)`
 const FILTER: [u8; 52] = [
@@ -24,72 +22,103 @@ const PROJECTION: [u8; 20] = [
     8, 103, 101, 116, 95, 105, 116, 101, 109, 2, 1, 120, 1, 4, 114, 111, 111, 116, 0, 0,
 ];
 
-/// The numbers as a column.
-fn column(alloc: Global, p: PType, numbers: &[i128]) -> Result<ColumnRef, Fail> {
+/// A block, or why its column isn't made.
+type Block = Result<Vec<ColumnRef>, ColumnError>;
+
+/// A store, or why its blocks are no table. None where its zones or a block aren't made.
+type Stored = Option<Result<MemoryStore, TableError>>;
+
+/// The numbers as values of a column.
+fn values(alloc: Global, numbers: &[i128]) -> Mem<Vec<Option<i128>>> {
     let mut values = Vec::new(alloc);
     for number in numbers {
         values.push(Some(*number))?;
     }
-    Ok(ColumnRef::primitive(alloc, p, values, NonNullable)?)
+    Ok(values)
+}
+
+/// The numbers as a column.
+fn column(alloc: Global, p: PType, numbers: &[i128]) -> Result<ColumnRef, ColumnError> {
+    ColumnRef::primitive(alloc, p, values(alloc, numbers)?, NonNullable)
 }
 
 /// A block of one column.
-fn block(alloc: Global, p: PType, numbers: &[i128]) -> Result<Vec<ColumnRef>, Fail> {
+fn block(alloc: Global, p: PType, numbers: &[i128]) -> Block {
     let mut columns = Vec::new(alloc);
     columns.push(column(alloc, p, numbers)?)?;
     Ok(columns)
 }
 
-/// The statistic of the column `x` with these values in two blocks.
-fn statistic(alloc: Global, stat: Stat, first: i128, second: i128) -> Result<ZoneStat, Fail> {
-    let mut values = Vec::new(alloc);
-    for number in [first, second] {
-        let dtype = DType::Primitive(PType::I64, Nullable);
-        values.push(Scalar::try_new(dtype, ScalarValue::Int(number))?)?;
-    }
-    Ok(ZoneStat {
-        path: FieldPath::from_name(alloc, FieldName::new(alloc, "x")?)?,
-        stat,
-        values: Scalars::new(values),
-    })
+/// Two blocks.
+fn two(alloc: Global, first: Block, second: Block) -> Result<Vec<Vec<ColumnRef>>, ColumnError> {
+    let mut blocks = Vec::new(alloc);
+    blocks.push(first?)?;
+    blocks.push(second?)?;
+    Ok(blocks)
 }
 
-/// The zones of a column `x` in blocks of two rows and of one.
-fn zones(alloc: Global, p: PType, stats: Vec<ZoneStat>) -> Result<ZoneMap, Fail> {
+/// The name `x` alone.
+fn names(alloc: Global) -> Mem<FieldNames> {
     let mut names = Vec::new(alloc);
     names.push(FieldName::new(alloc, "x")?)?;
-    let mut dtypes = Vec::new(alloc);
-    dtypes.push(DType::Primitive(p, NonNullable))?;
-    let fields = StructFields::new(alloc, FieldNames::new(alloc, names)?, dtypes)?;
-    let mut lengths = Vec::new(alloc);
-    lengths.push(2u32)?;
-    lengths.push(1u32)?;
-    Ok(ZoneMap::try_new(alloc, fields, lengths, stats)?)
+    FieldNames::new(alloc, names)
 }
 
-/// The store of a column `x` in two blocks that fails at the reads whose numbers are listed.
-fn store(
-    alloc: Global,
-    p: PType,
-    first: [i128; 2],
-    second: [i128; 1],
-    stats: Vec<ZoneStat>,
-    fails: bool,
-) -> Result<MemoryStore, Fail> {
-    let zones = zones(alloc, p, stats)?;
-    let mut blocks = Vec::new(alloc);
-    blocks.push(block(alloc, p, &first)?)?;
-    blocks.push(block(alloc, p, &second)?)?;
-    let mut fail = Vec::new(alloc);
-    if fails {
-        fail.push(2u64)?;
+/// A column `x` of i64.
+fn fields(alloc: Global) -> Mem<StructFields> {
+    let mut dtypes = Vec::new(alloc);
+    dtypes.push(DType::Primitive(PType::I64, NonNullable))?;
+    StructFields::new(alloc, names(alloc)?, dtypes)
+}
+
+/// The zones of a column `x` of i64 in blocks of two rows and of one, without statistics.
+fn zones(alloc: Global) -> Result<ZoneMap, ZoneError> {
+    let lengths = Vec::from_slice(alloc, &[2, 1])?;
+    ZoneMap::try_new(alloc, fields(alloc)?, lengths, Vec::new(alloc))
+}
+
+/// The store of these blocks with those zones, that fails at no read.
+fn store(alloc: Global, first: Block, second: Block) -> Stored {
+    match (zones(alloc), two(alloc, first, second)) {
+        (Ok(zones), Ok(blocks)) => {
+            Some(MemoryStore::try_new(alloc, zones, blocks, Vec::new(alloc)))
+        }
+        _ => None,
     }
-    Ok(MemoryStore::try_new(alloc, zones, blocks, fail)?)
+}
+
+/// Whether a store is refused so, or not at all.
+fn is_refused(store: Stored, want: &Option<TableError>) -> bool {
+    match (&store, want) {
+        (Some(Ok(_)), None) => true,
+        (Some(Err(why)), Some(want)) => *why == *want,
+        _ => false,
+    }
+}
+
+const ONE: &[i128] = &[3];
+
+const TWO: &[i128] = &[1, 2];
+
+/// The numbers of two blocks, the second of this type, and why they are no table.
+const BLOCKS: [(PType, &[i128], &[i128], Option<TableError>); 4] = [
+    (PType::I64, TWO, ONE, None),
+    (PType::I64, ONE, TWO, Some(TableError::WrongLength)),
+    (PType::I32, TWO, ONE, Some(TableError::WrongType)),
+    (PType::I32, TWO, TWO, Some(TableError::WrongLength)),
+];
+
+#[test]
+fn stores_are_refused_for_lengths_before_types(rt: HostRuntime) {
+    let alloc = rt.alloc();
+    for (p, first, second, want) in &BLOCKS {
+        let first = block(alloc, PType::I64, first);
+        assert!(rt; is_refused(store(alloc, first, block(alloc, *p, second)), want));
+    }
 }
 
 /// Whether the rows are these numbers.
-fn are_rows(report: &ScanReport, numbers: &[i128]) -> bool {
-    let rows = report.rows.as_slice();
+fn are_rows(rows: &[ScalarValue], numbers: &[i128]) -> bool {
     if rows.len() != numbers.len() {
         return false;
     }
@@ -101,77 +130,50 @@ fn are_rows(report: &ScanReport, numbers: &[i128]) -> bool {
     true
 }
 
-/// The refusal of a scan of these bytes, where nothing was read.
-fn refusal(
-    alloc: Global,
-    registry: &ExprRegistry,
-    filter: &[u8],
-    store: &mut MemoryStore,
-) -> Option<ScanError> {
-    match scan(alloc, registry, filter, &PROJECTION, store) {
-        Ok(_) => None,
-        Err(error) => Some(error),
+/// Whether a scan reports these rows.
+fn reports(report: Result<ScanReport, ScanError>, numbers: &[i128]) -> bool {
+    match &report {
+        Ok(report) => are_rows(report.rows.as_slice(), numbers),
+        Err(_) => false,
     }
 }
 
-/// What a store of these numbers is refused for, where its zones have blocks of two rows and of one of i64.
-fn table_refusal(
-    alloc: Global,
-    p: PType,
-    first: &[i128],
-    second: &[i128],
-) -> Result<Option<TableError>, Fail> {
-    let zones = zones(alloc, PType::I64, Vec::new(alloc))?;
-    let mut blocks = Vec::new(alloc);
-    blocks.push(block(alloc, PType::I64, first)?)?;
-    blocks.push(block(alloc, p, second)?)?;
-    match MemoryStore::try_new(alloc, zones, blocks, Vec::new(alloc)) {
-        Ok(_) => Ok(None),
-        Err(error) => Ok(Some(error)),
-    }
-}
-
-#[test]
-fn stores_are_refused_for_lengths_before_types(rt: HostRuntime) -> Result<(), Fail> {
-    let alloc = rt.alloc();
-    let two = [1, 2];
-    let one = [3];
-    for (p, first, second, refusal) in [
-        (PType::I64, two.as_slice(), one.as_slice(), None),
-        (
-            PType::I64,
-            one.as_slice(),
-            two.as_slice(),
-            Some(TableError::WrongLength),
-        ),
-        (
-            PType::I32,
-            two.as_slice(),
-            one.as_slice(),
-            Some(TableError::WrongType),
-        ),
-        (
-            PType::I32,
-            two.as_slice(),
-            two.as_slice(),
-            Some(TableError::WrongLength),
-        ),
-    ] {
-        assert_eq!(rt; table_refusal(alloc, p, first, second)?, refusal);
-    }
-    Ok(())
-}
-
-#[test]
-fn ample(rt: HostRuntime) -> Result<(), Fail> {
-    let alloc = rt.alloc();
+/// The scan of the two texts.
+fn scanned(alloc: Global, store: &mut MemoryStore) -> Result<ScanReport, ScanError> {
     let registry = <ExprRegistry as ExprRegistryExt>::default();
-    let mut store = store(alloc, PType::I64, [11, 2], [3], Vec::new(alloc), false)?;
-    let report = scan(alloc, &registry, &FILTER, &PROJECTION, &mut store)?;
-    assert!(rt; are_rows(&report, &[11]));
-    let x = col(alloc, FieldName::new(alloc, "x")?)?;
-    let above = gt(alloc, x.clone()?, lit(alloc, 2i64)?)?;
-    let report = scan_exprs(alloc, &above, &x, &[], &mut store)?;
-    assert!(rt; are_rows(&report, &[11, 3]));
-    Ok(())
+    scan(alloc, &registry, &FILTER, &PROJECTION, store)
+}
+
+/// `$.x`
+fn x(alloc: Global) -> Mem<ExprRef> {
+    col(alloc, FieldName::new(alloc, "x")?)
+}
+
+/// `($.x > 2i64)`
+fn above(alloc: Global) -> Mem<ExprRef> {
+    gt(alloc, x(alloc)?, lit(alloc, 2i64)?)
+}
+
+/// The scan of two expressions without slots.
+fn scanned_exprs(alloc: Global, store: &mut MemoryStore) -> Result<ScanReport, ScanError> {
+    scan_exprs(alloc, &above(alloc)?, &x(alloc)?, &[], store)
+}
+
+/// Whether the two scans, one after the other, report their rows of the store.
+fn scans(alloc: Global, store: Stored) -> bool {
+    match store {
+        Some(Ok(mut store)) => {
+            reports(scanned(alloc, &mut store), &[11])
+                && reports(scanned_exprs(alloc, &mut store), &[11, 3])
+        }
+        _ => false,
+    }
+}
+
+#[test]
+fn ample(rt: HostRuntime) {
+    let alloc = rt.alloc();
+    let first = block(alloc, PType::I64, &[11, 2]);
+    let second = block(alloc, PType::I64, &[3]);
+    assert!(rt; scans(alloc, store(alloc, first, second)));
 }
