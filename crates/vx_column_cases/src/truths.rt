@@ -1,7 +1,7 @@
 //! Boolean columns, which are kept as words of truths, beside plain loops, at lengths around those of words.
 
 use crate::calls::{and_gives, compare_gives, filter_gives, invert_gives, is_null_gives, or_gives};
-use crate::columns::{Made, constant, only, truths, truths_of, typed};
+use crate::columns::{Made, constant, only, truths, typed};
 use crate::counted::counts;
 use crate::kept::{differ, same};
 use std::alloc::Global;
@@ -180,28 +180,38 @@ fn truths_at_lengths_of_words(rt: HostRuntime) {
     }
 }
 
-/// One true row, as one value.
-fn one_value(alloc: Global) -> Made {
-    constant(alloc, Scalar::from(true), 1)
+/// How many rows the columns of one truth have, and the last of them.
+const ROWS: [(usize, usize); 3] = [(64, 63), (65, 64), (129, 128)];
+
+/// True at so many rows, as one value.
+fn one_value(alloc: Global, len: usize) -> Made {
+    constant(alloc, Scalar::from(true), len)
 }
 
-/// One true row of a type that isn't nullable.
-fn one_truth(alloc: Global) -> Made {
-    truths_of(alloc, [Some(true)].as_slice(), Nullability::NonNullable)
+/// True at so many rows but one, written out.
+fn all_but(alloc: Global, len: usize, row: usize) -> Made {
+    let mut values = Vec::new(alloc);
+    for i in 0..len {
+        values.push(Some(i != row))?;
+    }
+    ColumnRef::bool(alloc, values, Nullability::NonNullable)
+}
+
+/// True at one row, made of a value.
+fn one_row(alloc: Global) -> Made {
+    let dtype = DType::Bool(Nullability::NonNullable);
+    typed(alloc, dtype, only(alloc, ScalarValue::Bool(true)))
 }
 
 #[test]
 fn truths_as_one_value_and_written_out(rt: HostRuntime) {
     let alloc = rt.alloc();
-    let dtype = DType::Bool(Nullability::NonNullable);
-    assert!(rt; same(one_value(alloc), one_truth(alloc)));
-    assert!(rt;
-        same(
-            one_truth(alloc),
-            typed(alloc, dtype, only(alloc, ScalarValue::Bool(true)))
-        )
-    );
-    assert!(rt; differ(one_truth(alloc), truths(alloc, [Some(true)].as_slice())));
-    assert!(rt; differ(left(alloc, 65), right(alloc, 65)));
-    assert!(rt; same(right(alloc, 65), right(alloc, 65)));
+    for &(len, last) in &ROWS {
+        assert!(rt; same(one_value(alloc, len), all_but(alloc, len, len)));
+        assert!(rt; differ(one_value(alloc, len), all_but(alloc, len, last)));
+        assert!(rt; differ(all_but(alloc, len, len), all_but(alloc, len, last)));
+    }
+    assert!(rt; same(one_value(alloc, 1), one_row(alloc)));
+    assert!(rt; same(all_but(alloc, 1, 1), one_row(alloc)));
+    assert!(rt; differ(one_row(alloc), truths(alloc, [Some(true)].as_slice())));
 }
