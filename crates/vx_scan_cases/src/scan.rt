@@ -57,18 +57,13 @@ fn two(alloc: Global, first: Block, second: Block) -> Result<Vec<Vec<ColumnRef>>
     Ok(blocks)
 }
 
-/// The name `x` alone.
-fn names(alloc: Global) -> Mem<FieldNames> {
-    let mut names = Vec::new(alloc);
-    names.push(FieldName::new(alloc, "x")?)?;
-    FieldNames::new(alloc, names)
-}
-
 /// A column `x` of i64.
 fn fields(alloc: Global) -> Mem<StructFields> {
+    let mut names = Vec::new(alloc);
+    names.push(FieldName::new(alloc, "x")?)?;
     let mut dtypes = Vec::new(alloc);
     dtypes.push(DType::Primitive(PType::I64, NonNullable))?;
-    StructFields::new(alloc, names(alloc)?, dtypes)
+    StructFields::new(alloc, FieldNames::new(alloc, names)?, dtypes)
 }
 
 /// The zones of a column `x` of i64 in blocks of two rows and of one, without statistics.
