@@ -13,28 +13,22 @@ use Rattle.vx_words.specs.Words.{bit_of, truth_of_bits, truth_of_words, truth_va
 use Rattle.vx_words.specs.Truths.{AreTidy, truths_of_words, vals_of, words_for}
 use Rattle.vx_numbers.specs.Numbers.{on_both, compared, null_test}
 use Rattle.vx_numbers.specs.Lanes.{value_at, number_in, numbers_of, AreTidyNumbers, AreBits, holds_at, holds_with}
-use Rattle.vx_numbers.proofs.PlaceLemmas.{same_maps, length_seen}
+use Rattle.vx_words.proofs.BitLemmas.{and_false, and_true}
+use Rattle.vx_words.proofs.TruthLemmas.{same_maps}
+use Rattle.vx_numbers.proofs.PlaceLemmas.{length_seen}
 
 -- ---- bits of one place
-beside_true : (x : Bool) → (x && true) ≡ x
-beside_true false = refl
-beside_true true = refl
-
-beside_false : (x : Bool) → (x && false) ≡ false
-beside_false false = refl
-beside_false true = refl
-
 -- where both numbers are there, the answer of the rule
 both_table : (rule : ℤ → ℤ → Bool) (a b : ℤ) (x y : Bool)
     → truth_of_bits (x && y) (rule a b && (x && y)) ≡ on_both rule (cond x (Some a) None) (cond y (Some b) None)
 both_table rule a b false false = refl
 both_table rule a b false true = refl
 both_table rule a b true false = refl
-both_table rule a b true true = ap Some (beside_true (rule a b))
+both_table rule a b true true = ap Some (and_true (rule a b))
 
 one_table : (rule : ℤ → ℤ → Bool) (a b : ℤ) (x : Bool) → truth_of_bits x (rule a b && x) ≡ on_both rule (cond x (Some a) None) (Some b)
 one_table rule a b false = refl
-one_table rule a b true = ap Some (beside_true (rule a b))
+one_table rule a b true = ap Some (and_true (rule a b))
 
 -- ---- two lists that were seen by their words and values
 module _ (op : CompareOperator) (lv rv v t b : List ℕ) (ls rs : List ℤ) (n : ℕ) (lns rns : List (Option ℤ)) (size : length ls ≡ n)
@@ -46,7 +40,7 @@ module _ (op : CompareOperator) (lv rv v t b : List ℕ) (ls rs : List ℤ) (n :
     valid_length = p ∙ left.valid_length ∙ ap words_for size;
     values_length = q ∙ tests.count;
     past = λ i h. valid i ∙ ap (λ x. x && bit_of rv i) (left.past i (omega arith));
-    bare = λ i low e. values i ∙ ap (λ x. bit_of t i && x) e ∙ beside_false (bit_of t i);
+    bare = λ i low e. values i ∙ ap (λ x. bit_of t i && x) e ∙ and_false (bit_of t i);
   }
 
   compared_at : (i : ℕ) → i < n → truth_of_words v b i ≡ compared op (number_in lv ls i) (number_in rv rs i)
@@ -75,7 +69,7 @@ module _ (op : CompareOperator) (v t b : List ℕ) (zs : List ℤ) (n : ℕ) (r 
     valid_length = tidy.valid_length ∙ ap words_for size;
     values_length = q ∙ tests.count;
     past = λ i h. tidy.past i (omega arith);
-    bare = λ i low e. values i ∙ ap (λ x. bit_of t i && x) e ∙ beside_false (bit_of t i);
+    bare = λ i low e. values i ∙ ap (λ x. bit_of t i && x) e ∙ and_false (bit_of t i);
   }
 
   compared_with_at : (i : ℕ) → i < n → truth_of_words v b i ≡ compared op (number_in v zs i) (Some r)

@@ -1,14 +1,15 @@
 -- Lists of numbers by their places.
-use Rattle.std.proofs.Common.{◌≡◌, ℕ, ◌+◌, ◌*◌, ◌<◌, List, [], ◌∷◌, ◌++◌, get_or, length, map, Bool, true, false, ◌&&◌, ◌||◌, eqb, cond, Option, Some, None, refl, ◌∙◌, sym, ap, arith, inl, inr, eq-eqb}
-use Rattle.std.proofs.lemmas.Bool.{cases_lt, cases_eq, ne_eqb}
+use Rattle.std.proofs.Common.{◌≡◌, ℕ, ◌+◌, ◌*◌, ◌<◌, List, [], ◌∷◌, ◌++◌, get_or, length, map, Bool, true, false, ◌&&◌, ◌||◌, eqb, cond, Option, Some, None, refl, ◌∙◌, sym, ap, arith, inl, inr}
+use Rattle.std.proofs.lemmas.Bool.{cases_lt, cases_eq}
 use Rattle.std.proofs.lemmas.List.{get_or-map, get_or_past, get_or_append_left, get_or_push, length_push, length-map, map-append}
-use Rattle.std.proofs.lemmas.List.FromFn.{fill_by_all, get_or-map-range_with_len, length-map-range_with_len, map-range_with_len_more}
+use Rattle.std.proofs.lemmas.List.FromFn.{get_or-map-range_with_len, length-map-range_with_len, map-range_with_len_more}
 use Rattle.std.specs.List.{range_with_len}
 use Rattle.std.specs.Option.{option_map}
 use Rattle.std.specs.Prelude.{ℤ, pos, is_some}
 use Rattle.vx_words.specs.Words.{bit_of}
 use Rattle.vx_words.specs.Truths.{words_for}
-use Rattle.vx_words.proofs.BitLemmas.{bit_of_past}
+use Rattle.vx_words.proofs.BitLemmas.{bit_of_past, at_new, elsewhere}
+use Rattle.vx_words.proofs.TruthLemmas.{same_maps}
 use Rattle.vx_numbers.specs.Lanes.{value_at, number_in, stored, numbers_of, AreTidyNumbers}
 
 pub length-numbers : (v : List ℕ) (zs : List ℤ) → length (numbers_of v zs) ≡ length zs
@@ -16,12 +17,6 @@ length-numbers v zs = length-map-range_with_len (number_in v zs) 0 (length zs)
 
 pub number_in_numbers : (v : List ℕ) (zs : List ℤ) (i : ℕ) → i < length zs → get_or (numbers_of v zs) i None ≡ number_in v zs i
 number_in_numbers v zs i h = get_or-map-range_with_len (number_in v zs) 0 (length zs) i i None h (omega arith)
-
--- two lists made from functions of the place are one where the functions agree
-pub same_maps : {X : Type 0} (d : X) (f g : ℕ → X) (n : ℕ) → ((i : ℕ) → i < n → f i ≡ g i) → map f (range_with_len 0 n) ≡ map g (range_with_len 0 n)
-same_maps d f g n each =
-    fill_by_all g (map f (range_with_len 0 n)) n d (length-map-range_with_len f 0 n)
-    (λ i h. get_or-map-range_with_len f 0 n i i d h (omega arith) ∙ each i h)
 
 -- ---- a list that was seen by its words and values
 module _ (v : List ℕ) (zs : List ℤ) (ns : List (Option ℤ)) (seen : numbers_of v zs ≡ ns) where
@@ -54,13 +49,6 @@ tidy_none = record {
 }
 
 -- ---- one number more
-at_new : (n : ℕ) (x y : Bool) → y ≡ false → ((eqb n n && x) || y) ≡ x
-at_new n false y e = rw (eq-eqb n n refl, e) refl
-at_new n true y e = rw (eq-eqb n n refl) refl
-
-elsewhere : (j n : ℕ) (x y : Bool) → (j ≡ n → ⊥) → ((eqb j n && x) || y) ≡ y
-elsewhere j n x y other = rw (ne_eqb j n other) refl
-
 stored_none : (t : Option ℤ) → is_some t ≡ false → stored t ≡ pos 0
 stored_none None e = refl
 stored_none (Some i) e = cc

@@ -8,6 +8,7 @@ use Rattle.std.specs.Simd.Lanes.{zip2}
 use Rattle.vx_dtype.specs.Fits.{in_range}
 use Rattle.vx_dtype.specs.declared.PType.{PType}
 use Rattle.vx_words.specs.Truths.{is_true}
+use Rattle.vx_words.proofs.BitLemmas.{and_false}
 use Rattle.vx_numbers.specs.Numbers.{NumberList, number_list, fits_ptype, all_in_range, on_both, total_in, if_in_range, kept_numbers}
 
 both_true : (x y : Bool) → (x && y) ≡ true → (x ≡ true) × (y ≡ true)
@@ -44,14 +45,10 @@ leaves_type : (p : PType) (s : Option ℤ) → None ≡ total_in p s → fits_pt
 leaves_type p None e = cc
 leaves_type p (Some i) e = total_missing (in_range p i) i e
 
-beside_false : (x : Bool) → (x && false) ≡ false
-beside_false false = refl
-beside_false true = refl
-
 fails_at : (p : PType) (ts : List (Option ℤ)) (i : ℕ) → i < length ts → fits_ptype p (get_or ts i None) ≡ false → all_in_range p ts ≡ false
 fails_at p [] i h f = absurd (omega arith)
 fails_at p (t ∷ ts) zero h f = ap (λ x. x && all_in_range p ts) f
-fails_at p (t ∷ ts) (suc i) h f = ap (λ x. fits_ptype p t && x) (fails_at p ts i (omega arith) f) ∙ beside_false (fits_ptype p t)
+fails_at p (t ∷ ts) (suc i) h f = ap (λ x. fits_ptype p t && x) (fails_at p ts i (omega arith) f) ∙ and_false (fits_ptype p t)
 
 module _ (p : PType) (ts : List (Option ℤ)) where
   pub totals_more : (i : ℕ) (t : Option ℤ) → i < length ts → Some t ≡ total_in p (get_or ts i None) → all_in_range p (take i ts) ≡ true

@@ -1,51 +1,29 @@
 -- The answers of a test at the places of lists, 64 places a word.
-use Rattle.std.proofs.Common.{◌≡◌, ℕ, ◌+◌, ◌*◌, ◌/◌, ◌%◌, ◌^◌, ◌<◌, ◌≤◌, List, [], ◌∷◌, ◌++◌, get_or, length, map, take, drop, Bool, true, false, ◌&&◌, ◌||◌, eqb, nat_lt, refl, ◌∙◌, sym, ap, arith, inl, inr, eq-eqb}
+use Rattle.std.proofs.Common.{◌≡◌, ℕ, ◌+◌, ◌*◌, ◌/◌, ◌%◌, ◌^◌, ◌<◌, ◌≤◌, List, [], ◌∷◌, ◌++◌, length, map, take, drop, Bool, true, false, ◌&&◌, ◌||◌, eqb, nat_lt, refl, ◌∙◌, sym, ap, arith, inl, inr, eq-eqb}
 use Rattle.std.proofs.lemmas.Bool.{cases_lt, cases_eq, lt-ltb, le-ltb, ne_eqb}
 use Rattle.std.proofs.lemmas.List.{get_or_append_left, get_or_push, length_push, take-map, drop-map, get_or-take, get_or-drop}
 use Rattle.std.proofs.lemmas.Nat.{one_shl}
-use Rattle.std.proofs.lemmas.Nat.Bits.{bit_at-zero, bit_at-pow_same, bit_at-pow_other}
+use Rattle.std.proofs.lemmas.Nat.Bits.{bit_at-pow_same, bit_at-pow_other}
 use Rattle.std.proofs.lemmas.Simd.{length-chunk}
 use Rattle.std.specs.Int.{from_bool}
 use Rattle.std.specs.Ordering.{int_cmp}
-use Rattle.std.specs.Prelude.{ℤ, pos, bit_and, bit_or}
+use Rattle.std.specs.Prelude.{ℤ, pos, bit_or}
 use Rattle.vx_dtype.specs.declared.CompareOperator.{CompareOperator}
 use Rattle.vx_dtype.specs.Order.{meets}
 use Rattle.vx_words.specs.Words.{word_bit, bit_of}
-use Rattle.vx_words.proofs.BitLemmas.{bit_of_past}
-use Rattle.vx_words.proofs.WordLemmas.{word_bit-and, word_bit-or}
+use Rattle.vx_words.proofs.BitLemmas.{bit_of_past, zero_bit, and_false, or_false}
+use Rattle.vx_words.proofs.WordLemmas.{word_bit-or}
 use Rattle.vx_numbers.specs.Lanes.{value_at, holds_at, holds_with, AreBits}
 
--- ---- the bits that are set in both lists
-pub both_bits : (ls rs ws : List ℕ) → length rs ≡ length ls → length ws ≡ length ls
-    → ((k : ℕ) → k < length ls → get_or ws k 0 ≡ bit_and (get_or ls k 0) (get_or rs k 0))
-    → (i : ℕ) → bit_of ws i ≡ (bit_of ls i && bit_of rs i)
-both_bits ls rs ws p q each i =
-    elim (cases_lt (i / 64) (length ls)) [
-      | inl low ↦ ap (λ x. word_bit x (i % 64)) (each (i / 64) low) ∙ word_bit-and (get_or ls (i / 64) 0) (get_or rs (i / 64) 0) (i % 64)
-      | inr high ↦
-          bit_of_past ws i (omega arith) ∙ sym (rw (bit_of_past ls i (omega arith)) refl)
-    ]
-
 -- ---- one place more of a word
-zero_bit : (i : ℕ) → word_bit 0 i ≡ false
-zero_bit i = ap (λ x. eqb x 1) (bit_at-zero i)
-
-none_of : (x : Bool) → (x && false) ≡ false
-none_of false = refl
-none_of true = refl
-
 shifted_bit : (b : Bool) (j i : ℕ) → j < 64 → word_bit (from_bool b * 2 ^ j % 2 ^ 64) i ≡ (eqb i j && b)
-shifted_bit false j i h = ap (λ x. word_bit x i) (omega arith) ∙ zero_bit i ∙ sym (none_of (eqb i j))
+shifted_bit false j i h = zero_bit (0 * 2 ^ j % 2 ^ 64) i (omega arith) ∙ sym (and_false (eqb i j))
 shifted_bit true j i h =
     ap (λ x. word_bit x i) (one_shl j 64 h) ∙
     elim (cases_eq i j) [
       | inl same ↦ ap (λ x. word_bit (2 ^ j) x) same ∙ ap (λ x. eqb x 1) (bit_at-pow_same j) ∙ sym (rw (eq-eqb i j same) refl)
       | inr other ↦ ap (λ x. eqb x 1) (bit_at-pow_other j i other) ∙ sym (rw (ne_eqb i j other) refl)
     ]
-
-beside_false : (x : Bool) → (x || false) ≡ x
-beside_false false = refl
-beside_false true = refl
 
 pub one_bit_more : (p : ℕ → Bool) (w j n : ℕ) (b : Bool) → j < 64 → n ≡ from_bool b → b ≡ p j
     → ((i : ℕ) → word_bit w i ≡ (nat_lt i j && p i))
@@ -56,7 +34,7 @@ one_bit_more p w j n b h e t before i =
     ∙ λ k. before i k || (ap (λ x. word_bit (x * 2 ^ j % 2 ^ 64) i) e ∙ shifted_bit b j i h) k in
     both ∙
     elim (cases_lt i j) [
-      | inl low ↦ rw (lt-ltb i j low, ne_eqb i j (λ s. absurd (omega arith)), lt-ltb i (j + 1) (omega arith)) (beside_false (p i))
+      | inl low ↦ rw (lt-ltb i j low, ne_eqb i j (λ s. absurd (omega arith)), lt-ltb i (j + 1) (omega arith)) (or_false (p i))
       | inr high ↦
           elim (cases_eq i j) [
             | inl same ↦ rw (le-ltb i j high, eq-eqb i j same, lt-ltb i (j + 1) (omega arith)) (t ∙ ap p (sym same))

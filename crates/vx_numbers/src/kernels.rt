@@ -3,11 +3,11 @@ ghost use Rattle.std.specs.Prelude.{◌≡◌, ℕ, ◌+◌, ◌*◌, ◌<◌, �
 ghost use Rattle.vx_words.specs.Words.{word_bit};
 ghost use Rattle.vx_numbers.specs.Lanes.{AreBits, holds_at, holds_with};
 
-use crate::bits::PLACES;
 use crate::operators::Operator;
 use crate::width::Width;
 use std::alloc::Global;
 use vx_dtype::Mem;
+use vx_words::PLACES;
 
 /// Of up to 64 places, where the comparison is true: the least bit is that of the first.
 #[inline(always)]

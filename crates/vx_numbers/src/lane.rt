@@ -6,7 +6,6 @@ ghost use Rattle.vx_numbers.specs.Numbers.{all_in_range, fits_ptype, compared, n
 ghost use Rattle.vx_numbers.specs.NumbersEqual.{number_eq};
 ghost use Rattle.vx_numbers.specs.Lanes.{numbers_of, number_in, stored, AreTidyNumbers};
 
-use crate::bits::{bit, both, push_bit};
 use crate::kernels::{words, words_with};
 use crate::operators::Operator;
 use crate::totals::{Total, total_of};
@@ -14,7 +13,7 @@ use crate::width::Width;
 use std::alloc::{AllocError, Global};
 use std::marker::Model;
 use vx_dtype::Mem;
-use vx_words::Truths;
+use vx_words::{Truths, bit, both, push_bit};
 
 /// Numbers of one width, null at some places.
 #[derive(Debug, Drop)]

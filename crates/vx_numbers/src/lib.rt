@@ -1,7 +1,6 @@
 //! Lists of integers of one type, kept in the type's own width beside words of validity.
 #![tactic(auto)]
 
-mod bits;
 mod kernels;
 mod lane;
 mod numbers;

@@ -4,17 +4,52 @@ use Rattle.std.proofs.lemmas.Bool.{cases_lt, cases_eq, lt-ltb, le-ltb, ne_eqb}
 use Rattle.std.proofs.lemmas.List.{get_or_past, get_or-set_same, get_or-set_other, get_or-replicate, length-replicate, get_or_append_left, get_or_at, length-append}
 use Rattle.std.proofs.lemmas.Nat.{one_shl}
 use Rattle.std.proofs.lemmas.Nat.Bits.{bit_at-zero, bit_at_set_same, bit_at_set_other, bit_at_ones, bit_at_ones_above}
-use Rattle.std.specs.Prelude.{bit_or, replicate}
+use Rattle.std.specs.Prelude.{bit_and, bit_or, replicate}
 use Rattle.vx_words.specs.Words.{word_bit, bit_of}
+use Rattle.vx_words.proofs.WordLemmas.{word_bit-and}
 
-zero_bit : (word i : ℕ) → word ≡ 0 → word_bit word i ≡ false
+-- no bit of 0 is set
+pub zero_bit : (word i : ℕ) → word ≡ 0 → word_bit word i ≡ false
 zero_bit word i e = ap (λ x. word_bit x i) e ∙ ap (λ x. eqb x 1) (bit_at-zero i)
 
 -- no bit is set past the end
 pub bit_of_past : (ws : List ℕ) (i : ℕ) → 64 * length ws ≤ i → bit_of ws i ≡ false
 bit_of_past ws i h = zero_bit (get_or ws (i / 64) 0) (i % 64) (get_or_past ws (i / 64) 0 (omega arith))
 
+-- ---- two bits together
+pub and_false : (x : Bool) → (x && false) ≡ false
+and_false false = refl
+and_false true = refl
+
+pub and_true : (x : Bool) → (x && true) ≡ x
+and_true false = refl
+and_true true = refl
+
+pub or_false : (x : Bool) → (x || false) ≡ x
+or_false false = refl
+or_false true = refl
+
+-- the bits that are set in both lists
+pub both_bits : (ls rs ws : List ℕ) → length rs ≡ length ls → length ws ≡ length ls
+    → ((k : ℕ) → k < length ls → get_or ws k 0 ≡ bit_and (get_or ls k 0) (get_or rs k 0))
+    → (i : ℕ) → bit_of ws i ≡ (bit_of ls i && bit_of rs i)
+both_bits ls rs ws p q each i =
+    elim (cases_lt (i / 64) (length ls)) [
+      | inl low ↦ ap (λ x. word_bit x (i % 64)) (each (i / 64) low) ∙ word_bit-and (get_or ls (i / 64) 0) (get_or rs (i / 64) 0) (i % 64)
+      | inr high ↦
+          bit_of_past ws i (omega arith) ∙ sym (rw (bit_of_past ls i (omega arith)) refl)
+    ]
+
 -- ---- a bit that is set
+-- at the new place, whose bit wasn't set
+pub at_new : (n : ℕ) (x y : Bool) → y ≡ false → ((eqb n n && x) || y) ≡ x
+at_new n false y e = rw (eq-eqb n n refl, e) refl
+at_new n true y e = rw (eq-eqb n n refl) refl
+
+-- at all other places
+pub elsewhere : (j n : ℕ) (x y : Bool) → (j ≡ n → ⊥) → ((eqb j n && x) || y) ≡ y
+elsewhere j n x y other = rw (ne_eqb j n other) refl
+
 pub bit_of-set : (ws : List ℕ) (i j : ℕ) (bit : Bool) → bit ≡ true → i < 64 * length ws
     → bit_of (set ws (i / 64) (bit_or (get_or ws (i / 64) 0) (1 * 2 ^ (i % 64) % 2 ^ 64))) j ≡ ((eqb j i && bit) || bit_of ws j)
 bit_of-set ws i j bit is_set h =

@@ -3,10 +3,11 @@ use Rattle.std.proofs.Common.{◌≡◌, ℕ, ◌+◌, ◌-◌, ◌*◌, ◌/◌
 use Rattle.std.proofs.lemmas.Bool.{cases_lt}
 use Rattle.std.proofs.lemmas.List.{get_or_past}
 use Rattle.std.proofs.lemmas.Nat.{shr-shr, shr_le}
-use Rattle.std.proofs.lemmas.Nat.Bits.{bit_at-trailing_zeros, bit_at-zero, bit_at_above}
+use Rattle.std.proofs.lemmas.Nat.Bits.{bit_at-trailing_zeros, bit_at_above}
 use Rattle.std.specs.Int.{bit_at, trailing_zeros}
 use Rattle.vx_words.specs.Words.{word_bit, bit_of, truth_of_bits, IsFirstPlace, IsNextPlace}
 use Rattle.vx_words.specs.Truths.{AreTidy, truths_of_words, is_true, true_at}
+use Rattle.vx_words.proofs.BitLemmas.{zero_bit}
 use Rattle.vx_words.proofs.TruthLemmas.{bare_of_tidy, length_seen, truth_seen, place_within}
 
 pos_of_not_zero : (n : ℕ) → (n ≡ 0 → ⊥) → 0 < n
@@ -17,10 +18,6 @@ set_bit_of x e = ap (λ y. eqb y 1) e
 
 clear_bit_of : (x : ℕ) → x ≡ 0 → eqb x 1 ≡ false
 clear_bit_of x e = ap (λ y. eqb y 1) e
-
--- no bit of 0 is set
-zero_word : (word i : ℕ) → word ≡ 0 → word_bit word i ≡ false
-zero_word word i e = ap (λ x. word_bit x i) e ∙ clear_bit_of _ (bit_at-zero i)
 
 -- a word of 64 bits has none from 64 on
 set_within : (word i : ℕ) → word < 2 ^ 64 → bit_at word i ≡ 1 → i < 64
@@ -47,7 +44,7 @@ module _ (ws : List ℕ) (from rest : ℕ) (fits : Fits w64 (get_or ws (from / 6
   rest_at i j e small = at_word ws (from / 64) (from % 64 + j) i (omega arith) small ∙ ap (λ x. eqb x 1) (sym (rest_bit j))
 
   pub none_in_rest : rest ≡ 0 → (i : ℕ) → from ≤ i → i < 64 * (from / 64 + 1) → bit_of ws i ≡ false
-  none_in_rest e i lo hi = rest_at i (i - from) (omega arith) (omega arith) ∙ zero_word rest (i - from) e
+  none_in_rest e i lo hi = rest_at i (i - from) (omega arith) (omega arith) ∙ zero_bit rest (i - from) e
 
   pub first_in_rest : (t : ℕ) → t ≡ trailing_zeros w64 rest → (rest ≡ 0 → ⊥) → IsFirstPlace (bit_of ws) (64 * length ws) from (from + t)
   first_in_rest t e other =
@@ -75,7 +72,7 @@ module _ (ws : List ℕ) (from k : ℕ) (within : k < length ws) (none : (i : �
   none_in_word e i lo hi =
       elim (cases_lt i (64 * k)) [
         | inl low ↦ none i lo low
-        | inr high ↦ in_word i high hi ∙ zero_word (get_or ws k 0) (i - 64 * k) e
+        | inr high ↦ in_word i high hi ∙ zero_bit (get_or ws k 0) (i - 64 * k) e
       ]
 
   pub first_in_word : (t : ℕ) → Fits w64 (get_or ws k 0) → from ≤ 64 * k → t ≡ trailing_zeros w64 (get_or ws k 0)

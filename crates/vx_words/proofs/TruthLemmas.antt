@@ -1,6 +1,6 @@
 -- Lists of truths by their words.
-use Rattle.std.proofs.Common.{◌≡◌, ℕ, ◌+◌, ◌*◌, ◌<◌, ◌≤◌, List, [], ◌∷◌, ◌++◌, get_or, length, map, Bool, true, false, ◌&&◌, ◌||◌, eqb, nat_lt, Option, Some, None, refl, ◌∙◌, sym, ap, subst, arith, inl, inr, eq-eqb}
-use Rattle.std.proofs.lemmas.Bool.{cases_lt, cases_eq, lt-ltb, le-ltb, ne_eqb}
+use Rattle.std.proofs.Common.{◌≡◌, ℕ, ◌+◌, ◌*◌, ◌<◌, ◌≤◌, List, [], ◌∷◌, ◌++◌, get_or, length, map, Bool, true, false, ◌&&◌, ◌||◌, eqb, nat_lt, Option, Some, None, refl, ◌∙◌, sym, ap, subst, arith, inl, inr}
+use Rattle.std.proofs.lemmas.Bool.{cases_lt, cases_eq, lt-ltb, le-ltb}
 use Rattle.std.proofs.lemmas.List.{length-replicate, get_or-replicate}
 use Rattle.std.proofs.lemmas.List.FromFn.{fill_by_all, get_or-map-range_with_len, length-map-range_with_len, map-range_with_len_more}
 use Rattle.std.proofs.lemmas.Simd.{zip2_of_maps, map-map}
@@ -10,7 +10,7 @@ use Rattle.std.specs.Simd.Lanes.{zip2}
 use Rattle.vx_dtype.specs.Values.{Val, null_val}
 use Rattle.vx_words.specs.Words.{bit_of, truth_of_bits, truth_of_words, truth_val, val_of_words, AreBareUnderNull}
 use Rattle.vx_words.specs.Truths.{AreTidy, truths_of_words, vals_of, words_for}
-use Rattle.vx_words.proofs.BitLemmas.{bit_of_past}
+use Rattle.vx_words.proofs.BitLemmas.{bit_of_past, at_new, elsewhere}
 
 -- ---- lists by their places
 pub length-truths : (v b : List ℕ) (n : ℕ) → length (truths_of_words v b n) ≡ n
@@ -71,13 +71,6 @@ tidy_none = record {
 }
 
 -- ---- one truth more
-at_new : (n : ℕ) (x y : Bool) → y ≡ false → ((eqb n n && x) || y) ≡ x
-at_new n false y e = rw (eq-eqb n n refl, e) refl
-at_new n true y e = rw (eq-eqb n n refl) refl
-
-elsewhere : (j n : ℕ) (x y : Bool) → (j ≡ n → ⊥) → ((eqb j n && x) || y) ≡ y
-elsewhere j n x y other = rw (ne_eqb j n other) refl
-
 unset : (t : Option Bool) → is_some t ≡ false → unwrap_or t false ≡ false
 unset None e = refl
 unset (Some b) e = cc

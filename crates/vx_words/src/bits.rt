@@ -8,10 +8,10 @@ use std::alloc::Global;
 use vx_dtype::Mem;
 
 /// How many places a word has.
-const PLACES: usize = 64;
+pub const PLACES: usize = 64;
 
-/// The bit at a place.
-pub(crate) fn bit(words: &[u64], i: usize) -> bool
+/// The bit at a place: bit i % 64 of word i / 64, counted from the least.
+pub fn bit(words: &[u64], i: usize) -> bool
     requires { i < 64 * length words.now }
     ensures { result ≡ bit_of words.now i }
 {
@@ -75,7 +75,7 @@ pub(crate) fn make_room(words: &mut Vec<u64>, len: usize) -> Mem<()>
 }
 
 /// Makes room for one place more than the first `len`, and sets its bit, if it is to be.
-pub(crate) fn push_bit(words: &mut Vec<u64>, len: usize, bit: bool) -> Mem<()>
+pub fn push_bit(words: &mut Vec<u64>, len: usize, bit: bool) -> Mem<()>
     requires { length words.old.items ≡ words_for len }
     ensures lengths { IfOk result (λ _. length words.new.items ≡ words_for (len + 1)) }
     ensures bits { IfOk result (λ _. (j : ℕ) → bit_of words.new.items j ≡ ((j == len && bit) || bit_of words.old.items j)) }
@@ -83,6 +83,19 @@ pub(crate) fn push_bit(words: &mut Vec<u64>, len: usize, bit: bool) -> Mem<()>
     make_room(words, len)?;
     set_bit(words, len, bit);
     Ok(())
+}
+
+/// The bits that are set in both lists, one as long as the other.
+pub fn both(alloc: Global, left: &[u64], right: &[u64]) -> Mem<Vec<u64>>
+    requires { length right.now ≡ length left.now }
+    ensures lengths { IfOk result (λ words. length words.items ≡ length left.now) }
+    ensures bits { IfOk result (λ words. (i : ℕ) → bit_of words.items i ≡ (bit_of left.now i && bit_of right.now i)) }
+{
+    let mut words = Vec::with_capacity(alloc, left.len())?;
+    'each: for k in 0..left.len() {
+        words.push(left[k] & right[k])?;
+    }
+    Ok(words)
 }
 
 /// Words with the bits of the first `len` places set.

@@ -8,7 +8,8 @@ use std::simd::Simd;
 /// How many words a vector has.
 const LANES: usize = 4;
 
-/// Whether both sides hold, place by place, by Kleene's logic: false beside anything is false, true beside true is true, all else is null. Each pair of lists holds truths: the first has the bits of validity, the second those of the values.
+/// Whether both sides hold, place by place, by Kleene's logic: false beside anything is false, true beside true is true, all else is null. Each pair
+/// of lists holds truths: the first has the bits of validity, the second those of the values.
 pub fn and_words(lv: &[u64], lb: &[u64], rv: &[u64], rb: &[u64], ov: &mut [u64], ob: &mut [u64])
     requires left { length lb.now ≡ length lv.now }
     requires right { (length rv.now ≡ length lv.now) × (length rb.now ≡ length lv.now) }
@@ -56,7 +57,8 @@ fn and_at<const N: usize>(
     values.copy_to_slice(&mut ob[k..]);
 }
 
-/// Whether one side holds, place by place, by Kleene's logic: true beside anything is true, false beside false is false, all else is null. Each pair of lists holds truths: the first has the bits of validity, the second those of the values.
+/// Whether one side holds, place by place, by Kleene's logic: true beside anything is true, false beside false is false, all else is null. Each pair
+/// of lists holds truths: the first has the bits of validity, the second those of the values.
 pub fn or_words(lv: &[u64], lb: &[u64], rv: &[u64], rb: &[u64], ov: &mut [u64], ob: &mut [u64])
     requires left { length lb.now ≡ length lv.now }
     requires right { (length rv.now ≡ length lv.now) × (length rb.now ≡ length lv.now) }

@@ -54,7 +54,9 @@ impl Truths {
         Ok(Truths::of_words(len, valid, values))
     }
 
-    /// The first `len` truths of two lists of words. Bit i % 64 of word i / 64, counted from the least, stands for place i: in `valid` whether there is a truth, in `values` whether it is true. Each list has as many words as the places need, and no bit is set past them, nor in `values` where there is no truth.
+    /// The first `len` truths of two lists of words. Bit i % 64 of word i / 64, counted from the least, stands for place i: in `valid` whether there
+    /// is a truth, in `values` whether it is true. Each list has as many words as the places need, and no bit is set past them, nor in `values`
+    /// where there is no truth.
     pub fn of_words(len: usize, valid: Vec<u64>, values: Vec<u64>) -> Truths
         requires { AreTidy len valid.items values.items }
         ensures { result ≡ truths_of_words valid.items values.items len }
@@ -62,7 +64,8 @@ impl Truths {
         Truths { len, valid, values }
     }
 
-    /// The words of validity and those of the values: bit i % 64 of word i / 64, counted from the least, says of place i whether there is a truth, and whether it is true.
+    /// The words of validity and those of the values: bit i % 64 of word i / 64, counted from the least, says of place i whether there is a truth,
+    /// and whether it is true.
     pub fn words(&self) -> (&[u64], &[u64])
         ensures truths { truths_of_words result.0.now result.1.now (length self.now) ≡ self.now }
         ensures tidy { AreTidy (length self.now) result.0.now result.1.now }

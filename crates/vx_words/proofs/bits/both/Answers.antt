@@ -1,6 +1,6 @@
 use Rattle.std.proofs.Common.{arith}
-use Rattle.vx_numbers.proofs.TestBits.{both_bits}
-use Rattle.vx_numbers.proofs.bits.both.Goals as goal
+use Rattle.vx_words.proofs.BitLemmas.{both_bits}
+use Rattle.vx_words.proofs.bits.both.Goals as goal
 
 pub returns-clause-bits : goal.returns-clause-bits
 returns-clause-bits c =
