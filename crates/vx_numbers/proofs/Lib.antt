@@ -2,3 +2,4 @@ pub mod PlaceLemmas
 pub mod TestBits
 pub mod ComparisonLemmas
 pub mod RangeLemmas
+pub mod MaskLemmas

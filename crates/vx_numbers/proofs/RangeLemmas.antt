@@ -3,13 +3,13 @@ use Rattle.std.proofs.Common.{◌≡◌, ℕ, ◌+◌, ◌<◌, ◌≤◌, List,
 use Rattle.std.proofs.lemmas.List.{take_more, take_all}
 use Rattle.std.proofs.lemmas.List.Folds.{list_all-append}
 use Rattle.std.specs.Option.{option_map}
-use Rattle.std.specs.Prelude.{ℤ, zero, suc}
+use Rattle.std.specs.Prelude.{ℤ, zero, suc, replicate}
 use Rattle.std.specs.Simd.Lanes.{zip2}
 use Rattle.vx_dtype.specs.Fits.{in_range}
 use Rattle.vx_dtype.specs.declared.PType.{PType}
 use Rattle.vx_words.specs.Truths.{is_true}
 use Rattle.vx_words.proofs.BitLemmas.{and_false}
-use Rattle.vx_numbers.specs.Numbers.{NumberList, number_list, fits_ptype, all_in_range, on_both, total_in, if_in_range, kept_numbers}
+use Rattle.vx_numbers.specs.Numbers.{NumberList, number_list, fits_ptype, all_in_range, on_both, total_in, if_in_range, kept_numbers, masked_number}
 
 both_true : (x y : Bool) → (x && y) ≡ true → (x ≡ true) × (y ≡ true)
 both_true true y e = (refl, e)
@@ -20,6 +20,10 @@ kept_first : (p : PType) (keep : Bool) (n : Option ℤ) (ns : List (Option ℤ))
 kept_first p true n ns f e = rw f e
 kept_first p false n ns f e = e
 
+masked_fits : (p : PType) (n : Option ℤ) (hidden : Bool) → fits_ptype p n ≡ true → fits_ptype p (cond hidden None n) ≡ true
+masked_fits p n true e = refl
+masked_fits p n false e = e
+
 pub kept_in_range : (p : PType) (ns : List (Option ℤ)) (ks : List (Option Bool)) → all_in_range p ns ≡ true
     → all_in_range p (kept_numbers ns ks) ≡ true
 kept_in_range p [] ks e = refl
@@ -27,6 +31,18 @@ kept_in_range p (n ∷ ns) [] e = refl
 kept_in_range p (n ∷ ns) (k ∷ ks) e =
     let fits = both_true (fits_ptype p n) (all_in_range p ns) e in
     kept_first p (is_true k) n (kept_numbers ns ks) fits.0 (kept_in_range p ns ks fits.1)
+
+pub masked_in_range : (p : PType) (ns : List (Option ℤ)) (ts : List (Option Bool)) → all_in_range p ns ≡ true
+    → all_in_range p (zip2 masked_number ns ts) ≡ true
+masked_in_range p [] ts e = refl
+masked_in_range p (n ∷ ns) [] e = refl
+masked_in_range p (n ∷ ns) (t ∷ ts) e =
+    let fits = both_true (fits_ptype p n) (all_in_range p ns) e in
+    rw (masked_fits p n (is_true t) fits.0) (masked_in_range p ns ts fits.1)
+
+pub repeated_in_range : (p : PType) (n : Option ℤ) (len : ℕ) → fits_ptype p n ≡ true → all_in_range p (replicate len n) ≡ true
+repeated_in_range p n zero e = refl
+repeated_in_range p n (suc len) e = rw e (repeated_in_range p n len e)
 
 -- ---- totals, one after another
 total_there : (b : Bool) (i : ℤ) (t : Option ℤ) → Some t ≡ option_map Some (cond b (Some i) None) → (t ≡ Some i) × (b ≡ true)

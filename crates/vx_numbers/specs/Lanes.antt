@@ -11,24 +11,22 @@ use Rattle.vx_words.specs.Truths.{words_for}
 abbrev pub value_at : List ℤ → ℕ → ℤ
 value_at values i = slice_index_or values i (pos 0)
 
+-- the number that a value is where it is known, else none
+abbrev pub number_of : Bool → ℤ → Option ℤ
+number_of known value = cond known (Some value) None
+
 -- the number at a place: the value where the bit is set, else none
 abbrev pub number_in : List ℕ → List ℤ → ℕ → Option ℤ
-number_in valid values i = cond (bit_of valid i) (Some (value_at values i)) None
-
--- what stands among the values for a number: 0 for null
-abbrev pub stored : Option ℤ → ℤ
-stored None = pos 0
-stored (Some i) = i
+number_in valid values i = number_of (bit_of valid i) (value_at values i)
 
 -- the numbers at all places of the values
 abbrev pub numbers_of : List ℕ → List ℤ → List (Option ℤ)
 numbers_of valid values = map (number_in valid values) (range_with_len 0 (length values))
 
--- as many words as there are values; no bit is set past the last value, and a value without a bit is 0
+-- as many words as the values need; no bit is set past the last value
 pub record AreTidyNumbers (valid : List ℕ) (values : List ℤ) : Type 0 where
   pub valid_length : length valid ≡ words_for (length values)
   pub past : (i : ℕ) → length values ≤ i → bit_of valid i ≡ false
-  pub bare : (i : ℕ) → bit_of valid i ≡ false → value_at values i ≡ pos 0
 
 -- the words have the answers of a test at the first n places, and no bit for another place
 pub record AreBits (words : List ℕ) (n : ℕ) (test : ℕ → Bool) : Type 0 where

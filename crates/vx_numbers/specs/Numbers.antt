@@ -62,6 +62,10 @@ abbrev pub null_test : Option ℤ → Option Bool
 null_test None = Some true
 null_test (Some i) = Some false
 
+-- the number, or null where the truth is true
+abbrev pub masked_number : Option ℤ → Option Bool → Option ℤ
+masked_number n t = cond (is_true t) None n
+
 -- the numbers at the places where the other list is true
 abbrev pub kept_numbers : List (Option ℤ) → List (Option Bool) → List (Option ℤ)
 kept_numbers [] ks = []

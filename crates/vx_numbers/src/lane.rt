@@ -1,10 +1,10 @@
 // Numbers of one width, and those of them that are null.
-ghost use Rattle.std.specs.Prelude.{◌≡◌, ℕ, ◌+◌, ◌*◌, ◌<◌, ◌≤◌, ◌^◌, true, Option, Some, None, [], ◌∷◌, ◌++◌, length, map, slice_index_or, cond, IfOk, Decides};
+ghost use Rattle.std.specs.Prelude.{◌≡◌, ℕ, ◌+◌, ◌*◌, ◌<◌, ◌≤◌, ◌^◌, true, Option, Some, None, [], ◌∷◌, ◌++◌, length, map, replicate, slice_index_or, is_some, cond, IfOk, Decides};
 ghost use Rattle.std.specs.Option.{option_map};
 ghost use Rattle.std.specs.Simd.Lanes.{zip2};
-ghost use Rattle.vx_numbers.specs.Numbers.{all_in_range, fits_ptype, compared, null_test, kept_numbers, on_both, if_in_range};
+ghost use Rattle.vx_numbers.specs.Numbers.{all_in_range, fits_ptype, compared, null_test, kept_numbers, masked_number, on_both, total_in, if_in_range};
 ghost use Rattle.vx_numbers.specs.NumbersEqual.{number_eq};
-ghost use Rattle.vx_numbers.specs.Lanes.{numbers_of, number_in, stored, AreTidyNumbers};
+ghost use Rattle.vx_numbers.specs.Lanes.{numbers_of, number_in, number_of, AreTidyNumbers};
 
 use crate::kernels::{words, words_with};
 use crate::operators::Operator;
@@ -13,7 +13,7 @@ use crate::width::Width;
 use std::alloc::{AllocError, Global};
 use std::marker::Model;
 use vx_dtype::Mem;
-use vx_words::{Truths, bit, both, push_bit};
+use vx_words::{Truths, bit, both, push_bit, repeated_bit, without};
 
 /// Numbers of one width, null at some places.
 #[derive(Debug, Drop)]
@@ -44,6 +44,17 @@ impl<T: Width> Lane<T> {
         for i in 0..numbers.len() {
             push(&mut valid, &mut values, of_number::<T>(numbers[i]))?;
         }
+        Ok(Lane { valid, values })
+    }
+
+    /// The list of one number, or of null, this many times.
+    pub(crate) fn repeated(alloc: Global, number: Option<i128>, len: usize) -> Mem<Lane<T>>
+        requires { fits_ptype T.ptype number ≡ true }
+        ensures { IfOk result (λ lane. lane ≡ replicate len number) }
+    {
+        let number = of_number::<T>(number);
+        let valid = repeated_bit(alloc, number.is_some(), len)?;
+        let values = repeated_value(alloc, value_of(number), len)?;
         Ok(Lane { valid, values })
     }
 
@@ -147,6 +158,33 @@ impl<T: Width> Lane<T> {
         Ok(Some(Lane { valid, values }))
     }
 
+    /// The numbers, null where the other list is true.
+    pub(crate) fn mask(&self, alloc: Global, nulls: &Truths) -> Mem<Lane<T>>
+        requires { length nulls.now ≡ length self.now }
+        ensures { IfOk result (λ lane. lane ≡ zip2 masked_number self.now nulls.now) }
+    {
+        let (valid, values) = self.parts();
+        let (_, hidden) = nulls.words();
+        let valid = without(alloc, valid, hidden)?;
+        let values = Vec::from_slice(alloc, values)?;
+        Ok(Lane { valid, values })
+    }
+
+    /// The numbers in another type. None exactly where one of them leaves it.
+    pub(crate) fn cast<U: Width>(&self, alloc: Global) -> Mem<Option<Lane<U>>>
+        ensures { IfOk result (λ lane. lane ≡ if_in_range U.ptype self.now) }
+    {
+        let mut valid = Vec::with_capacity(alloc, self.valid.len())?;
+        let mut values = Vec::with_capacity(alloc, self.len())?;
+        'places: for i in 0..self.len() {
+            match cast_number::<T, U>(self.value_at(i)) {
+                Some(number) => push(&mut valid, &mut values, number)?,
+                None => return Ok(None),
+            }
+        }
+        Ok(Some(Lane { valid, values }))
+    }
+
     /// Whether two lists have the same numbers.
     pub(crate) fn same(&self, other: &Lane<T>) -> bool
         ensures { Decides result (self.now ≡ other.now) }
@@ -208,6 +246,37 @@ fn same_number<T: Width>(left: Option<T>, right: Option<T>) -> bool
     }
 }
 
+/// The number in another type, None exactly where it leaves it.
+fn cast_number<T: Width, U: Width>(number: Option<T>) -> Option<Option<U>>
+    ensures { option_map (option_map U.value) result ≡ total_in U.ptype (option_map T.value number) }
+{
+    match number {
+        Some(number) => known_number(number.number()),
+        None => Some(None),
+    }
+}
+
+/// A number in a type, None exactly where it isn't one of it.
+fn known_number<U: Width>(number: i128) -> Option<Option<U>>
+    ensures { option_map (option_map U.value) result ≡ total_in U.ptype (Some number) }
+{
+    if !U::own_type().in_range(number) {
+        return None;
+    }
+    Some(Some(U::of_number(number)))
+}
+
+/// One value, this many times.
+fn repeated_value<T: Width>(alloc: Global, value: T, len: usize) -> Mem<Vec<T>>
+    ensures { IfOk result (λ values. values.items ≡ replicate len value) }
+{
+    let mut values = Vec::with_capacity(alloc, len)?;
+    'places: for _ in 0..len {
+        values.push(value)?;
+    }
+    Ok(values)
+}
+
 /// Adds a number, or null, after the last.
 fn push<T: Width>(valid: &mut Vec<u64>, values: &mut Vec<T>, number: Option<T>) -> Mem<()>
     requires { AreTidyNumbers valid.old.items (map T.value values.old.items) }
@@ -215,8 +284,18 @@ fn push<T: Width>(valid: &mut Vec<u64>, values: &mut Vec<T>, number: Option<T>) 
     ensures numbers { IfOk result (λ _. numbers_of valid.new.items (map T.value values.new.items)
         ≡ numbers_of valid.old.items (map T.value values.old.items) ++ option_map T.value number ∷ []) }
 {
-    push_bit(valid, values.len(), number.is_some())?;
-    values.push(value_of(number))?;
+    push_place(valid, values, number.is_some(), value_of(number))
+}
+
+/// Adds a place after the last: this value where it is known, else null.
+fn push_place<T: Width>(valid: &mut Vec<u64>, values: &mut Vec<T>, known: bool, value: T) -> Mem<()>
+    requires { AreTidyNumbers valid.old.items (map T.value values.old.items) }
+    ensures tidy { IfOk result (λ _. AreTidyNumbers valid.new.items (map T.value values.new.items)) }
+    ensures numbers { IfOk result (λ _. numbers_of valid.new.items (map T.value values.new.items)
+        ≡ numbers_of valid.old.items (map T.value values.old.items) ++ number_of known (T.value value) ∷ []) }
+{
+    push_bit(valid, values.len(), known)?;
+    values.push(value)?;
     Ok(())
 }
 
@@ -238,9 +317,9 @@ fn push_if<T: Width>(
     push(valid, values, number)
 }
 
-/// The value that stands at a place: 0 under null.
+/// The value that stands at the place of a number, or of null: then 0.
 fn value_of<T: Width>(number: Option<T>) -> T
-    ensures { T.value result ≡ stored (option_map T.value number) }
+    ensures { number_of (is_some number) (T.value result) ≡ option_map T.value number }
 {
     match number {
         Some(number) => number,

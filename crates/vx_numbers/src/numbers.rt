@@ -1,9 +1,9 @@
 // Lists of numbers of one integer type.
-ghost use Rattle.std.specs.Prelude.{◌≡◌, ℕ, ◌<◌, true, Option, Some, None, length, map, slice_index_or, IfOk, Decides};
+ghost use Rattle.std.specs.Prelude.{◌≡◌, ℕ, ◌<◌, true, Option, Some, None, length, map, replicate, slice_index_or, IfOk, Decides};
 ghost use Rattle.std.specs.Cmp.{partial_equiv_from_equiv};
 ghost use Rattle.std.specs.Option.{option_map};
 ghost use Rattle.std.specs.Simd.Lanes.{zip2};
-ghost use Rattle.vx_numbers.specs.Numbers.{number_list, all_in_range, fits_ptype, compared, null_test, kept_numbers, on_both, sums, differences, if_in_range};
+ghost use Rattle.vx_numbers.specs.Numbers.{number_list, all_in_range, fits_ptype, compared, null_test, kept_numbers, masked_number, on_both, sums, differences, if_in_range};
 ghost use Rattle.vx_numbers.specs.NumbersEqual.{numbers_eq, numbers_eq_equiv};
 ghost use Rattle.vx_dtype.specs.TypeRules.{same_ptype};
 ghost use Rattle.vx_numbers.specs.LaneViews.{list_of};
@@ -56,6 +56,15 @@ impl Numbers {
         ensures { IfOk result (λ list. list ≡ number_list ptype numbers.now) }
     {
         let lanes = lanes_from_options(alloc, ptype, numbers)?;
+        Ok(Numbers { lanes })
+    }
+
+    /// The list of one number of the type, or of null, this many times.
+    pub fn repeated(alloc: Global, ptype: PType, number: Option<i128>, len: usize) -> Mem<Numbers>
+        requires { fits_ptype ptype number ≡ true }
+        ensures { IfOk result (λ list. list ≡ number_list ptype (replicate len number)) }
+    {
+        let lanes = repeated_lanes(alloc, ptype, number, len)?;
         Ok(Numbers { lanes })
     }
 
@@ -201,6 +210,25 @@ impl Numbers {
         let lanes = filter_lanes(alloc, &self.lanes, keep)?;
         Ok(Numbers { lanes })
     }
+
+    /// The numbers, null where the other list is true.
+    pub fn mask(&self, alloc: Global, nulls: &Truths) -> Mem<Numbers>
+        requires { length nulls.now ≡ length self.now.numbers }
+        ensures { IfOk result (λ list. list ≡ number_list self.now.ptype (zip2 masked_number self.now.numbers nulls.now)) }
+    {
+        let lanes = mask_lanes(alloc, &self.lanes, nulls)?;
+        Ok(Numbers { lanes })
+    }
+
+    /// These numbers in another type. None exactly where one of them leaves it.
+    pub fn cast(&self, alloc: Global, target: PType) -> Mem<Option<Numbers>>
+        ensures { IfOk result (λ list. list ≡ option_map (number_list target) (if_in_range target self.now.numbers)) }
+    {
+        let Some(lanes) = cast_lanes(alloc, &self.lanes, target)? else {
+            return Ok(None);
+        };
+        Ok(Some(Numbers { lanes }))
+    }
 }
 
 impl Clone for Numbers {
@@ -278,6 +306,74 @@ fn lanes_from_options(alloc: Global, ptype: PType, numbers: &[Option<i128>]) -> 
         PType::I16 => Ok(Lanes::I16(Lane::from_options(alloc, numbers)?)),
         PType::I32 => Ok(Lanes::I32(Lane::from_options(alloc, numbers)?)),
         PType::I64 => Ok(Lanes::I64(Lane::from_options(alloc, numbers)?)),
+    }
+}
+
+/// One number, or null, this many times, in the type's own width.
+fn repeated_lanes(alloc: Global, ptype: PType, number: Option<i128>, len: usize) -> Mem<Lanes>
+    requires { fits_ptype ptype number ≡ true }
+    ensures { IfOk result (λ lanes. list_of lanes ≡ number_list ptype (replicate len number)) }
+{
+    match ptype {
+        PType::U8 => Ok(Lanes::U8(Lane::repeated(alloc, number, len)?)),
+        PType::U16 => Ok(Lanes::U16(Lane::repeated(alloc, number, len)?)),
+        PType::U32 => Ok(Lanes::U32(Lane::repeated(alloc, number, len)?)),
+        PType::U64 => Ok(Lanes::U64(Lane::repeated(alloc, number, len)?)),
+        PType::I8 => Ok(Lanes::I8(Lane::repeated(alloc, number, len)?)),
+        PType::I16 => Ok(Lanes::I16(Lane::repeated(alloc, number, len)?)),
+        PType::I32 => Ok(Lanes::I32(Lane::repeated(alloc, number, len)?)),
+        PType::I64 => Ok(Lanes::I64(Lane::repeated(alloc, number, len)?)),
+    }
+}
+
+/// The numbers, null where the list of truths is true.
+fn mask_lanes(alloc: Global, lanes: &Lanes, nulls: &Truths) -> Mem<Lanes>
+    requires { length nulls.now ≡ length (list_of lanes.now).numbers }
+    ensures { IfOk result (λ masked. list_of masked
+        ≡ number_list (list_of lanes.now).ptype (zip2 masked_number (list_of lanes.now).numbers nulls.now)) }
+{
+    match lanes {
+        Lanes::U8(lane) => Ok(Lanes::U8(lane.mask(alloc, nulls)?)),
+        Lanes::U16(lane) => Ok(Lanes::U16(lane.mask(alloc, nulls)?)),
+        Lanes::U32(lane) => Ok(Lanes::U32(lane.mask(alloc, nulls)?)),
+        Lanes::U64(lane) => Ok(Lanes::U64(lane.mask(alloc, nulls)?)),
+        Lanes::I8(lane) => Ok(Lanes::I8(lane.mask(alloc, nulls)?)),
+        Lanes::I16(lane) => Ok(Lanes::I16(lane.mask(alloc, nulls)?)),
+        Lanes::I32(lane) => Ok(Lanes::I32(lane.mask(alloc, nulls)?)),
+        Lanes::I64(lane) => Ok(Lanes::I64(lane.mask(alloc, nulls)?)),
+    }
+}
+
+/// The numbers of a lane in another type. None exactly where one of them leaves it.
+fn cast_lanes(alloc: Global, lanes: &Lanes, target: PType) -> Mem<Option<Lanes>>
+    ensures { IfOk result (λ cast. option_map list_of cast
+        ≡ option_map (number_list target) (if_in_range target (list_of lanes.now).numbers)) }
+{
+    match lanes {
+        Lanes::U8(lane) => cast_lane(alloc, lane, target),
+        Lanes::U16(lane) => cast_lane(alloc, lane, target),
+        Lanes::U32(lane) => cast_lane(alloc, lane, target),
+        Lanes::U64(lane) => cast_lane(alloc, lane, target),
+        Lanes::I8(lane) => cast_lane(alloc, lane, target),
+        Lanes::I16(lane) => cast_lane(alloc, lane, target),
+        Lanes::I32(lane) => cast_lane(alloc, lane, target),
+        Lanes::I64(lane) => cast_lane(alloc, lane, target),
+    }
+}
+
+/// The numbers of one width in another type. None exactly where one of them leaves it.
+fn cast_lane<T: Width>(alloc: Global, lane: &Lane<T>, target: PType) -> Mem<Option<Lanes>>
+    ensures { IfOk result (λ cast. option_map list_of cast ≡ option_map (number_list target) (if_in_range target lane.now)) }
+{
+    match target {
+        PType::U8 => Ok(lane.cast::<u8>(alloc)?.map(Lanes::U8)),
+        PType::U16 => Ok(lane.cast::<u16>(alloc)?.map(Lanes::U16)),
+        PType::U32 => Ok(lane.cast::<u32>(alloc)?.map(Lanes::U32)),
+        PType::U64 => Ok(lane.cast::<u64>(alloc)?.map(Lanes::U64)),
+        PType::I8 => Ok(lane.cast::<i8>(alloc)?.map(Lanes::I8)),
+        PType::I16 => Ok(lane.cast::<i16>(alloc)?.map(Lanes::I16)),
+        PType::I32 => Ok(lane.cast::<i32>(alloc)?.map(Lanes::I32)),
+        PType::I64 => Ok(lane.cast::<i64>(alloc)?.map(Lanes::I64)),
     }
 }
 

@@ -7,11 +7,17 @@ ghost use Rattle.vx_dtype.specs.declared.PType.TheVariants.{U8, U16, U32, U64, I
 ghost use Rattle.vx_dtype.specs.Fits.{in_range};
 ghost use Rattle.vx_numbers.specs.Numbers.{within};
 
+use vx_dtype::PType;
+
 /// An integer of one type, in the type's own width.
 pub(crate) trait Width: Copy {
     ghost ptype: { PType };
 
     ghost value: { Self → ℤ };
+
+    /// The type.
+    fn own_type() -> PType
+        ensures { result ≡ ptype };
 
     /// The number 0.
     fn zero() -> Self
@@ -47,6 +53,11 @@ impl Width for u8 {
     ghost ptype = { U8 };
 
     ghost value = { pos };
+
+    #[inline(always)]
+    fn own_type() -> PType {
+        PType::U8
+    }
 
     #[inline(always)]
     fn zero() -> u8 {
@@ -90,6 +101,11 @@ impl Width for u16 {
     ghost value = { pos };
 
     #[inline(always)]
+    fn own_type() -> PType {
+        PType::U16
+    }
+
+    #[inline(always)]
     fn zero() -> u16 {
         0
     }
@@ -129,6 +145,11 @@ impl Width for u32 {
     ghost ptype = { U32 };
 
     ghost value = { pos };
+
+    #[inline(always)]
+    fn own_type() -> PType {
+        PType::U32
+    }
 
     #[inline(always)]
     fn zero() -> u32 {
@@ -172,6 +193,11 @@ impl Width for u64 {
     ghost value = { pos };
 
     #[inline(always)]
+    fn own_type() -> PType {
+        PType::U64
+    }
+
+    #[inline(always)]
     fn zero() -> u64 {
         0
     }
@@ -211,6 +237,11 @@ impl Width for i8 {
     ghost ptype = { I8 };
 
     ghost value = { λ i. i };
+
+    #[inline(always)]
+    fn own_type() -> PType {
+        PType::I8
+    }
 
     #[inline(always)]
     fn zero() -> i8 {
@@ -254,6 +285,11 @@ impl Width for i16 {
     ghost value = { λ i. i };
 
     #[inline(always)]
+    fn own_type() -> PType {
+        PType::I16
+    }
+
+    #[inline(always)]
     fn zero() -> i16 {
         0
     }
@@ -295,6 +331,11 @@ impl Width for i32 {
     ghost value = { λ i. i };
 
     #[inline(always)]
+    fn own_type() -> PType {
+        PType::I32
+    }
+
+    #[inline(always)]
     fn zero() -> i32 {
         0
     }
@@ -334,6 +375,11 @@ impl Width for i64 {
     ghost ptype = { I64 };
 
     ghost value = { λ i. i };
+
+    #[inline(always)]
+    fn own_type() -> PType {
+        PType::I64
+    }
 
     #[inline(always)]
     fn zero() -> i64 {

@@ -1,12 +1,13 @@
 -- Single bits of lists of words.
-use Rattle.std.proofs.Common.{◌≡◌, ℕ, ◌+◌, ◌-◌, ◌*◌, ◌/◌, ◌%◌, ◌^◌, ◌<◌, ◌≤◌, List, [], ◌∷◌, ◌++◌, get_or, length, set, Bool, true, false, ◌&&◌, ◌||◌, eqb, nat_lt, refl, ◌∙◌, sym, ap, arith, w64, inl, inr, eq-eqb}
+use Rattle.std.proofs.Common.{◌≡◌, ℕ, ◌+◌, ◌-◌, ◌*◌, ◌/◌, ◌%◌, ◌^◌, ◌<◌, ◌≤◌, List, [], ◌∷◌, ◌++◌, get_or, length, set, Bool, true, false, not, ◌&&◌, ◌||◌, eqb, nat_lt, refl, ◌∙◌, sym, ap, arith, w64, Fits, inl, inr, eq-eqb}
 use Rattle.std.proofs.lemmas.Bool.{cases_lt, cases_eq, lt-ltb, le-ltb, ne_eqb}
 use Rattle.std.proofs.lemmas.List.{get_or_past, get_or-set_same, get_or-set_other, get_or-replicate, length-replicate, get_or_append_left, get_or_at, length-append}
 use Rattle.std.proofs.lemmas.Nat.{one_shl}
 use Rattle.std.proofs.lemmas.Nat.Bits.{bit_at-zero, bit_at_set_same, bit_at_set_other, bit_at_ones, bit_at_ones_above}
+use Rattle.std.specs.Int.{bit_not}
 use Rattle.std.specs.Prelude.{bit_and, bit_or, replicate}
 use Rattle.vx_words.specs.Words.{word_bit, bit_of}
-use Rattle.vx_words.proofs.WordLemmas.{word_bit-and}
+use Rattle.vx_words.proofs.WordLemmas.{word_bit-and, word_bit-not}
 
 -- no bit of 0 is set
 pub zero_bit : (word i : ℕ) → word ≡ 0 → word_bit word i ≡ false
@@ -36,6 +37,20 @@ pub both_bits : (ls rs ws : List ℕ) → length rs ≡ length ls → length ws 
 both_bits ls rs ws p q each i =
     elim (cases_lt (i / 64) (length ls)) [
       | inl low ↦ ap (λ x. word_bit x (i % 64)) (each (i / 64) low) ∙ word_bit-and (get_or ls (i / 64) 0) (get_or rs (i / 64) 0) (i % 64)
+      | inr high ↦
+          bit_of_past ws i (omega arith) ∙ sym (rw (bit_of_past ls i (omega arith)) refl)
+    ]
+
+-- the bits that are set in the first list and not in the second
+pub bits_without : (ls rs ws : List ℕ) → ((k : ℕ) → Fits w64 (get_or rs k 0)) → length rs ≡ length ls → length ws ≡ length ls
+    → ((k : ℕ) → k < length ls → get_or ws k 0 ≡ bit_and (get_or ls k 0) (bit_not w64 (get_or rs k 0)))
+    → (i : ℕ) → bit_of ws i ≡ (bit_of ls i && not (bit_of rs i))
+bits_without ls rs ws fits p q each i =
+    elim (cases_lt (i / 64) (length ls)) [
+      | inl low ↦
+          ap (λ x. word_bit x (i % 64)) (each (i / 64) low)
+          ∙ word_bit-and (get_or ls (i / 64) 0) (bit_not w64 (get_or rs (i / 64) 0)) (i % 64)
+          ∙ ap (λ x. bit_of ls i && x) (word_bit-not (get_or rs (i / 64) 0) (i % 64) (fits (i / 64)) (omega arith))
       | inr high ↦
           bit_of_past ws i (omega arith) ∙ sym (rw (bit_of_past ls i (omega arith)) refl)
     ]

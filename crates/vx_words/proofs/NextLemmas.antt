@@ -104,7 +104,7 @@ true_of_bits true true bare = refl
 
 module _ (v b : List ℕ) (n : ℕ) (ts : List (Option Bool)) (seen : truths_of_words v b n ≡ ts) (tidy : AreTidy n v b) where
   -- a truth is true where its value bit is set
-  true_seen : (i : ℕ) → true_at ts i ≡ bit_of b i
+  pub true_seen : (i : ℕ) → true_at ts i ≡ bit_of b i
   true_seen i =
       let long = length_seen v b n ts seen in
       elim (cases_lt i (length ts)) [

@@ -1,5 +1,5 @@
 // Single bits of lists of words, and words for a number of places.
-ghost use Rattle.std.specs.Prelude.{◌≡◌, ℕ, ◌+◌, ◌-◌, ◌*◌, ◌^◌, ◌<◌, ◌≤◌, ◌==◌, ◌&&◌, ◌||◌, false, nat_lt, length, replicate, count_by, IfOk};
+ghost use Rattle.std.specs.Prelude.{◌≡◌, ℕ, ◌+◌, ◌-◌, ◌*◌, ◌^◌, ◌<◌, ◌≤◌, ◌==◌, ◌&&◌, ◌||◌, not, false, nat_lt, length, replicate, count_by, IfOk};
 ghost use Rattle.std.specs.List.{range_with_len};
 ghost use Rattle.vx_words.specs.Words.{bit_of, IsNextPlace};
 ghost use Rattle.vx_words.specs.Truths.{words_for};
@@ -98,6 +98,19 @@ pub fn both(alloc: Global, left: &[u64], right: &[u64]) -> Mem<Vec<u64>>
     Ok(words)
 }
 
+/// The bits that are set in the first list and not in the second, which is as long.
+pub fn without(alloc: Global, left: &[u64], right: &[u64]) -> Mem<Vec<u64>>
+    requires { length right.now ≡ length left.now }
+    ensures lengths { IfOk result (λ words. length words.items ≡ length left.now) }
+    ensures bits { IfOk result (λ words. (i : ℕ) → bit_of words.items i ≡ (bit_of left.now i && not (bit_of right.now i))) }
+{
+    let mut words = Vec::with_capacity(alloc, left.len())?;
+    'each: for k in 0..left.len() {
+        words.push(left[k] & !right[k])?;
+    }
+    Ok(words)
+}
+
 /// Words with the bits of the first `len` places set.
 pub(crate) fn ones(alloc: Global, len: usize) -> Mem<Vec<u64>>
     ensures lengths { IfOk result (λ words. length words.items ≡ words_for len) }
@@ -128,7 +141,7 @@ pub(crate) fn zeros(alloc: Global, len: usize) -> Mem<Vec<u64>>
 }
 
 /// Words with this bit at the first `len` places.
-pub(crate) fn repeated_bit(alloc: Global, bit: bool, len: usize) -> Mem<Vec<u64>>
+pub fn repeated_bit(alloc: Global, bit: bool, len: usize) -> Mem<Vec<u64>>
     ensures lengths { IfOk result (λ words. length words.items ≡ words_for len) }
     ensures bits { IfOk result (λ words. (j : ℕ) → bit_of words.items j ≡ (bit && nat_lt j len)) }
 {

@@ -1,4 +1,4 @@
-use Rattle.std.proofs.Common.{◌+◌, ◌++◌, [], ◌∷◌, List, Option, Bool, drop, ◌∙◌, ap, arith}
+use Rattle.std.proofs.Common.{◌+◌, ◌++◌, [], ◌∷◌, List, Option, Bool, drop, None, refl, ◌∙◌, ap, arith}
 use Rattle.vx_words.specs.Truths.{truths_of_words, kept_truths}
 use Rattle.vx_words.proofs.KeptLemmas.{kept_step, kept_end}
 use Rattle.vx_words.proofs.truths.Truths.filter.Goals as goal
@@ -36,11 +36,11 @@ kept-preserved c =
       c.in_ok-push_truth.ensures.tidy,
       ap (λ xs. xs ++ rest) c.in_ok-push_truth.ensures.truths
           ∙ ap (λ t. (made ++ t ∷ []) ++ rest) c.truth_at.ensures
-          ∙ kept_step c.args.self.now c.args.keep.now c.requires made c.kept.from c.in-Some.i first c.kept.invariant.3,
+          ∙ kept_step None kept_truths (λ ks. refl) (λ t ts k ks. refl) c.args.self.now c.args.keep.now c.requires made c.kept.from c.in-Some.i first c.kept.invariant.3,
     )
 
 pub returns : goal.returns
 returns c =
     c.of_words.ensures
-    ∙ kept_end c.args.self.now c.args.keep.now c.requires (truths_of_words c.kept.valid.items c.kept.values.items c.kept.len) c.kept.from
+    ∙ kept_end None kept_truths (λ ks. refl) (λ t ts k ks. refl) c.args.self.now c.args.keep.now c.requires (truths_of_words c.kept.valid.items c.kept.values.items c.kept.len) c.kept.from
     c.kept.invariant.1 c.in_default.ensures c.kept.invariant.3
