@@ -20,12 +20,13 @@ use Rattle.vx_column.specs.RawParts.{is_raw_null, lists_kind}
 use Rattle.vx_column.specs.Columns.{Column, column, row_at, rows_fit, values_fit, seen, seen_rows}
 use Rattle.vx_column.specs.StructColumns.{column_types, all_have_rows, struct_row, row_members, StandsAt}
 use Rattle.vx_column.specs.declared.cells.Cells.{Cells}
-use Rattle.vx_column.specs.declared.cells.Cells.TheVariants.{Constant, Rows, Truths, Columns}
+use Rattle.vx_column.specs.declared.cells.Cells.TheVariants.{Constant, Rows, Truths, Numbers, Columns}
 use Rattle.vx_column.specs.Cells.{cell_rows, structs_of, all_rows_fit, AreFieldsOf, ArePartsOf, keeps_values}
 use Rattle.vx_column.proofs.FitLemmas.{both_of, of_both, bytes_eq_self, fits_nullable, valued_with_nullability, rows_fit_seen, is_null3_valued}
 use Rattle.vx_column.proofs.RowLemmas.{fits_at, seen_row, seen_rows_append, values_fit_more}
 use Rattle.vx_column.proofs.StructLemmas.{struct_fits, struct_stands}
 use Rattle.vx_column.proofs.TruthLemmas.{truth_rows_fit}
+use Rattle.vx_column.proofs.NumberLemmas.{number_rows_fit}
 
 -- a constant has its value at each row
 pub constant_row : (c : Column) (n i : ℕ) (v : Val) → replicate n v ≡ c.rows → i < length c.rows → v ≡ row_at c i
@@ -33,6 +34,9 @@ constant_row c n i v e h =
     let lengths : n ≡ length c.rows = sym (length-replicate n v) ∙ ap length e in
     let within : i < n = omega arith in
     sym (get_or-replicate n i v null_val within) ∙ ap (λ vs. get_or vs i null_val) e
+
+pub constant_length : (n : ℕ) (v : Val) (rows : List Val) → replicate n v ≡ rows → n ≡ length rows
+constant_length n v rows e = sym (length-replicate n v) ∙ ap length e
 
 pub constant_all : (c : Column) (n : ℕ) (v : Val) → replicate n v ≡ c.rows → c.rows ≡ replicate (length c.rows) v
 constant_all c n v e =
@@ -271,4 +275,5 @@ pub cells_fit : (t : Ty) (k : Cells) → ArePartsOf t k → rows_fit t (cell_row
 cells_fit t (Constant x n) h = rows_fit_repeated t n x h
 cells_fit t (Rows xs) h = rows_fit_seen t xs.value.items h.fit
 cells_fit t (Truths ts) h = truth_rows_fit t ts.value h
+cells_fit t (Numbers ns) h = number_rows_fit t ns.value h
 cells_fit t (Columns cs n) h = made_fit t (struct_row (field_names (fields_of t)) cs.value.items None) n 0 n (omega arith) (struct_row_fits t cs.value.items n h)

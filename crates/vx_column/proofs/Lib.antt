@@ -17,4 +17,8 @@ mod KeptLemmas
 mod ColumnFields
 mod SameLemmas
 mod TruthLemmas
+mod NumberLemmas
+mod ComparedNumbers
+mod TotalLemmas
+mod CastNumbers
 mod KeptPlaces

@@ -4,7 +4,7 @@ use Rattle.vx_dtype.specs.declared.PType.{PType}
 use Rattle.vx_dtype.specs.declared.PType.TheVariants.{U8, U16, U32, U64, I8, I16, I32, I64}
 use Rattle.vx_dtype.specs.declared.values.ScalarValue.{ScalarValue}
 use Rattle.vx_dtype.specs.Types.{Ty, int_ty}
-use Rattle.vx_dtype.specs.TypeRules.{alike, same_ptype, nullability_of, with_nullability, union}
+use Rattle.vx_dtype.specs.TypeRules.{alike, is_int_ty, same_ptype, nullability_of}
 use Rattle.vx_dtype.specs.declared.Nullability.{Nullability}
 use Rattle.vx_dtype.specs.Values.{Val, null_val, bool_val, int_val, text_val, list_val, struct_val, fault}
 use Rattle.vx_dtype.specs.Fits.{val_fits}
@@ -67,18 +67,13 @@ same_int (int_ty q m) (int_ty r k) p n d e =
     ap (λ s. int_ty s k) second
 same_int _ _ p n d e = absurd cc
 
--- the type of a total
-pub widened_int : (t : Ty) (p : PType) (n m : Nullability) → t ≡ int_ty p n → with_nullability t m ≡ int_ty p m
-widened_int t p n m e = ap (λ u. with_nullability u m) e
+pub int_other : (t u : Ty) → is_int_ty t ≡ true → alike t u ≡ true → is_int_ty u ≡ true
+unfolding alike
+int_other (int_ty p n) (int_ty q m) e a = refl
+int_other _ _ e a = absurd cc
 
 -- the answer where the rows that were made are of their type
 pub faultless : (e : ColumnError) (t : Ty) (xs : List ScalarValue) (c : Column) → values_fit t xs ≡ true → c ≡ column t (seen_rows t xs) → Ok c ≡ unless_faulty e c
 faultless e t xs c h d =
     let none : no_faults (seen_rows t xs) ≡ true = no_faults_fit t _ (rows_fit_seen t xs h) in
     rw (d, none) refl
-
-pub total_answer : (e : ColumnError) (rule : Val → Val → Val) (p : PType) (lt : Ty) (n m : Nullability) (xs : List ScalarValue) (lr rr : List Val) (c : Column) → lt ≡ int_ty p n → values_fit (int_ty p (union n m)) xs ≡ true → seen_rows (int_ty p (union n m)) xs ≡ zip_rows rule lr rr → c ≡ column (int_ty p (union n m)) (seen_rows (int_ty p (union n m)) xs) → Ok c ≡ unless_faulty e (column (with_nullability lt (union n m)) (zip_rows rule lr rr))
-total_answer e rule p lt n m xs lr rr c a h rows d =
-    let wide : with_nullability lt (union n m) ≡ int_ty p (union n m) = ap (λ t. with_nullability t (union n m)) a in
-    let same : c ≡ column (with_nullability lt (union n m)) (zip_rows rule lr rr) = d ∙ (λ i. column (sym wide i) (rows i)) in
-    faultless e (int_ty p (union n m)) xs c h d ∙ ap (unless_faulty e) same

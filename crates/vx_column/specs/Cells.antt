@@ -1,35 +1,43 @@
 -- For the checker: no public clause cites this. What the parts of a column hold.
-use Rattle.std.specs.Prelude.{◌≡◌, ℕ, slice_index_or, Bool, true, false, ◌&&◌, List, [], ◌∷◌, ◌++◌, map, length, Option, None}
+use Rattle.std.specs.Prelude.{◌≡◌, ℕ, ℤ, slice_index_or, Bool, true, false, ◌&&◌, List, [], ◌∷◌, ◌++◌, map, length, Option, None}
 use Rattle.std.specs.Hash as fed
 use Rattle.std.specs.Hash.{HashWrites}
 use Rattle.std.specs.List.{range_with_len}
 use Rattle.std.proofs.Math.ListN.{replicate}
-use Rattle.vx_dtype.specs.Types.{Bytes, Ty, struct_ty}
+use Rattle.vx_dtype.specs.Types.{Bytes, Ty, int_ty, struct_ty}
 use Rattle.vx_dtype.specs.declared.Nullability.{Nullability}
+use Rattle.vx_dtype.specs.declared.PType.{PType}
 use Rattle.vx_dtype.specs.declared.Nullability.TheVariants.{NonNullable}
-use Rattle.vx_dtype.specs.TypeRules.{field_names, fields_of, is_bool_ty, is_nullable, nullability_of}
+use Rattle.vx_dtype.specs.TypeRules.{field_names, fields_of, is_bool_ty, is_int_ty, is_nullable, nullability_of}
 use Rattle.vx_dtype.specs.StructTypes.{field_types}
 use Rattle.vx_dtype.specs.Values.{Val}
 use Rattle.vx_dtype.specs.Fits.{fits}
 use Rattle.vx_dtype.specs.RawViews.{raw_view}
 use Rattle.vx_dtype.specs.declared.values.ScalarValue.{ScalarValue}
 use Rattle.vx_column.specs.declared.cells.Cells.{Cells}
-use Rattle.vx_column.specs.declared.cells.Cells.TheVariants.{Constant, Rows, Truths, Columns}
+use Rattle.vx_column.specs.declared.cells.Cells.TheVariants.{Constant, Rows, Truths, Numbers, Columns}
 use Rattle.vx_column.specs.Columns.{Column, column, row_at, rows_fit, values_fit, seen, seen_rows, kept_rows}
 use Rattle.vx_column.specs.ColumnEqual.{val_feed}
 use Rattle.vx_column.specs.RawParts.{truth_fits}
+use Rattle.vx_column.specs.Totals.{number_val, number_fits}
 use Rattle.vx_words.specs.Truths.{vals_of}
+use Rattle.vx_numbers.specs.Numbers.{NumberList}
 use Rattle.vx_column.specs.StructColumns.{column_types, all_have_rows, struct_row}
 
 -- the structs of the columns' values at each of this many rows
 abbrev pub structs_of : List Bytes → List Column → ℕ → List Val
 structs_of fs cs n = map (struct_row fs cs None) (range_with_len 0 n)
 
+-- the values that numbers of an integer type stand for
+abbrev pub numbers_vals : NumberList → List Val
+numbers_vals ns = map (number_val ns.ptype) ns.numbers
+
 -- the rows of a type that the parts hold
 abbrev pub cell_rows : Ty → Cells → List Val
 cell_rows t (Constant x n) = replicate n (seen t x)
 cell_rows t (Rows xs) = seen_rows t xs.value.items
 cell_rows t (Truths ts) = vals_of ts.value
+cell_rows t (Numbers ns) = numbers_vals ns.value
 cell_rows t (Columns cs n) = structs_of (field_names (fields_of t)) cs.value.items n
 
 -- whether the rows of each column are of its type
@@ -59,21 +67,33 @@ abbrev pub truths_fit : Nullability → List (Option Bool) → Bool
 truths_fit n [] = true
 truths_fit n (t ∷ ts) = truth_fits n t && truths_fit n ts
 
--- the values are those of a type that isn't boolean
+-- whether an integer type of this nullability has each of the numbers, and the null where there is none
+abbrev pub numbers_fit : PType → Nullability → List (Option ℤ) → Bool
+numbers_fit p n [] = true
+numbers_fit p n (i ∷ is) = number_fits p n i && numbers_fit p n is
+
+-- the values are those of a type that is neither boolean nor an integer type
 pub record AreValuesOf (t : Ty) (xs : List ScalarValue) : Type 0 where
   pub fit : values_fit t xs ≡ true
-  pub kind : is_bool_ty t ≡ false
+  pub no_truths : is_bool_ty t ≡ false
+  pub no_numbers : is_int_ty t ≡ false
 
 -- the truths are those of a boolean type
 pub record AreTruthsOf (t : Ty) (ts : List (Option Bool)) : Type 0 where
   pub kind : is_bool_ty t ≡ true
   pub fit : truths_fit (nullability_of t) ts ≡ true
 
+-- the numbers are those of an integer type
+pub record AreNumbersOf (t : Ty) (ns : NumberList) : Type 0 where
+  pub kind : t ≡ int_ty ns.ptype (nullability_of t)
+  pub fit : numbers_fit ns.ptype (nullability_of t) ns.numbers ≡ true
+
 -- the parts are those of a column of the type
 abbrev pub ArePartsOf : Ty → Cells → Type 0
 ArePartsOf t (Constant x n) = fits (raw_view x) t ≡ true
 ArePartsOf t (Rows xs) = AreValuesOf t xs.value.items
 ArePartsOf t (Truths ts) = AreTruthsOf t ts.value
+ArePartsOf t (Numbers ns) = AreNumbersOf t ns.value
 ArePartsOf t (Columns cs n) = AreFieldsOf t cs.value.items n
 
 -- whether a column of the type keeps a value for each row, and no columns of fields

@@ -12,3 +12,4 @@ pub mod Cells
 pub mod Sizes
 pub mod RowValues
 pub mod Connectives
+pub mod Comparisons

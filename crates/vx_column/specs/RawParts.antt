@@ -1,5 +1,5 @@
 -- What the code reads of a value that has no type: a truth, and how two values stand.
-use Rattle.std.specs.Prelude.{Bool, true, false, ◌&&◌, ◌||◌, cond, Option, Some, None, option_map, unwrap_or}
+use Rattle.std.specs.Prelude.{ℤ, Bool, true, false, ◌&&◌, ◌||◌, cond, Option, Some, None, option_map, unwrap_or}
 use Rattle.std.specs.declared.cmp.Ordering.{Ordering}
 use Rattle.std.specs.Ordering.{nat_cmp, int_cmp, bool_cmp, is_eq}
 use Rattle.std.specs.Cmp.Lexicographic.{slice_cmp}
@@ -13,6 +13,11 @@ use Rattle.vx_dtype.specs.Values.{Raw, raw_null, raw_bool, raw_int, raw_text, ra
 abbrev pub raw_truth : Raw → Option Bool
 raw_truth (raw_bool b) = Some b
 raw_truth _ = None
+
+-- the number of an integer value, and none of another
+abbrev pub raw_number : Raw → Option ℤ
+raw_number (raw_int i) = Some i
+raw_number _ = None
 
 -- whether a boolean type of this nullability has a truth, or the null where there is none
 abbrev pub truth_fits : Nullability → Option Bool → Bool

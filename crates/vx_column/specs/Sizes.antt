@@ -6,7 +6,7 @@ use Rattle.vx_dtype.specs.Types.{Ty, Fields, no_fields, field}
 use Rattle.vx_dtype.specs.TypeRules.{depth_of, depth_below, fields_of}
 use Rattle.vx_dtype.specs.StructTypes.{field_types}
 use Rattle.vx_column.specs.declared.cells.Cells.{Cells}
-use Rattle.vx_column.specs.declared.cells.Cells.TheVariants.{Constant, Rows, Truths, Columns}
+use Rattle.vx_column.specs.declared.cells.Cells.TheVariants.{Constant, Rows, Truths, Numbers, Columns}
 use Rattle.vx_column.specs.declared.columns.ColumnRef.TheDeep.{deep-Cells}
 use Rattle.vx_column.specs.Columns.{Column}
 use Rattle.vx_column.specs.StructColumns.{column_types}
@@ -26,4 +26,5 @@ unfolding depth_of
 deep_le-depth_of t (Constant x n) h = omega arith
 deep_le-depth_of t (Rows xs) h = omega arith
 deep_le-depth_of t (Truths ts) h = omega arith
+deep_le-depth_of t (Numbers ns) h = omega arith
 deep_le-depth_of t (Columns cs n) h = omega (arith, most_le-depth_below cs.value.items (fields_of t) h.types, ap depth_of h.shape)

@@ -1,11 +1,12 @@
--- For the checker: no public clause cites this. Sums and differences by one name.
-use Rattle.std.specs.Prelude.{ℤ, Bool, Option, Some, None}
+-- For the checker: no public clause cites this. Sums and differences by one name, and the values of numbers.
+use Rattle.std.specs.Prelude.{ℤ, Bool, true, false, not, ◌&&◌, List, [], ◌∷◌, Option, Some, None}
 use Rattle.vx_dtype.specs.declared.Nullability.{Nullability}
 use Rattle.vx_dtype.specs.declared.PType.{PType}
 use Rattle.vx_dtype.specs.TypeRules.{is_nullable}
 use Rattle.vx_dtype.specs.Values.{Val, null_val, int_val}
 use Rattle.vx_dtype.specs.Fits.{in_range}
 use Rattle.vx_dtype.specs.Sums.{add3, sub3}
+use Rattle.vx_numbers.specs.Numbers.{sums, differences}
 use Rattle.vx_column.specs.declared.sums.Total.{Total}
 use Rattle.vx_column.specs.declared.sums.Total.TheVariants.{Sum, Difference}
 
@@ -13,6 +14,11 @@ use Rattle.vx_column.specs.declared.sums.Total.TheVariants.{Sum, Difference}
 abbrev pub total3 : Total → Val → Val → Val
 total3 Sum = add3
 total3 Difference = sub3
+
+-- the sums or the differences of two lists of numbers, place by place
+abbrev pub totals : Total → List (Option ℤ) → List (Option ℤ) → List (Option ℤ)
+totals Sum = sums
+totals Difference = differences
 
 -- the value of an integer type that a number stands for, and null where there is none
 abbrev pub number_val : PType → Option ℤ → Val
@@ -23,3 +29,13 @@ number_val p (Some i) = int_val p i
 abbrev pub number_fits : PType → Nullability → Option ℤ → Bool
 number_fits p n None = is_nullable n
 number_fits p n (Some i) = in_range p i
+
+-- whether one of the numbers is null
+abbrev pub has_null : List (Option ℤ) → Bool
+has_null [] = false
+has_null (None ∷ is) = true
+has_null (Some i ∷ is) = has_null is
+
+-- whether one of the numbers is null where types of this nullability have no null
+abbrev pub stray_null : Nullability → List (Option ℤ) → Bool
+stray_null n ns = not (is_nullable n) && has_null ns

@@ -1,18 +1,24 @@
 // Casts of plain columns.
-ghost use Rattle.std.specs.Prelude.{◌≡◌, true, cond, None, Some, map, option_map, IfOk};
+ghost use Rattle.std.specs.Prelude.{◌≡◌, true, ◌&&◌, cond, None, Some, map, option_map, IfOk};
 ghost use Rattle.vx_dtype.specs.Values.{raw_int};
+ghost use Rattle.vx_dtype.specs.Types.{int_ty};
+ghost use Rattle.vx_dtype.specs.TypeRules.{alike, is_nullable, nullability_of};
 ghost use Rattle.vx_dtype.specs.TypeViews.{type_view};
 ghost use Rattle.vx_dtype.specs.Casts.{takes_cast, cast3};
 ghost use Rattle.vx_dtype.specs.RawViews.{raw_view};
 ghost use Rattle.vx_column.specs.declared.errors.ColumnError.TheVariants.{BadCast};
 ghost use Rattle.vx_column.specs.Columns.{column};
 ghost use Rattle.vx_column.specs.RawParts.{raw_cast};
+ghost use Rattle.vx_column.specs.Cells.{numbers_vals};
+ghost use Rattle.vx_column.specs.Totals.{stray_null};
 ghost use Rattle.vx_column.specs.Answers.{Answers, unless_faulty, GivesUnlessFaulty};
 
+use crate::cells::{Cells, numbers_in};
 use crate::columns::ColumnRef;
 use crate::errors::ColumnError;
 use std::alloc::Global;
-use vx_dtype::{DType, Mem, ScalarValue};
+use vx_dtype::{DType, Mem, Nullability, PType, ScalarValue};
+use vx_numbers::Numbers;
 
 /// Whether a type has the number: an integer type those of its range, another type has no bounds.
 fn has_number(dtype: &DType, i: i128) -> bool
@@ -57,14 +63,73 @@ fn cast_rows(alloc: Global, c: &ColumnRef, target: &DType) -> Mem<Option<Vec<Sca
     Ok(Some(made))
 }
 
-/// The values in the target type, row by row. BadCast exactly where a row has none: a number out of the target's range, or null where the target isn't nullable.
+/// The values in the target type, row by row. BadCast exactly where a row has none.
 #[tactic(auto, using(crate::proofs::CastLemmas::cast_names))]
-pub fn cast(alloc: Global, c: &ColumnRef, target: &DType) -> Result<ColumnRef, ColumnError>
+fn cast_values(alloc: Global, c: &ColumnRef, target: &DType) -> Result<ColumnRef, ColumnError>
     requires { takes_cast c.now.ty (type_view target.now) ≡ true }
     ensures { Answers result (unless_faulty BadCast (column (type_view target.now) (map (cast3 (type_view target.now)) c.now.rows))) }
 {
     match cast_rows(alloc, c, target)? {
         Some(made) => Ok(ColumnRef::of_rows(alloc, target.clone()?, made)?),
         None => Err(ColumnError::BadCast),
+    }
+}
+
+/// Whether one of the numbers is null where types of this nullability have no null.
+fn has_stray_null(alloc: Global, numbers: &Numbers, n: Nullability) -> Mem<bool>
+    ensures { IfOk result (λ stray. stray ≡ stray_null n numbers.now.numbers) }
+{
+    match n {
+        Nullability::NonNullable => {
+            let nulls = numbers.is_null(alloc)?;
+            Ok(nulls.true_count() > 0)
+        }
+        Nullability::Nullable => Ok(false),
+    }
+}
+
+/// The numbers in an integer type of this nullability. BadCast exactly where one is out of its range, or null where it has no null.
+fn cast_numbers(
+    alloc: Global,
+    numbers: &Numbers,
+    ptype: PType,
+    n: Nullability,
+) -> Result<ColumnRef, ColumnError>
+    ensures { Answers result (unless_faulty BadCast (column (int_ty ptype n) (map (cast3 (int_ty ptype n)) (numbers_vals numbers.now)))) }
+{
+    let stray = has_stray_null(alloc, numbers, n)?;
+    if stray {
+        return Err(ColumnError::BadCast);
+    }
+    let Some(made) = numbers.cast(alloc, ptype)? else {
+        return Err(ColumnError::BadCast);
+    };
+    Ok(ColumnRef::of_numbers(alloc, DType::Primitive(ptype, n), made)?)
+}
+
+/// Whether a type has what the other one has, and null beside it.
+fn widens(target: &DType, dtype: &DType) -> bool
+    ensures { result ≡ (is_nullable (nullability_of (type_view target.now)) && alike (type_view dtype.now) (type_view target.now)) }
+{
+    target.is_nullable() && dtype.eq_ignore_nullability(target)
+}
+
+/// The values in the target type, row by row. BadCast exactly where a row has none: a number out of the target's range, or null where the target
+/// isn't nullable.
+pub fn cast(alloc: Global, c: &ColumnRef, target: &DType) -> Result<ColumnRef, ColumnError>
+    requires { takes_cast c.now.ty (type_view target.now) ≡ true }
+    ensures { Answers result (unless_faulty BadCast (column (type_view target.now) (map (cast3 (type_view target.now)) c.now.rows))) }
+{
+    if widens(target, c.dtype()) {
+        return Ok(c.made_nullable(alloc)?);
+    }
+    match (c.cells(), target) {
+        (Cells::Numbers(numbers), DType::Primitive(ptype, n)) => cast_numbers(
+            alloc,
+            numbers_in(numbers),
+            *ptype,
+            *n,
+        ),
+        _ => cast_values(alloc, c, target),
     }
 }

@@ -4,6 +4,7 @@ ghost use Rattle.std.specs.Prelude.{◌≡◌};
 use crate::columns::ColumnRef;
 use std::rc::Rc;
 use vx_dtype::ScalarValue;
+use vx_numbers::Numbers;
 use vx_words::Truths;
 
 /// The rows of a column, as they are kept.
@@ -15,10 +16,12 @@ pub(crate) enum Cells {
         value: ScalarValue,
         len: usize,
     },
-    /// A value for each row, of a type that isn't boolean.
+    /// A value for each row, of a type that is neither boolean nor an integer type.
     Rows(Rc<Vec<ScalarValue>>),
     /// The truths of a boolean type.
     Truths(Rc<Truths>),
+    /// The numbers of an integer type.
+    Numbers(Rc<Numbers>),
     /// The columns of the fields of a struct type that isn't nullable, and how many rows each has.
     Columns {
         fields: Rc<Vec<ColumnRef>>,
@@ -38,6 +41,13 @@ pub(crate) fn truths_in(truths: &Rc<Truths>) -> &Truths
     ensures { result.now ≡ truths.now.value }
 {
     truths
+}
+
+/// The numbers that are shared.
+pub(crate) fn numbers_in(numbers: &Rc<Numbers>) -> &Numbers
+    ensures { result.now ≡ numbers.now.value }
+{
+    numbers
 }
 
 /// The columns that are shared.

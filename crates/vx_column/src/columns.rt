@@ -6,23 +6,26 @@ ghost use Rattle.vx_dtype.specs.Logic.{is_null3};
 ghost use Rattle.vx_dtype.specs.Fits.{fits};
 ghost use Rattle.vx_dtype.specs.RawViews.{raw_view};
 ghost use Rattle.vx_column.specs.Answers.{Answers, column_of_raws};
-ghost use Rattle.vx_dtype.specs.TypeRules.{no_name_twice, field_names, fields_of, is_bool_ty};
+ghost use Rattle.vx_dtype.specs.TypeRules.{no_name_twice, field_names, fields_of, is_bool_ty, is_int_ty};
 ghost use Rattle.vx_dtype.specs.TypeViews.{type_view};
 ghost use Rattle.vx_column.specs.Columns.{Column, column, row_at, rows_fit, values_fit, seen, seen_rows};
-ghost use Rattle.vx_column.specs.Cells.{cell_rows, structs_of, AreFieldsOf, ArePartsOf, AreTruthsOf};
+ghost use Rattle.vx_column.specs.Cells.{cell_rows, numbers_vals, structs_of, AreFieldsOf, AreNumbersOf, ArePartsOf, AreTruthsOf};
 ghost use Rattle.vx_words.specs.Truths.{vals_of};
 
-use crate::cells::{Cells, truths_in, values_in};
+use crate::cells::{Cells, numbers_in, truths_in, values_in};
 use crate::errors::ColumnError;
 use crate::logic::{is_null_value, truths_of_values};
+use crate::numbers::numbers_of_values;
 use crate::reading::made_at;
 use std::alloc::{AllocError, Global};
 use std::marker::Model;
 use std::rc::Rc;
 use vx_dtype::{DType, Mem, Scalar, ScalarValue};
+use vx_numbers::Numbers;
 use vx_words::Truths;
 
-/// A column, shared by its clones. It is seen as its type and the list of its row values: each value is one of the type, and no struct in the type has two fields of one name.
+/// A column, shared by its clones. It is seen as its type and the list of its row values: each value is one of the type, and no struct in
+/// the type has two fields of one name.
 #[cycle(columns)]
 #[derive(Debug, Drop)]
 pub struct ColumnRef {
@@ -62,11 +65,17 @@ impl ColumnRef {
         requires names { no_name_twice (type_view dtype) ≡ true }
         ensures { IfOk result (λ c. c ≡ column (type_view dtype) (seen_rows (type_view dtype) rows.items)) }
     {
-        if let DType::Bool(_) = dtype {
-            let truths = truths_of_values(alloc, rows.as_slice())?;
-            return ColumnRef::of_truths(alloc, dtype, truths);
+        match dtype {
+            DType::Bool(_) => {
+                let truths = truths_of_values(alloc, rows.as_slice())?;
+                ColumnRef::of_truths(alloc, dtype, truths)
+            }
+            DType::Primitive(ptype, _) => {
+                let numbers = numbers_of_values(alloc, ptype, rows.as_slice())?;
+                ColumnRef::of_numbers(alloc, dtype, numbers)
+            }
+            _ => Ok(ColumnRef::of_shared(dtype, Rc::new(alloc, rows)?)),
         }
-        Ok(ColumnRef::of_shared(dtype, Rc::new(alloc, rows)?))
     }
 
     /// The column of these truths. It is for truths that are known to be of the type, which is boolean.
@@ -88,10 +97,30 @@ impl ColumnRef {
         }
     }
 
-    /// The column of these shared values. It is for values that are known to be of the type, which isn't boolean.
+    /// The column of these numbers. It is for numbers that are known to be of the type, which is an integer type.
+    pub(crate) fn of_numbers(alloc: Global, dtype: DType, numbers: Numbers) -> Mem<ColumnRef>
+        requires { AreNumbersOf (type_view dtype) numbers }
+        ensures { IfOk result (λ c. c ≡ column (type_view dtype) (numbers_vals numbers)) }
+    {
+        Ok(ColumnRef::of_shared_numbers(dtype, Rc::new(alloc, numbers)?))
+    }
+
+    /// The column of these shared numbers. It is for numbers that are known to be of the type, which is an integer type.
+    pub(crate) fn of_shared_numbers(dtype: DType, numbers: Rc<Numbers>) -> ColumnRef
+        requires { AreNumbersOf (type_view dtype) numbers.value }
+        ensures { result ≡ column (type_view dtype) (numbers_vals numbers.value) }
+    {
+        ColumnRef {
+            dtype,
+            cells: Cells::Numbers(numbers),
+        }
+    }
+
+    /// The column of these shared values. It is for values that are known to be of the type, which is neither boolean nor an integer type.
     pub(crate) fn of_shared(dtype: DType, rows: Rc<Vec<ScalarValue>>) -> ColumnRef
         requires fit { values_fit (type_view dtype) rows.value.items ≡ true }
-        requires kind { is_bool_ty (type_view dtype) ≡ false }
+        requires no_truths { is_bool_ty (type_view dtype) ≡ false }
+        requires no_numbers { is_int_ty (type_view dtype) ≡ false }
         requires names { no_name_twice (type_view dtype) ≡ true }
         ensures { result ≡ column (type_view dtype) (seen_rows (type_view dtype) rows.value.items) }
     {
@@ -131,7 +160,8 @@ impl ColumnRef {
         })
     }
 
-    /// The column of these values, which it keeps. WrongValue exactly where one of them isn't of the type; else DuplicateField exactly where a name stands twice in a struct of the type, at any depth.
+    /// The column of these values, which it keeps. WrongValue exactly where one of them isn't of the type; else DuplicateField exactly
+    /// where a name stands twice in a struct of the type, at any depth.
     pub fn of_values(
         alloc: Global,
         dtype: DType,
@@ -187,6 +217,7 @@ impl ColumnRef {
                 !is_null_value(&values[i])
             }
             Cells::Truths(truths) => truths_in(truths).truth_at(i).is_some(),
+            Cells::Numbers(numbers) => numbers_in(numbers).number_at(i).is_some(),
             Cells::Columns { .. } => true,
         }
     }
@@ -199,6 +230,7 @@ impl ColumnRef {
             Cells::Constant { len, .. } => *len,
             Cells::Rows(rows) => rows.len(),
             Cells::Truths(truths) => truths_in(truths).len(),
+            Cells::Numbers(numbers) => numbers_in(numbers).len(),
             Cells::Columns { len, .. } => *len,
         }
     }
@@ -227,6 +259,7 @@ impl Clone for ColumnRef {
             }
             Cells::Rows(rows) => Ok(ColumnRef::of_shared(dtype, rows.clone()?)),
             Cells::Truths(truths) => Ok(ColumnRef::of_shared_truths(dtype, truths.clone()?)),
+            Cells::Numbers(numbers) => Ok(ColumnRef::of_shared_numbers(dtype, numbers.clone()?)),
             Cells::Columns { fields, len } => Ok(ColumnRef {
                 dtype,
                 cells: Cells::Columns {

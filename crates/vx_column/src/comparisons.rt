@@ -7,10 +7,13 @@ ghost use Rattle.vx_dtype.specs.Order.{meets, compare3, between3};
 ghost use Rattle.vx_dtype.specs.RawViews.{raw_view, raws_of};
 ghost use Rattle.vx_dtype.specs.Lists.{contains3};
 ghost use Rattle.vx_column.specs.Columns.{zip_rows, zip_rows3};
+ghost use Rattle.vx_column.specs.Comparisons.{swapped};
 ghost use Rattle.vx_column.specs.RawParts.{raw_order, raw_equal, raws_have, raw_contains, lists_kind};
 
+use crate::cells::{Cells, numbers_in};
 use crate::columns::ColumnRef;
-use crate::logic::{and_kleene, is_null_value};
+use crate::logic::{and_kleene, is_null_value, union_of};
+use crate::numbers::number_of;
 use crate::rows::{TruthRule, zip_columns};
 use std::alloc::Global;
 use std::cmp::Ordering;
@@ -71,10 +74,40 @@ pub fn compare(alloc: Global, l: &ColumnRef, r: &ColumnRef, op: CompareOperator)
     ensures dtype { IfOk result (λ c. c.ty ≡ bool_ty (union (nullability_of l.now.ty) (nullability_of r.now.ty))) }
     ensures rows { IfOk result (λ c. c.rows ≡ zip_rows (compare3 op) l.now.rows r.now.rows) }
 {
-    let left = l.dtype();
-    let right = r.dtype();
-    let nullability = left.nullability().union(right.nullability());
-    zip_columns(alloc, &Comparison { op, left, right }, nullability, l, r)
+    let nullability = union_of(l, r);
+    match (l.cells(), r.cells()) {
+        (Cells::Numbers(left), Cells::Numbers(right)) => {
+            let truths = numbers_in(left).compare(alloc, numbers_in(right), op)?;
+            ColumnRef::of_truths(alloc, DType::Bool(nullability), truths)
+        }
+        (Cells::Numbers(left), Cells::Constant { value, .. }) => {
+            let truths = numbers_in(left).compare_with(alloc, number_of(value), op)?;
+            ColumnRef::of_truths(alloc, DType::Bool(nullability), truths)
+        }
+        (Cells::Constant { value, .. }, Cells::Numbers(right)) => {
+            let truths = numbers_in(right).compare_with(alloc, number_of(value), swapped(op))?;
+            ColumnRef::of_truths(alloc, DType::Bool(nullability), truths)
+        }
+        _ => {
+            let left = l.dtype();
+            let right = r.dtype();
+            zip_columns(alloc, &Comparison { op, left, right }, nullability, l, r)
+        }
+    }
+}
+
+/// The comparison that holds of two values where this one does of the second and the first.
+fn swapped(op: CompareOperator) -> CompareOperator
+    ensures { result ≡ swapped op }
+{
+    match op {
+        CompareOperator::Eq => CompareOperator::Eq,
+        CompareOperator::NotEq => CompareOperator::NotEq,
+        CompareOperator::Gt => CompareOperator::Lt,
+        CompareOperator::Gte => CompareOperator::Lte,
+        CompareOperator::Lt => CompareOperator::Gt,
+        CompareOperator::Lte => CompareOperator::Gte,
+    }
 }
 
 /// Whether the lower bound stands before the value and the value before the upper bound, row by row. The conjunction is Kleene's, also beside a null bound.
@@ -166,12 +199,9 @@ pub fn list_contains(alloc: Global, list: &ColumnRef, value: &ColumnRef) -> Mem<
     ensures dtype { IfOk result (λ c. c.ty ≡ bool_ty (union (nullability_of list.now.ty) (nullability_of value.now.ty))) }
     ensures rows { IfOk result (λ c. c.rows ≡ zip_rows contains3 list.now.rows value.now.rows) }
 {
-    let lists = list.dtype();
-    let values = value.dtype();
-    let nullability = lists.nullability().union(values.nullability());
     let rule = Membership {
-        list: lists,
-        value: values,
+        list: list.dtype(),
+        value: value.dtype(),
     };
-    zip_columns(alloc, &rule, nullability, list, value)
+    zip_columns(alloc, &rule, union_of(list, value), list, value)
 }

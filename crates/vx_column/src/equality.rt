@@ -5,7 +5,8 @@ ghost use Rattle.std.specs.List.{All, AllZip, flat_map};
 ghost use Rattle.std.proofs.Common.{ap};
 ghost use Rattle.std.proofs.Math.ListN.{replicate};
 ghost use Rattle.vx_dtype.specs.Fits.{fits};
-ghost use Rattle.vx_dtype.specs.TypeRules.{is_bool_ty};
+ghost use Rattle.vx_dtype.specs.Types.{int_ty};
+ghost use Rattle.vx_dtype.specs.TypeRules.{is_bool_ty, nullability_of};
 ghost use Rattle.vx_words.specs.Truths.{vals_of};
 ghost use Rattle.vx_words.specs.Words.{truth_val};
 ghost use Rattle.vx_dtype.specs.RawViews.{raw_view};
@@ -13,14 +14,16 @@ ghost use Rattle.vx_column.specs.Columns.{row_at, values_fit, seen, seen_rows};
 ghost use Rattle.vx_column.specs.StructColumns.{column_types};
 ghost use Rattle.vx_column.specs.ColumnEqual.{column_eq, column_feed, val_feed};
 ghost use Rattle.vx_column.specs.ColumnEqualLaws.{column_eq_equiv, column_decides};
-ghost use Rattle.vx_column.specs.Cells.{HasFit, HasAt, AreStructsOf, AreOfOneShape, fields_feed};
+ghost use Rattle.vx_column.specs.Cells.{HasFit, HasAt, AreStructsOf, AreOfOneShape, fields_feed, numbers_vals};
 
-use crate::cells::{Cells, columns_in, truths_in, values_in};
+use crate::cells::{Cells, columns_in, numbers_in, truths_in, values_in};
 use crate::columns::ColumnRef;
 use crate::fields::parts_of;
 use crate::logic::of_truth;
+use crate::numbers::of_number;
 use std::hash::{Hash, Hasher};
 use vx_dtype::ScalarValue;
+use vx_numbers::Numbers;
 use vx_words::Truths;
 
 /// Whether a column has this value of its type at a row.
@@ -38,6 +41,10 @@ fn has_at(column: &ColumnRef, i: usize, value: &ScalarValue) -> bool
         }
         Cells::Truths(truths) => {
             let own = of_truth(truths_in(truths).truth_at(i));
+            &own == value
+        }
+        Cells::Numbers(numbers) => {
+            let own = of_number(numbers_in(numbers).number_at(i));
             &own == value
         }
         Cells::Columns { fields, .. } => match parts_of(value) {
@@ -110,6 +117,27 @@ fn has_truths(column: &ColumnRef, truths: &Truths) -> bool
     true
 }
 
+/// Whether two numbers are one, or both are null.
+fn same_number(l: Option<i128>, r: Option<i128>) -> bool
+    ensures { Decides result (l ≡ r) }
+{
+    l == r
+}
+
+/// Whether a column of an integer type has these numbers, row by row.
+fn has_numbers(column: &ColumnRef, numbers: &Numbers) -> bool
+    requires kind { column.now.ty ≡ int_ty numbers.now.ptype (nullability_of column.now.ty) }
+    requires lengths { length numbers.now.numbers ≡ length column.now.rows }
+    ensures { Decides result (numbers_vals numbers.now ≡ column.now.rows) }
+{
+    for i in 0..numbers.len() {
+        if !same_number(column.number_at(i), numbers.number_at(i)) {
+            return false;
+        }
+    }
+    true
+}
+
 /// Whether two columns of one type have the same rows.
 #[cycle(same)]
 fn same(left: &ColumnRef, right: &ColumnRef) -> bool
@@ -123,6 +151,7 @@ fn same(left: &ColumnRef, right: &ColumnRef) -> bool
         Cells::Constant { value, .. } => has_everywhere(right, value),
         Cells::Rows(rows) => has_rows(right, values_in(rows)),
         Cells::Truths(truths) => has_truths(right, truths_in(truths)),
+        Cells::Numbers(numbers) => has_numbers(right, numbers_in(numbers)),
         Cells::Columns { fields, .. } => has_structs(right, left, columns_in(fields)),
     }
 }
@@ -137,8 +166,8 @@ fn has_structs(column: &ColumnRef, structs: &ColumnRef, fields: &[ColumnRef]) ->
     match column.cells() {
         Cells::Constant { value, .. } => has_everywhere(structs, value),
         Cells::Rows(rows) => has_rows(structs, values_in(rows)),
-        Cells::Truths(_) => unreachable!(),
         Cells::Columns { fields: others, .. } => same_fields(fields, columns_in(others)),
+        _ => unreachable!(),
     }
 }
 
@@ -187,6 +216,7 @@ fn feed_at<H: Hasher>(column: &ColumnRef, i: usize, state: &mut H)
             values[i].hash(state);
         }
         Cells::Truths(truths) => of_truth(truths_in(truths).truth_at(i)).hash(state),
+        Cells::Numbers(numbers) => of_number(numbers_in(numbers).number_at(i)).hash(state),
         Cells::Columns { fields, .. } => {
             state.write_u8(5);
             feed_fields(columns_in(fields), i, state);

@@ -47,7 +47,8 @@ impl RowRule for FieldRule<'_> {
 }
 
 impl ColumnRef {
-    /// The column of the field with this name: null where the struct is null, and of a type that is nullable also where the struct's is. UnknownField exactly where there is no field of this name.
+    /// The column of the field with this name: null where the struct is null, and of a type that is nullable also where the struct's is.
+    /// UnknownField exactly where there is no field of this name.
     pub fn field(&self, alloc: Global, name: &FieldName) -> Result<ColumnRef, ColumnError>
         requires { is_struct_ty self.now.ty ≡ true }
         ensures { Answers result (field_column name.now self.now) }

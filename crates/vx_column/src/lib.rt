@@ -12,6 +12,7 @@ mod likes;
 mod logic;
 mod making;
 mod masks;
+mod numbers;
 mod patterns;
 mod projections;
 mod reading;

@@ -122,7 +122,9 @@ impl Matching {
     }
 }
 
-/// Whether the text matches the pattern, row by row, inverted where this is negated; null where a side is null. In a pattern `%` matches any run of characters, `_` one character, `\` makes the next character stand for itself, and a last `\` stands for itself. Where the match is case-insensitive, it folds ASCII letters alone.
+/// Whether the text matches the pattern, row by row, inverted where this is negated; null where a side is null. In a pattern `%` matches
+/// any run of characters, `_` one character, `\` makes the next character stand for itself, and a last `\` stands for itself. Where the
+/// match is case-insensitive, it folds ASCII letters alone.
 pub fn like(
     alloc: Global,
     c: &ColumnRef,

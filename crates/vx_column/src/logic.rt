@@ -14,7 +14,7 @@ ghost use Rattle.vx_column.specs.Columns.{seen, zip_rows};
 ghost use Rattle.vx_column.specs.Connectives.{connected3};
 ghost use Rattle.vx_column.specs.RawParts.{is_raw_null, raw_truth, truth_fits};
 
-use crate::cells::{Cells, truths_in, values_in};
+use crate::cells::{Cells, numbers_in, truths_in, values_in};
 use crate::columns::ColumnRef;
 use crate::reading::truths_of;
 use std::alloc::Global;
@@ -245,6 +245,10 @@ pub fn is_null(alloc: Global, c: &ColumnRef) -> Mem<ColumnRef>
         }
         Cells::Truths(truths) => {
             let nulls = truths_in(truths).is_null(alloc)?;
+            ColumnRef::of_truths(alloc, made, nulls)
+        }
+        Cells::Numbers(numbers) => {
+            let nulls = numbers_in(numbers).is_null(alloc)?;
             ColumnRef::of_truths(alloc, made, nulls)
         }
         Cells::Columns { .. } => unreachable!(),

@@ -8,7 +8,8 @@ ghost use Rattle.vx_dtype.specs.RawViews.{raw_view, raws_of};
 ghost use Rattle.vx_dtype.specs.TypeViews.{type_view};
 ghost use Rattle.vx_column.specs.declared.errors.ColumnError.TheVariants.{DuplicateField};
 ghost use Rattle.vx_column.specs.Columns.{column};
-ghost use Rattle.vx_column.specs.Cells.{truths_fit};
+ghost use Rattle.vx_column.specs.Cells.{numbers_fit, truths_fit};
+ghost use Rattle.vx_column.specs.Totals.{number_fits};
 ghost use Rattle.vx_column.specs.Answers.{Answers, unless, optional_raw, list_raw, column_of_raws};
 
 use crate::columns::ColumnRef;
@@ -16,10 +17,12 @@ use crate::errors::ColumnError;
 use std::alloc::Global;
 use std::rc::Rc;
 use vx_dtype::{DType, ElementType, Mem, Nullability, PType, Scalar, ScalarValue, Text};
+use vx_numbers::Numbers;
 use vx_words::Truths;
 
 impl ColumnRef {
-    /// The column of these values of the type. WrongValue exactly where one of them isn't of the type; else DuplicateField exactly where a name stands twice in a struct of the type, at any depth.
+    /// The column of these values of the type. WrongValue exactly where one of them isn't of the type; else DuplicateField exactly where a
+    /// name stands twice in a struct of the type, at any depth.
     #[tactic(auto, using(crate::proofs::MadeLemmas::clones_are_the_same))]
     pub fn from_values(
         alloc: Global,
@@ -57,7 +60,8 @@ impl ColumnRef {
         Ok(ColumnRef::of_truths(alloc, DType::Bool(n), truths)?)
     }
 
-    /// The column of these numbers of an integer type, null where there is none. WrongValue exactly where a number is out of the type's range, or there is none and the type isn't nullable.
+    /// The column of these numbers of an integer type, null where there is none. WrongValue exactly where a number is out of the type's
+    /// range, or there is none and the type isn't nullable.
     pub fn primitive(
         alloc: Global,
         p: PType,
@@ -66,14 +70,11 @@ impl ColumnRef {
     ) -> Result<ColumnRef, ColumnError>
         ensures { Answers result (column_of_raws (int_ty p n) (map (optional_raw raw_int) values.items)) }
     {
-        let mut rows = Vec::with_capacity(alloc, values.len())?;
-        for value in values {
-            rows.push(match value {
-                Some(i) => ScalarValue::Int(i),
-                None => ScalarValue::Null,
-            })?;
+        if !all_in_range(p, n, values.as_slice()) {
+            return Err(ColumnError::WrongValue);
         }
-        ColumnRef::of_values(alloc, DType::Primitive(p, n), rows)
+        let numbers = Numbers::from_options(alloc, p, values.as_slice())?;
+        Ok(ColumnRef::of_numbers(alloc, DType::Primitive(p, n), numbers)?)
     }
 
     /// The column of these texts, null where there is none. WrongValue exactly where there is none and the type isn't nullable.
@@ -94,7 +95,9 @@ impl ColumnRef {
         ColumnRef::of_values(alloc, DType::Utf8(n), rows)
     }
 
-    /// The column of these lists, null where there is none. WrongValue exactly where an element isn't of the element type, or there is no list and the type isn't nullable; else DuplicateField exactly where a name stands twice in a struct of the element type, at any depth.
+    /// The column of these lists, null where there is none. WrongValue exactly where an element isn't of the element type, or there is no
+    /// list and the type isn't nullable; else DuplicateField exactly where a name stands twice in a struct of the element type, at any
+    /// depth.
     pub fn list(
         alloc: Global,
         element: DType,
@@ -118,6 +121,28 @@ fn all_fit(n: Nullability, truths: &[Option<bool>]) -> bool
         }
     }
     true
+}
+
+/// Whether an integer type has each of the numbers, and the null where there is none.
+fn all_in_range(p: PType, n: Nullability, numbers: &[Option<i128>]) -> bool
+    ensures { result ≡ numbers_fit p n numbers.now }
+{
+    for number in numbers {
+        if !has_number(p, n, *number) {
+            return false;
+        }
+    }
+    true
+}
+
+/// Whether an integer type has a number, or the null where there is none.
+fn has_number(p: PType, n: Nullability, number: Option<i128>) -> bool
+    ensures { result ≡ number_fits p n number }
+{
+    match number {
+        Some(i) => p.in_range(i),
+        None => n == Nullability::Nullable,
+    }
 }
 
 /// The lists as values, null where there is none.

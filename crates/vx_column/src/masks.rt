@@ -11,7 +11,7 @@ ghost use Rattle.vx_words.specs.Truths.{is_true, vals_of};
 ghost use Rattle.vx_column.specs.Columns.{row_at, values_fit, seen, seen_rows, kept_rows, true_count, masked, zip_rows};
 ghost use Rattle.vx_column.specs.Cells.{keeps_values, kept_column};
 
-use crate::cells::{Cells, columns_in, truths_in, values_in};
+use crate::cells::{Cells, columns_in, numbers_in, truths_in, values_in};
 use crate::columns::ColumnRef;
 use crate::logic::{null, truth_of};
 use crate::reading::truths_of;
@@ -37,8 +37,16 @@ impl ColumnRef {
         let truths = truths_of(alloc, nulls)?;
         let nullable = self.made_nullable(alloc)?;
         let dtype = nullable.dtype().clone()?;
-        let rows = masked_values(alloc, &nullable, truths_in(&truths))?;
-        ColumnRef::of_rows(alloc, dtype, rows)
+        match nullable.cells() {
+            Cells::Numbers(numbers) => {
+                let masked = numbers_in(numbers).mask(alloc, truths_in(&truths))?;
+                ColumnRef::of_numbers(alloc, dtype, masked)
+            }
+            _ => {
+                let rows = masked_values(alloc, &nullable, truths_in(&truths))?;
+                ColumnRef::of_rows(alloc, dtype, rows)
+            }
+        }
     }
 
     /// The rows where the other column is true, in order.
@@ -114,6 +122,10 @@ fn kept_of(alloc: Global, column: &ColumnRef, keep: &Truths) -> Mem<ColumnRef>
         Cells::Truths(truths) => {
             let kept = truths_in(truths).filter(alloc, keep)?;
             ColumnRef::of_truths(alloc, dtype, kept)
+        }
+        Cells::Numbers(numbers) => {
+            let kept = numbers_in(numbers).filter(alloc, keep)?;
+            ColumnRef::of_numbers(alloc, dtype, kept)
         }
         Cells::Columns { fields, .. } => {
             let kept = kept_fields(alloc, columns_in(fields), keep)?;

@@ -46,7 +46,8 @@ impl RowRule for Projection<'_> {
 }
 
 impl ColumnRef {
-    /// The column of structs of the fields with these names, in their order, null where the struct is, and nullable where its type is. UnknownField exactly where there is no field of one of the names; else DuplicateField exactly where a name is asked twice.
+    /// The column of structs of the fields with these names, in their order, null where the struct is, and nullable where its type is.
+    /// UnknownField exactly where there is no field of one of the names; else DuplicateField exactly where a name is asked twice.
     pub fn project(&self, alloc: Global, names: &[FieldName]) -> Result<ColumnRef, ColumnError>
         requires { is_struct_ty self.now.ty ≡ true }
         ensures { Answers result (projected_column names.now self.now) }

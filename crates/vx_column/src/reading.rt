@@ -3,22 +3,26 @@ ghost use Rattle.std.specs.Prelude.{◌≡◌, ◌<◌, true, length, OnErr, IfO
 ghost use Rattle.std.specs.List.{All, AllZip};
 ghost use Rattle.std.proofs.Math.ListN.{replicate};
 ghost use Rattle.vx_dtype.specs.declared.Nullability.TheVariants.{Nullable};
-ghost use Rattle.vx_dtype.specs.Types.{Ty};
+ghost use Rattle.vx_dtype.specs.declared.Nullability.{Nullability};
+ghost use Rattle.vx_dtype.specs.declared.PType.{PType};
+ghost use Rattle.vx_dtype.specs.Types.{Ty, int_ty};
 ghost use Rattle.vx_dtype.specs.Fits.{fits};
 ghost use Rattle.vx_dtype.specs.RawViews.{raw_view};
-ghost use Rattle.vx_dtype.specs.TypeRules.{is_bool_ty, is_text_ty, nullability_of, with_nullability};
+ghost use Rattle.vx_dtype.specs.TypeRules.{is_bool_ty, is_int_ty, is_text_ty, nullability_of, with_nullability};
 ghost use Rattle.vx_column.specs.Columns.{AppendsRows, column, row_at, values_fit, seen, seen_rows};
 ghost use Rattle.vx_column.specs.StructColumns.{StandsAt};
 ghost use Rattle.vx_column.specs.Cells.{keeps_values, truths_fit};
 ghost use Rattle.vx_column.specs.Patterns.{text_or_null, text_or_null_fits};
 ghost use Rattle.vx_column.specs.RowValues.{shown};
+ghost use Rattle.vx_column.specs.Totals.{number_val};
 ghost use Rattle.vx_words.specs.Truths.{vals_of};
 ghost use Rattle.vx_words.specs.Words.{truth_val};
 
-use crate::cells::{Cells, columns_in, truths_in, values_in};
+use crate::cells::{Cells, columns_in, numbers_in, truths_in, values_in};
 use crate::columns::ColumnRef;
 use crate::likes::text_of;
 use crate::logic::{of_truth, truth_of};
+use crate::numbers::{number_of, of_number};
 use crate::structs::struct_of;
 use std::alloc::Global;
 use std::rc::Rc;
@@ -59,6 +63,7 @@ impl ColumnRef {
                 RowValue::Kept(&values[i])
             }
             Cells::Truths(truths) => RowValue::Made(of_truth(truths_in(truths).truth_at(i))),
+            Cells::Numbers(numbers) => RowValue::Made(of_number(numbers_in(numbers).number_at(i))),
             Cells::Columns { .. } => unreachable!(),
         }
     }
@@ -89,6 +94,19 @@ impl ColumnRef {
         match self.cells() {
             Cells::Constant { value, .. } => truth_of(value),
             Cells::Truths(truths) => truths_in(truths).truth_at(i),
+            _ => unreachable!(),
+        }
+    }
+
+    /// The number at a row of a column of an integer type, and none of null.
+    pub(crate) fn number_at(&self, i: usize) -> Option<i128>
+        requires numbers { is_int_ty self.now.ty ≡ true }
+        requires row { i < length self.now.rows }
+        ensures { (p : PType) (n : Nullability) → self.now.ty ≡ int_ty p n → number_val p result ≡ row_at self.now i }
+    {
+        match self.cells() {
+            Cells::Constant { value, .. } => number_of(value),
+            Cells::Numbers(numbers) => numbers_in(numbers).number_at(i),
             _ => unreachable!(),
         }
     }
@@ -138,6 +156,7 @@ impl ColumnRef {
             }
             Cells::Rows(rows) => Ok(ColumnRef::of_shared(dtype, rows.clone()?)),
             Cells::Truths(truths) => Ok(ColumnRef::of_shared_truths(dtype, truths.clone()?)),
+            Cells::Numbers(numbers) => Ok(ColumnRef::of_shared_numbers(dtype, numbers.clone()?)),
             Cells::Columns { .. } => ColumnRef::of_rows(alloc, dtype, self.made_rows(alloc)?),
         }
     }
@@ -190,6 +209,7 @@ pub(crate) fn made_at(alloc: Global, column: &ColumnRef, i: usize) -> Mem<Scalar
             Ok(values[i].clone()?)
         }
         Cells::Truths(truths) => Ok(of_truth(truths_in(truths).truth_at(i))),
+        Cells::Numbers(numbers) => Ok(of_number(numbers_in(numbers).number_at(i))),
         Cells::Columns { fields, .. } => struct_of(alloc, row_of(alloc, columns_in(fields), i)?),
     }
 }

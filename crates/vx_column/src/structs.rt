@@ -21,7 +21,9 @@ use std::rc::Rc;
 use vx_dtype::{DType, FieldName, FieldNames, Mem, Nullability, ScalarValue, StructFields};
 
 impl ColumnRef {
-    /// The column of structs with these names, whose fields at each row are the columns' values there; null where the truths say that a row isn't valid. Its type is nullable exactly where there are truths. WrongLength exactly where names and columns differ in number, or a column or the truths don't have this many rows; else DuplicateField exactly where a name stands twice.
+    /// The column of structs with these names, whose fields at each row are the columns' values there; null where the truths say that a row
+    /// isn't valid. Its type is nullable exactly where there are truths. WrongLength exactly where names and columns differ in number, or a
+    /// column or the truths don't have this many rows; else DuplicateField exactly where a name stands twice.
     pub fn struct_(
         alloc: Global,
         names: FieldNames,

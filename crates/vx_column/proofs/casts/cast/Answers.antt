@@ -1,13 +1,12 @@
-use Rattle.std.proofs.Common.{◌≡◌, ap, ◌∙◌}
+use Rattle.std.proofs.Common.{◌≡◌, true, ◌&&◌, ap, sym, ◌∙◌}
+use Rattle.vx_dtype.specs.TypeRules.{alike, is_nullable, nullability_of}
 use Rattle.vx_dtype.specs.TypeViews.{type_view}
-use Rattle.vx_column.specs.Columns.{column, seen_rows}
-use Rattle.vx_column.specs.Answers.{unless_faulty}
 use Rattle.vx_column.specs.declared.errors.ColumnError.TheVariants.{BadCast}
-use Rattle.vx_column.proofs.SumLemmas.{faultless}
+use Rattle.vx_column.proofs.CastNumbers.{widened_answer}
 use Rattle.vx_column.proofs.casts.cast.Goals as goal
 
-pub returns-in_ok-of_rows-in-Some : goal.returns-in_ok-of_rows-in-Some
-returns-in_ok-of_rows-in-Some c =
-    let told = rw c.in-Some.is at c.in_ok-made.ensures in
-    let made : c.in_ok-of_rows-in-Some.field-0 ≡ column (type_view c.args.target.now) (seen_rows (type_view c.args.target.now) c.in-Some.made.items) = rw c.in_ok-clone-in-Some.ensures.cases at c.in_ok-of_rows-in-Some.ensures in
-    faultless BadCast (type_view c.args.target.now) c.in-Some.made.items _ told.0 made ∙ ap (unless_faulty BadCast) (made ∙ ap (column (type_view c.args.target.now)) told.1)
+pub returns-then-widens : goal.returns-then-widens
+returns-then-widens c =
+    let wide : (is_nullable (nullability_of (type_view c.args.target.now)) && alike c.args.c.now.ty (type_view c.args.target.now)) ≡ true =
+    ap (λ t. is_nullable (nullability_of (type_view c.args.target.now)) && alike t (type_view c.args.target.now)) (sym c.dtype.ensures.shown) ∙ sym c.if-widens.ensures in
+    widened_answer BadCast (type_view c.args.target.now) c.args.c.now c.in_ok-made_nullable.field-0 c.requires wide c.dtype.ensures.fit c.in_ok-made_nullable.ensures

@@ -11,6 +11,9 @@ use Rattle.vx_column.proofs.CellLemmas.{deepest, deepest_lt, depth_le-deepest, s
 use Rattle.vx_column.proofs.SameLemmas.{kept_fed, struct_fed, fields_fed_more, fields_fed_all}
 use Rattle.vx_words.specs.Truths.{vals_of}
 use Rattle.vx_column.proofs.TruthLemmas.{truth_stands}
+use Rattle.vx_numbers.specs.Numbers.{NumberList}
+use Rattle.vx_column.specs.Cells.{AreNumbersOf, numbers_vals}
+use Rattle.vx_column.proofs.NumberLemmas.{number_stands}
 use Rattle.vx_column.proofs.equality.+feed.Goals as goal
 
 pub feed_at-returns-in-Constant : goal.feed_at-returns-in-Constant
@@ -62,3 +65,11 @@ feed_at-returns-in-Truths g t c =
     let read = c.truth_at.ensures ∙ ap (λ ts. get_or ts c.args.i None) c.truths_in.ensures in
     let stands = truth_stands c.args.column.now c.in-Truths.truths.value c.args.i c.truth_at.result c.of_truth.result parts rows read c.requires c.of_truth.ensures.value c.of_truth.ensures.fit in
     c.hash-in-Truths.ensures ∙ ap (fold g.H.Hasher.write c.args.state.now) (kept_fed c.args.column.now c.args.i c.of_truth.result stands.0 stands.1)
+
+pub feed_at-returns-in-Numbers : goal.feed_at-returns-in-Numbers
+feed_at-returns-in-Numbers g t c =
+    let rows : numbers_vals c.in-Numbers.numbers.value ≡ c.args.column.now.rows = ap (cell_rows c.args.column.now.ty) (sym c.in-Numbers.is) ∙ c.cells.ensures.rows in
+    let parts : AreNumbersOf c.args.column.now.ty c.in-Numbers.numbers.value = subst (ArePartsOf c.args.column.now.ty) c.in-Numbers.is c.cells.ensures.parts in
+    let read = c.number_at.ensures ∙ ap (λ (ns : NumberList). get_or ns.numbers c.args.i None) c.numbers_in.ensures in
+    let stands = number_stands c.args.column.now c.in-Numbers.numbers.value c.args.i c.number_at.result c.of_number.result parts rows read c.requires c.of_number.ensures.value c.of_number.ensures.fit in
+    c.hash-in-Numbers.ensures ∙ ap (fold g.H.Hasher.write c.args.state.now) (kept_fed c.args.column.now c.args.i c.of_number.result stands.0 stands.1)

@@ -14,6 +14,9 @@ use Rattle.vx_column.proofs.CellLemmas.{deepest, deepest_lt, depth_le-deepest, s
 use Rattle.vx_column.proofs.SameLemmas.{has_kept, has_struct, no_null, struct_parts, parts_of_row, zip_length, zip_at, zip_more, zip_all}
 use Rattle.vx_words.specs.Truths.{vals_of}
 use Rattle.vx_column.proofs.TruthLemmas.{truth_stands}
+use Rattle.vx_numbers.specs.Numbers.{NumberList}
+use Rattle.vx_column.specs.Cells.{AreNumbersOf, numbers_vals}
+use Rattle.vx_column.proofs.NumberLemmas.{number_stands}
 use Rattle.vx_column.proofs.equality.+has.Goals as goal
 
 pub has_at-returns-in-Constant : goal.has_at-returns-in-Constant
@@ -101,3 +104,12 @@ has_at-returns-in-Truths t c =
     let stands = truth_stands c.args.column.now c.in-Truths.truths.value c.args.i c.truth_at.result c.of_truth-own.result parts rows read c.requires.row c.of_truth-own.ensures.value c.of_truth-own.ensures.fit in
     let same : Decides c.eq-in-Truths.result (raw_view c.of_truth-own.result ≡ raw_view c.args.value.now) = rw c.eq-in-Truths.ensures (raw_decides (raw_view c.of_truth-own.result) (raw_view c.args.value.now)) in
     has_kept c.args.column.now c.args.i c.of_truth-own.result c.args.value.now _ stands.0 c.requires.fit stands.1 same
+
+pub has_at-returns-in-Numbers : goal.has_at-returns-in-Numbers
+has_at-returns-in-Numbers t c =
+    let rows : numbers_vals c.in-Numbers.numbers.value ≡ c.args.column.now.rows = ap (cell_rows c.args.column.now.ty) (sym c.in-Numbers.is) ∙ c.cells.ensures.rows in
+    let parts : AreNumbersOf c.args.column.now.ty c.in-Numbers.numbers.value = subst (ArePartsOf c.args.column.now.ty) c.in-Numbers.is c.cells.ensures.parts in
+    let read = c.number_at.ensures ∙ ap (λ (ns : NumberList). get_or ns.numbers c.args.i None) c.numbers_in.ensures in
+    let stands = number_stands c.args.column.now c.in-Numbers.numbers.value c.args.i c.number_at.result c.of_number-own.result parts rows read c.requires.row c.of_number-own.ensures.value c.of_number-own.ensures.fit in
+    let same : Decides c.eq-in-Numbers.result (raw_view c.of_number-own.result ≡ raw_view c.args.value.now) = rw c.eq-in-Numbers.ensures (raw_decides (raw_view c.of_number-own.result) (raw_view c.args.value.now)) in
+    has_kept c.args.column.now c.args.i c.of_number-own.result c.args.value.now _ stands.0 c.requires.fit stands.1 same

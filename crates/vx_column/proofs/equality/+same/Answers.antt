@@ -10,6 +10,8 @@ use Rattle.vx_column.specs.StructColumns.{column_types}
 use Rattle.vx_column.specs.Cells.{cell_rows, structs_of, AreFieldsOf, ArePartsOf, AreStructsOf}
 use Rattle.vx_column.proofs.CellLemmas.{deepest, deepest_lt, depth_le-deepest, structs_length, values_length}
 use Rattle.vx_column.proofs.SameLemmas.{constant_same, values_same, structs_same, turned, kept_structs_of, kept_types_same, fields_alike, types_at, column_same}
+use Rattle.vx_dtype.specs.Values.{Val}
+use Rattle.vx_column.specs.Cells.{numbers_vals}
 use Rattle.vx_column.proofs.equality.+same.Goals as goal
 
 pub same-has_everywhere-requires : goal.same-has_everywhere-requires
@@ -112,3 +114,8 @@ pub same_fields-returns : goal.same_fields-returns
 same_fields-returns t c =
     let number = fields_alike c.args.left.now c.args.right.now c.requires in
     (λ e. sym (take_all c.loop-k.k c.args.left.now (omega arith)) ∙ c.loop-k.invariant ∙ take_all c.loop-k.k c.args.right.now (omega (arith, number)), λ p. refl)
+
+pub same-returns-in-Numbers : goal.same-returns-in-Numbers
+same-returns-in-Numbers t c =
+    let rows : numbers_vals c.in-Numbers.numbers.value ≡ c.args.left.now.rows = ap (cell_rows c.args.left.now.ty) (sym c.in-Numbers.is) ∙ c.cells.ensures.rows in
+    subst (λ (vs : List Val). Decides c.has_numbers.result (vs ≡ c.args.right.now.rows)) (ap numbers_vals c.numbers_in.ensures ∙ rows) c.has_numbers.ensures

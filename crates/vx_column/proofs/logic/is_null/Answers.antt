@@ -15,6 +15,9 @@ use Rattle.vx_column.proofs.RowLemmas.{map_repeated}
 use Rattle.vx_column.proofs.StructLemmas.{if_ok_map}
 use Rattle.vx_column.proofs.CellLemmas.{none_null}
 use Rattle.vx_column.proofs.TruthLemmas.{tests_are_truths, nulls_of_truths, nulls_seen}
+use Rattle.vx_numbers.specs.Numbers.{NumberList, null_test}
+use Rattle.vx_column.specs.Cells.{numbers_vals}
+use Rattle.vx_column.proofs.NumberLemmas.{null_tests_are_truths, null_tests_of}
 use Rattle.vx_column.proofs.logic.is_null.Goals as goal
 
 pub of_constant-requires-clause-fit : goal.of_constant-requires-clause-fit
@@ -45,3 +48,12 @@ returns-in_ok-truths-in-Rows-clause-rows c =
     let fit : values_fit c.args.c.now.ty c.in-Rows.rows.value.items ≡ true = (subst (ArePartsOf c.args.c.now.ty) c.in-Rows.is c.cells.ensures.parts).fit in
     let made : vals_of c.in_ok-truths-in-Rows.truths ≡ map is_null3 c.args.c.now.rows = ap vals_of c.in_ok-truths-in-Rows.ensures ∙ nulls_seen c.args.c.now.ty c.values_in.result.now (ap (values_fit c.args.c.now.ty) c.values_in.ensures ∙ fit) ∙ ap (λ xs. map is_null3 (seen_rows c.args.c.now.ty xs)) c.values_in.ensures ∙ ap (map is_null3) rows in
     if_ok_map _ _ c.of_truths.result (λ (x : Column) (h : x ≡ column (bool_ty NonNullable) (vals_of c.in_ok-truths-in-Rows.truths)). ap (λ (r : Column). r.rows) h ∙ made) c.of_truths.ensures
+
+pub of_truths-requires-in-Numbers : goal.of_truths-requires-in-Numbers
+of_truths-requires-in-Numbers c = null_tests_are_truths (bool_ty NonNullable) c.numbers_in.result.now.numbers c.in_ok-nulls-in-Numbers.nulls refl c.in_ok-nulls-in-Numbers.ensures
+
+pub returns-in_ok-nulls-in-Numbers-clause-rows : goal.returns-in_ok-nulls-in-Numbers-clause-rows
+returns-in_ok-nulls-in-Numbers-clause-rows c =
+    let rows : numbers_vals c.in-Numbers.numbers.value ≡ c.args.c.now.rows = ap (cell_rows c.args.c.now.ty) (sym c.in-Numbers.is) ∙ c.cells.ensures.rows in
+    let made = null_tests_of c.in-Numbers.numbers.value c.in_ok-nulls-in-Numbers.nulls c.args.c.now.rows rows (c.in_ok-nulls-in-Numbers.ensures ∙ ap (λ (ns : NumberList). map null_test ns.numbers) c.numbers_in.ensures) in
+    if_ok_map _ _ c.of_truths-in-Numbers.result (λ (x : Column) (h : x ≡ column (bool_ty NonNullable) (vals_of c.in_ok-nulls-in-Numbers.nulls)). ap (λ (r : Column). r.rows) h ∙ made) c.of_truths-in-Numbers.ensures

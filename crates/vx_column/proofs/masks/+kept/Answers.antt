@@ -11,6 +11,9 @@ use Rattle.vx_column.proofs.StructLemmas.{if_ok_map}
 use Rattle.vx_column.proofs.CellLemmas.{deepest, deepest_lt, depth_le-deepest, structs_length, fields_have_rows}
 use Rattle.vx_column.proofs.KeptLemmas.{kept_constant, kept_values, kept_structure}
 use Rattle.vx_column.proofs.TruthLemmas.{true_count_of, kept_truths_of, kept_truths_column}
+use Rattle.vx_numbers.specs.Numbers.{NumberList, number_list, kept_numbers}
+use Rattle.vx_column.specs.Cells.{AreNumbersOf, numbers_vals}
+use Rattle.vx_column.proofs.NumberLemmas.{kept_numbers_of, kept_numbers_column}
 use Rattle.vx_column.proofs.masks.+kept.Goals as goal
 
 pub kept_of-returns-in_ok-clone-in-Constant : goal.kept_of-returns-in_ok-clone-in-Constant
@@ -78,3 +81,17 @@ kept_of-returns-in_ok-kept-in-Truths t c =
     let type : type_view c.in_ok-dtype.dtype ≡ c.args.column.now.ty = c.in_ok-dtype.ensures.cases ∙ c.dtype.ensures.shown in
     let kept = c.in_ok-kept-in-Truths.ensures ∙ ap (λ ts. kept_truths ts c.args.keep.now) c.truths_in.ensures in
     if_ok_map _ _ c.of_truths.result (λ (x : Column) (h : x ≡ column (type_view c.in_ok-dtype.dtype) (vals_of c.in_ok-kept-in-Truths.kept)). h ∙ kept_truths_column c.args.column.now (type_view c.in_ok-dtype.dtype) c.in-Truths.truths.value c.args.keep.now c.in_ok-kept-in-Truths.kept type rows kept) c.of_truths.ensures
+
+pub kept_of-of_numbers-requires : goal.kept_of-of_numbers-requires
+kept_of-of_numbers-requires t c =
+    let parts : AreNumbersOf c.args.column.now.ty c.in-Numbers.numbers.value = subst (ArePartsOf c.args.column.now.ty) c.in-Numbers.is c.cells.ensures.parts in
+    let type : type_view c.in_ok-dtype.dtype ≡ c.args.column.now.ty = c.in_ok-dtype.ensures.cases ∙ c.dtype.ensures.shown in
+    let kept = c.in_ok-kept-in-Numbers.ensures ∙ ap (λ (ns : NumberList). number_list ns.ptype (kept_numbers ns.numbers c.args.keep.now)) c.numbers_in.ensures in
+    kept_numbers_of c.args.column.now.ty _ c.in-Numbers.numbers.value _ c.args.keep.now type parts kept
+
+pub kept_of-returns-in_ok-kept-in-Numbers : goal.kept_of-returns-in_ok-kept-in-Numbers
+kept_of-returns-in_ok-kept-in-Numbers t c =
+    let rows : numbers_vals c.in-Numbers.numbers.value ≡ c.args.column.now.rows = ap (cell_rows c.args.column.now.ty) (sym c.in-Numbers.is) ∙ c.cells.ensures.rows in
+    let type : type_view c.in_ok-dtype.dtype ≡ c.args.column.now.ty = c.in_ok-dtype.ensures.cases ∙ c.dtype.ensures.shown in
+    let kept = c.in_ok-kept-in-Numbers.ensures ∙ ap (λ (ns : NumberList). number_list ns.ptype (kept_numbers ns.numbers c.args.keep.now)) c.numbers_in.ensures in
+    if_ok_map _ _ c.of_numbers.result (λ (x : Column) (h : x ≡ column (type_view c.in_ok-dtype.dtype) (numbers_vals c.in_ok-kept-in-Numbers.kept)). h ∙ kept_numbers_column c.args.column.now (type_view c.in_ok-dtype.dtype) c.in-Numbers.numbers.value c.in_ok-kept-in-Numbers.kept c.args.keep.now type rows kept) c.of_numbers.ensures

@@ -11,6 +11,9 @@ use Rattle.vx_column.proofs.StructLemmas.{all_rows_at, all_zip_more, if_ok_map}
 use Rattle.vx_column.proofs.CellLemmas.{deepest, deepest_lt, depth_le-deepest, structs_length, values_row, values_fit_at, clone_stands, struct_stands_at}
 use Rattle.vx_words.specs.Truths.{vals_of}
 use Rattle.vx_column.proofs.TruthLemmas.{truth_stands}
+use Rattle.vx_column.specs.Cells.{AreNumbersOf, numbers_vals}
+use Rattle.vx_column.proofs.NumberLemmas.{number_stands}
+use Rattle.vx_numbers.specs.Numbers.{NumberList}
 use Rattle.vx_column.proofs.reading.+made.Goals as goal
 
 pub made_at-returns-in_ok-clone-in-Rows : goal.made_at-returns-in_ok-clone-in-Rows
@@ -55,3 +58,10 @@ made_at-returns-in-Truths t c =
     let parts : AreTruthsOf c.args.column.now.ty c.in-Truths.truths.value = subst (ArePartsOf c.args.column.now.ty) c.in-Truths.is c.cells.ensures.parts in
     let read = c.truth_at.ensures ∙ ap (λ ts. get_or ts c.args.i None) c.truths_in.ensures in
     truth_stands c.args.column.now c.in-Truths.truths.value c.args.i c.truth_at.result c.of_truth.result parts rows read c.requires c.of_truth.ensures.value c.of_truth.ensures.fit
+
+pub made_at-returns-in-Numbers : goal.made_at-returns-in-Numbers
+made_at-returns-in-Numbers t c =
+    let rows : numbers_vals c.in-Numbers.numbers.value ≡ c.args.column.now.rows = ap (cell_rows c.args.column.now.ty) (sym c.in-Numbers.is) ∙ c.cells.ensures.rows in
+    let parts : AreNumbersOf c.args.column.now.ty c.in-Numbers.numbers.value = subst (ArePartsOf c.args.column.now.ty) c.in-Numbers.is c.cells.ensures.parts in
+    let read = c.number_at.ensures ∙ ap (λ (ns : NumberList). get_or ns.numbers c.args.i None) c.numbers_in.ensures in
+    number_stands c.args.column.now c.in-Numbers.numbers.value c.args.i c.number_at.result c.of_number.result parts rows read c.requires c.of_number.ensures.value c.of_number.ensures.fit

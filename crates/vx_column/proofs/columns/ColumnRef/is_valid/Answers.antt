@@ -1,4 +1,4 @@
-use Rattle.std.proofs.Common.{◌≡◌, true, ap, sym, ◌∙◌, subst, get_or}
+use Rattle.std.proofs.Common.{◌≡◌, None, true, ap, sym, ◌∙◌, subst, get_or}
 use Rattle.std.proofs.Math.ListN.{replicate}
 use Rattle.vx_dtype.specs.TypeRules.{field_names, fields_of}
 use Rattle.vx_dtype.specs.Logic.{is_null3}
@@ -7,6 +7,9 @@ use Rattle.vx_dtype.specs.RawViews.{raw_view}
 use Rattle.vx_column.specs.Columns.{seen, seen_rows, values_fit}
 use Rattle.vx_column.specs.Cells.{cell_rows, structs_of, ArePartsOf}
 use Rattle.vx_column.proofs.CellLemmas.{constant_row, values_row, values_fit_at, structs_row, valid_kept}
+use Rattle.vx_numbers.specs.Numbers.{NumberList}
+use Rattle.vx_column.specs.Cells.{numbers_vals}
+use Rattle.vx_column.proofs.NumberLemmas.{number_valid}
 use Rattle.vx_column.proofs.columns.ColumnRef.is_valid.Goals as goal
 
 pub returns-in-Constant : goal.returns-in-Constant
@@ -27,3 +30,9 @@ pub returns-in-Columns : goal.returns-in-Columns
 returns-in-Columns c =
     let rows : structs_of (field_names (fields_of c.args.self.now.ty)) c.in-Columns.fields.value.items c.in-Columns.len ≡ c.args.self.now.rows = ap (cell_rows c.args.self.now.ty) (sym c.in-Columns.is) ∙ c.cells.ensures.rows in
     ap is_null3 (sym (structs_row c.args.self.now _ _ _ c.args.i rows c.requires))
+
+pub returns-in-Numbers : goal.returns-in-Numbers
+returns-in-Numbers c =
+    let rows : numbers_vals c.in-Numbers.numbers.value ≡ c.args.self.now.rows = ap (cell_rows c.args.self.now.ty) (sym c.in-Numbers.is) ∙ c.cells.ensures.rows in
+    let read = c.number_at.ensures ∙ ap (λ (ns : NumberList). get_or ns.numbers c.args.i None) c.numbers_in.ensures in
+    number_valid c.args.self.now c.in-Numbers.numbers.value c.args.i c.number_at.result _ rows read c.is_some-in-Numbers.ensures

@@ -11,6 +11,9 @@ use Rattle.vx_column.proofs.FitLemmas.{names_with_nullability, fits_nullable}
 use Rattle.vx_column.proofs.StructLemmas.{if_ok_map}
 use Rattle.vx_column.proofs.CellLemmas.{nullable_constant, nullable_values, values_fit_nullable}
 use Rattle.vx_column.proofs.TruthLemmas.{truths_made_nullable}
+use Rattle.vx_column.specs.Cells.{AreNumbersOf, numbers_vals}
+use Rattle.vx_numbers.specs.Numbers.{NumberList}
+use Rattle.vx_column.proofs.NumberLemmas.{numbers_made_nullable}
 use Rattle.vx_column.proofs.columns.ColumnRef.made_nullable.Goals as goal
 
 pub of_constant-requires-clause-fit : goal.of_constant-requires-clause-fit
@@ -67,3 +70,16 @@ of_shared_truths-requires c =
     let parts : AreTruthsOf c.args.self.now.ty c.in-Truths.truths.value = subst (ArePartsOf c.args.self.now.ty) c.in-Truths.is c.cells.ensures.parts in
     let type : type_view c.in_ok-dtype.dtype ≡ with_nullability c.args.self.now.ty Nullable = c.in_ok-dtype.ensures ∙ ap (λ t. with_nullability t Nullable) c.dtype.ensures.shown in
     rw type (truths_made_nullable c.args.self.now.ty _ parts.kind)
+
+pub of_shared_numbers-requires : goal.of_shared_numbers-requires
+of_shared_numbers-requires c =
+    let parts : AreNumbersOf c.args.self.now.ty c.in-Numbers.numbers.value = subst (ArePartsOf c.args.self.now.ty) c.in-Numbers.is c.cells.ensures.parts in
+    let type : type_view c.in_ok-dtype.dtype ≡ with_nullability c.args.self.now.ty Nullable = c.in_ok-dtype.ensures ∙ ap (λ t. with_nullability t Nullable) c.dtype.ensures.shown in
+    subst (λ (ns : NumberList). AreNumbersOf (type_view c.in_ok-dtype.dtype) ns) (sym c.in_ok-clone-in-Numbers.ensures.cases)
+    (subst (λ t. AreNumbersOf t c.in-Numbers.numbers.value) (sym type) (numbers_made_nullable c.args.self.now.ty c.in-Numbers.numbers.value parts))
+
+pub returns-in_ok-clone-in-Numbers : goal.returns-in_ok-clone-in-Numbers
+returns-in_ok-clone-in-Numbers c =
+    let rows : numbers_vals c.in-Numbers.numbers.value ≡ c.args.self.now.rows = ap (cell_rows c.args.self.now.ty) (sym c.in-Numbers.is) ∙ c.cells.ensures.rows in
+    let type : type_view c.in_ok-dtype.dtype ≡ with_nullability c.args.self.now.ty Nullable = c.in_ok-dtype.ensures ∙ ap (λ t. with_nullability t Nullable) c.dtype.ensures.shown in
+    c.of_shared_numbers.ensures ∙ (λ j. column (type j) ((ap numbers_vals c.in_ok-clone-in-Numbers.ensures.cases ∙ rows) j))

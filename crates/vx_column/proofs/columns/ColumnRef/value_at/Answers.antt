@@ -4,6 +4,9 @@ use Rattle.vx_column.specs.Cells.{cell_rows, ArePartsOf, AreTruthsOf}
 use Rattle.vx_column.proofs.CellLemmas.{values_row, values_fit_at}
 use Rattle.vx_words.specs.Truths.{vals_of}
 use Rattle.vx_column.proofs.TruthLemmas.{truth_stands}
+use Rattle.vx_column.specs.Cells.{AreNumbersOf, numbers_vals}
+use Rattle.vx_column.proofs.NumberLemmas.{number_stands}
+use Rattle.vx_numbers.specs.Numbers.{NumberList}
 use Rattle.vx_column.proofs.columns.ColumnRef.value_at.Goals as goal
 
 pub returns-in-Rows-clause-value : goal.returns-in-Rows-clause-value
@@ -25,3 +28,17 @@ returns-in-Truths-clause-fit c =
     let parts : AreTruthsOf c.args.self.now.ty c.in-Truths.truths.value = subst (ArePartsOf c.args.self.now.ty) c.in-Truths.is c.cells.ensures.parts in
     let read = c.truth_at.ensures ∙ ap (λ ts. get_or ts c.args.i None) c.truths_in.ensures in
     (truth_stands c.args.self.now c.in-Truths.truths.value c.args.i c.truth_at.result c.of_truth.result parts rows read c.requires.row c.of_truth.ensures.value c.of_truth.ensures.fit).0
+
+pub returns-in-Numbers-clause-value : goal.returns-in-Numbers-clause-value
+returns-in-Numbers-clause-value c =
+    let rows : numbers_vals c.in-Numbers.numbers.value ≡ c.args.self.now.rows = ap (cell_rows c.args.self.now.ty) (sym c.in-Numbers.is) ∙ c.cells.ensures.rows in
+    let parts : AreNumbersOf c.args.self.now.ty c.in-Numbers.numbers.value = subst (ArePartsOf c.args.self.now.ty) c.in-Numbers.is c.cells.ensures.parts in
+    let read = c.number_at.ensures ∙ ap (λ (ns : NumberList). get_or ns.numbers c.args.i None) c.numbers_in.ensures in
+    (number_stands c.args.self.now c.in-Numbers.numbers.value c.args.i c.number_at.result c.of_number.result parts rows read c.requires.row c.of_number.ensures.value c.of_number.ensures.fit).1
+
+pub returns-in-Numbers-clause-fit : goal.returns-in-Numbers-clause-fit
+returns-in-Numbers-clause-fit c =
+    let rows : numbers_vals c.in-Numbers.numbers.value ≡ c.args.self.now.rows = ap (cell_rows c.args.self.now.ty) (sym c.in-Numbers.is) ∙ c.cells.ensures.rows in
+    let parts : AreNumbersOf c.args.self.now.ty c.in-Numbers.numbers.value = subst (ArePartsOf c.args.self.now.ty) c.in-Numbers.is c.cells.ensures.parts in
+    let read = c.number_at.ensures ∙ ap (λ (ns : NumberList). get_or ns.numbers c.args.i None) c.numbers_in.ensures in
+    (number_stands c.args.self.now c.in-Numbers.numbers.value c.args.i c.number_at.result c.of_number.result parts rows read c.requires.row c.of_number.ensures.value c.of_number.ensures.fit).0
