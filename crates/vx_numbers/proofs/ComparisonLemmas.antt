@@ -1,5 +1,5 @@
 -- Truths made of the answers of comparisons, and of which places are null.
-use Rattle.std.proofs.Common.{◌≡◌, ℕ, ◌<◌, List, [], ◌∷◌, length, map, Bool, true, false, ◌&&◌, cond, Option, Some, None, refl, ◌∙◌, sym, ap, arith}
+use Rattle.std.proofs.Common.{◌≡◌, ℕ, ◌<◌, List, [], ◌∷◌, length, map, Bool, true, false, ◌&&◌, nat_lt, cond, Option, Some, None, refl, ◌∙◌, sym, ap, arith}
 use Rattle.std.proofs.lemmas.Bool.{lt-ltb}
 use Rattle.std.proofs.lemmas.Simd.{zip2_of_maps, map-map}
 use Rattle.std.specs.List.{range_with_len}
@@ -30,24 +30,28 @@ one_table : (rule : ℤ → ℤ → Bool) (a b : ℤ) (x : Bool) → truth_of_bi
 one_table rule a b false = refl
 one_table rule a b true = ap Some (and_true (rule a b))
 
+-- no bit is set where another isn't
+unset_beside : (x y z : Bool) → z ≡ false → (x && (y && z)) ≡ false
+unset_beside x y z e = ap (λ b. x && (y && b)) e ∙ ap (λ b. x && b) (and_false y) ∙ and_false x
+
 -- ---- two lists that were seen by their words and values
-module _ (op : CompareOperator) (lv rv v t b : List ℕ) (ls rs : List ℤ) (n : ℕ) (lns rns : List (Option ℤ)) (size : length ls ≡ n)
+module _ (op : CompareOperator) (lv rv v b : List ℕ) (ls rs : List ℤ) (n : ℕ) (lns rns : List (Option ℤ)) (size : length ls ≡ n)
     (seen_left : numbers_of lv ls ≡ lns) (left : AreTidyNumbers lv ls) (seen_right : numbers_of rv rs ≡ rns)
-    (same : length rns ≡ length lns) (valid : (i : ℕ) → bit_of v i ≡ (bit_of lv i && bit_of rv i)) (tests : AreBits t n (holds_at op ls rs))
-    (values : (i : ℕ) → bit_of b i ≡ (bit_of t i && bit_of v i)) where
-  pub compared_tidy : length v ≡ length lv → length b ≡ length t → AreTidy n v b
-  compared_tidy p q = record {
+    (same : length rns ≡ length lns) (valid : (i : ℕ) → bit_of v i ≡ (bit_of lv i && bit_of rv i))
+    (tests : AreBits b n (λ i. holds_at op ls rs i && bit_of v i)) where
+  pub compared_tidy : length v ≡ length lv → AreTidy n v b
+  compared_tidy p = record {
     valid_length = p ∙ left.valid_length ∙ ap words_for size;
-    values_length = q ∙ tests.count;
+    values_length = tests.count;
     past = λ i h. valid i ∙ ap (λ x. x && bit_of rv i) (left.past i (omega arith));
-    bare = λ i low e. values i ∙ ap (λ x. bit_of t i && x) e ∙ and_false (bit_of t i);
+    bare = λ i low e. tests.bits i ∙ unset_beside (nat_lt i n) (holds_at op ls rs i) (bit_of v i) e;
   }
 
   compared_at : (i : ℕ) → i < n → truth_of_words v b i ≡ compared op (number_in lv ls i) (number_in rv rs i)
   compared_at i h =
       let known = valid i in
-      let test : bit_of t i ≡ holds_at op ls rs i = tests.bits i ∙ ap (λ x. x && holds_at op ls rs i) (lt-ltb i n h) in
-      let answer : bit_of b i ≡ (holds_at op ls rs i && (bit_of lv i && bit_of rv i)) = values i ∙ (λ k. test k && known k) in
+      let answer : bit_of b i ≡ (holds_at op ls rs i && (bit_of lv i && bit_of rv i)) =
+      tests.bits i ∙ (λ k. lt-ltb i n h k && (holds_at op ls rs i && known k)) in
       (λ k. truth_of_bits (known k) (answer k))
       ∙ both_table (λ x y. meets op (int_cmp x y)) (value_at ls i) (value_at rs i) (bit_of lv i) (bit_of rv i)
 
@@ -62,20 +66,20 @@ module _ (op : CompareOperator) (lv rv v t b : List ℕ) (ls rs : List ℤ) (n :
       (sym seen_right ∙ ap (λ m. map (number_in rv rs) (range_with_len 0 m)) as_many))
 
 -- ---- a list and one number
-module _ (op : CompareOperator) (v t b : List ℕ) (zs : List ℤ) (n : ℕ) (r : ℤ) (ns : List (Option ℤ)) (size : length zs ≡ n) (seen : numbers_of v zs ≡ ns)
-    (tidy : AreTidyNumbers v zs) (tests : AreBits t n (holds_with op zs r)) (values : (i : ℕ) → bit_of b i ≡ (bit_of t i && bit_of v i)) where
-  pub compared_with_tidy : length b ≡ length t → AreTidy n v b
-  compared_with_tidy q = record {
+module _ (op : CompareOperator) (v b : List ℕ) (zs : List ℤ) (n : ℕ) (r : ℤ) (ns : List (Option ℤ)) (size : length zs ≡ n) (seen : numbers_of v zs ≡ ns)
+    (tidy : AreTidyNumbers v zs) (tests : AreBits b n (λ i. holds_with op zs r i && bit_of v i)) where
+  pub compared_with_tidy : AreTidy n v b
+  compared_with_tidy = record {
     valid_length = tidy.valid_length ∙ ap words_for size;
-    values_length = q ∙ tests.count;
+    values_length = tests.count;
     past = λ i h. tidy.past i (omega arith);
-    bare = λ i low e. values i ∙ ap (λ x. bit_of t i && x) e ∙ and_false (bit_of t i);
+    bare = λ i low e. tests.bits i ∙ unset_beside (nat_lt i n) (holds_with op zs r i) (bit_of v i) e;
   }
 
   compared_with_at : (i : ℕ) → i < n → truth_of_words v b i ≡ compared op (number_in v zs i) (Some r)
   compared_with_at i h =
-      let test : bit_of t i ≡ holds_with op zs r i = tests.bits i ∙ ap (λ x. x && holds_with op zs r i) (lt-ltb i n h) in
-      let answer : bit_of b i ≡ (holds_with op zs r i && bit_of v i) = values i ∙ ap (λ x. x && bit_of v i) test in
+      let answer : bit_of b i ≡ (holds_with op zs r i && bit_of v i) =
+      tests.bits i ∙ ap (λ x. x && (holds_with op zs r i && bit_of v i)) (lt-ltb i n h) in
       ap (truth_of_bits (bit_of v i)) answer ∙ one_table (λ x y. meets op (int_cmp x y)) (value_at zs i) r (bit_of v i)
 
   pub compared_with_truths : truths_of_words v b n ≡ map (λ m. compared op m (Some r)) ns

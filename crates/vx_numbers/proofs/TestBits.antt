@@ -1,5 +1,5 @@
 -- The answers of a test at the places of lists, 64 places a word.
-use Rattle.std.proofs.Common.{◌≡◌, ℕ, ◌+◌, ◌*◌, ◌/◌, ◌%◌, ◌^◌, ◌<◌, ◌≤◌, List, [], ◌∷◌, ◌++◌, length, map, take, drop, Bool, true, false, ◌&&◌, ◌||◌, eqb, nat_lt, refl, ◌∙◌, sym, ap, arith, inl, inr, eq-eqb}
+use Rattle.std.proofs.Common.{◌≡◌, ℕ, ◌+◌, ◌*◌, ◌/◌, ◌%◌, ◌^◌, ◌<◌, ◌≤◌, List, [], ◌∷◌, ◌++◌, get_or, length, map, take, drop, Bool, true, false, ◌&&◌, ◌||◌, eqb, nat_lt, refl, ◌∙◌, sym, ap, arith, inl, inr, eq-eqb}
 use Rattle.std.proofs.lemmas.Bool.{cases_lt, cases_eq, lt-ltb, le-ltb, ne_eqb}
 use Rattle.std.proofs.lemmas.List.{get_or_append_left, get_or_push, length_push, take-map, drop-map, get_or-take, get_or-drop}
 use Rattle.std.proofs.lemmas.Nat.{one_shl}
@@ -7,12 +7,13 @@ use Rattle.std.proofs.lemmas.Nat.Bits.{bit_at-pow_same, bit_at-pow_other}
 use Rattle.std.proofs.lemmas.Simd.{length-chunk}
 use Rattle.std.specs.Int.{from_bool}
 use Rattle.std.specs.Ordering.{int_cmp}
-use Rattle.std.specs.Prelude.{ℤ, pos, bit_or}
+use Rattle.std.specs.Prelude.{ℤ, pos, bit_and, bit_or}
 use Rattle.vx_dtype.specs.declared.CompareOperator.{CompareOperator}
 use Rattle.vx_dtype.specs.Order.{meets}
 use Rattle.vx_words.specs.Words.{word_bit, bit_of}
 use Rattle.vx_words.proofs.BitLemmas.{bit_of_past, zero_bit, and_false, or_false}
-use Rattle.vx_words.proofs.WordLemmas.{word_bit-or}
+use Rattle.vx_words.proofs.WordLemmas.{word_bit-and, word_bit-or}
+use Rattle.vx_words.proofs.NextLemmas.{at_word}
 use Rattle.vx_numbers.specs.Lanes.{value_at, holds_at, holds_with, AreBits}
 
 -- ---- one place more of a word
@@ -105,32 +106,47 @@ value_of_part f xs from m j h =
     ∙ get_or-take m (drop from (map f xs)) j (pos 0) h
     ∙ get_or-drop from (map f xs) j (pos 0)
 
-module _ {X : Type 0} (f : X → ℤ) (op : CompareOperator) (ls : List X) (ws : List ℕ) (k from m w n : ℕ)
-    (start : from ≡ 64 * k) (within : from + m ≤ length ls) (some : 0 < m) (few : m ≤ 64) (end : n ≡ from + m) where
-  pub words_more : (rs : List X) (m' : ℕ) → m' ≡ m → AreBits ws (64 * k) (holds_at op (map f ls) (map f rs))
+and_and : (x y z : Bool) → ((x && y) && z) ≡ (x && (y && z))
+and_and false y z = refl
+and_and true y z = refl
+
+-- a word of answers, and-ed with the bits of a word
+known_word : (w word m : ℕ) (q : ℕ → Bool) → ((j : ℕ) → word_bit w j ≡ (nat_lt j m && q j))
+    → (j : ℕ) → word_bit (bit_and w word) j ≡ (nat_lt j m && (q j && word_bit word j))
+known_word w word m q here j =
+    word_bit-and w word j ∙ ap (λ x. x && word_bit word j) (here j) ∙ and_and (nat_lt j m) (q j) (word_bit word j)
+
+module _ {X : Type 0} (f : X → ℤ) (op : CompareOperator) (known : List ℕ) (ls : List X) (ws : List ℕ) (k place from m w n : ℕ)
+    (there : place ≡ k) (start : from ≡ 64 * k) (within : from + m ≤ length ls) (some : 0 < m) (few : m ≤ 64) (end : n ≡ from + m) where
+  pub words_more : (rs : List X) (m' : ℕ) → m' ≡ m
+      → AreBits ws (64 * k) (λ i. holds_at op (map f ls) (map f rs) i && bit_of known i)
       → ((j : ℕ) → word_bit w j
       ≡ (nat_lt j (length (take m (drop from ls))) && holds_at op (map f (take m (drop from ls))) (map f (take m' (drop from rs))) j))
-      → AreBits (ws ++ w ∷ []) n (holds_at op (map f ls) (map f rs))
+      → AreBits (ws ++ bit_and w (get_or known place 0) ∷ []) n (λ i. holds_at op (map f ls) (map f rs) i && bit_of known i)
   words_more rs m' e before here =
       let part : ℕ → Bool = holds_at op (map f (take m (drop from ls))) (map f (take m' (drop from rs))) in
-      one_word_more ws k m w (holds_at op (map f ls) (map f rs)) part before
-      (λ j. here j ∙ ap (λ l. nat_lt j l && part j) (length-chunk from m ls within))
+      one_word_more ws k m (bit_and w (get_or known place 0)) (λ i. holds_at op (map f ls) (map f rs) i && bit_of known i)
+      (λ j. part j && word_bit (get_or known place 0) j) before
+      (known_word w (get_or known place 0) m part (λ j. here j ∙ ap (λ l. nat_lt j l && part j) (length-chunk from m ls within)))
       (λ j h.
       let at : from + j ≡ 64 * k + j = omega arith in
       let l = value_of_part f ls from m j h ∙ ap (value_at (map f ls)) at in
       let r = value_of_part f rs from m' j (omega arith) ∙ ap (value_at (map f rs)) at in
-      λ i. meets op (int_cmp (l i) (r i)))
+      let b = sym (at_word known place j (64 * k + j) (omega arith) (omega arith)) in
+      λ i. meets op (int_cmp (l i) (r i)) && b i)
       some few n (omega arith)
 
-  pub words_with_more : (r : ℤ) → AreBits ws (64 * k) (holds_with op (map f ls) r)
+  pub words_with_more : (r : ℤ) → AreBits ws (64 * k) (λ i. holds_with op (map f ls) r i && bit_of known i)
       → ((j : ℕ) → word_bit w j ≡ (nat_lt j (length (take m (drop from ls))) && holds_with op (map f (take m (drop from ls))) r j))
-      → AreBits (ws ++ w ∷ []) n (holds_with op (map f ls) r)
+      → AreBits (ws ++ bit_and w (get_or known place 0) ∷ []) n (λ i. holds_with op (map f ls) r i && bit_of known i)
   words_with_more r before here =
       let part : ℕ → Bool = holds_with op (map f (take m (drop from ls))) r in
-      one_word_more ws k m w (holds_with op (map f ls) r) part before
-      (λ j. here j ∙ ap (λ l. nat_lt j l && part j) (length-chunk from m ls within))
+      one_word_more ws k m (bit_and w (get_or known place 0)) (λ i. holds_with op (map f ls) r i && bit_of known i)
+      (λ j. part j && word_bit (get_or known place 0) j) before
+      (known_word w (get_or known place 0) m part (λ j. here j ∙ ap (λ l. nat_lt j l && part j) (length-chunk from m ls within)))
       (λ j h.
       let at : from + j ≡ 64 * k + j = omega arith in
       let l = value_of_part f ls from m j h ∙ ap (value_at (map f ls)) at in
-      λ i. meets op (int_cmp (l i) r))
+      let b = sym (at_word known place j (64 * k + j) (omega arith) (omega arith)) in
+      λ i. meets op (int_cmp (l i) r) && b i)
       some few n (omega arith)

@@ -13,7 +13,7 @@ use crate::width::Width;
 use std::alloc::{AllocError, Global};
 use std::marker::Model;
 use vx_dtype::Mem;
-use vx_words::{Truths, bit, both, push_bit, repeated_bit, without};
+use vx_words::{PLACES, Truths, bit, both, push_bit, repeated_bit, without};
 
 /// Numbers of one width, null at some places.
 #[derive(Debug, Drop)]
@@ -39,7 +39,7 @@ impl<T: Width> Lane<T> {
         requires { all_in_range T.ptype numbers.now ≡ true }
         ensures { IfOk result (λ lane. lane ≡ numbers.now) }
     {
-        let mut valid = Vec::with_capacity(alloc, numbers.len().div_ceil(64))?;
+        let mut valid = Vec::with_capacity(alloc, numbers.len().div_ceil(PLACES))?;
         let mut values = Vec::with_capacity(alloc, numbers.len())?;
         for i in 0..numbers.len() {
             push(&mut valid, &mut values, of_number::<T>(numbers[i]))?;
@@ -93,8 +93,7 @@ impl<T: Width> Lane<T> {
         let (left, ls) = self.parts();
         let (right, rs) = other.parts();
         let valid = both(alloc, left, right)?;
-        let tests = words::<T, O>(alloc, ls, rs)?;
-        let truths = both(alloc, tests.as_slice(), valid.as_slice())?;
+        let truths = words::<T, O>(alloc, valid.as_slice(), ls, rs)?;
         Ok(Truths::of_words(ls.len(), valid, truths))
     }
 
@@ -111,8 +110,7 @@ impl<T: Width> Lane<T> {
             return Truths::repeated(alloc, None, self.len());
         };
         let (valid, values) = self.parts();
-        let tests = words_with::<T, O>(alloc, values, T::of_number(number))?;
-        let truths = both(alloc, tests.as_slice(), valid)?;
+        let truths = words_with::<T, O>(alloc, valid, values, T::of_number(number))?;
         let valid = Vec::from_slice(alloc, valid)?;
         Ok(Truths::of_words(values.len(), valid, truths))
     }
@@ -133,11 +131,15 @@ impl<T: Width> Lane<T> {
         requires { length keep.now ≡ length self.now }
         ensures { IfOk result (λ lane. lane ≡ kept_numbers self.now keep.now) }
     {
-        let mut valid = Vec::new(alloc);
-        let mut values = Vec::new(alloc);
-        for i in 0..self.len() {
-            let kept = keep.truth_at(i) == Some(true);
-            push_if(kept, &mut valid, &mut values, self.value_at(i))?;
+        let (known, numbers) = self.parts();
+        let count = keep.true_count();
+        let mut valid = Vec::with_capacity(alloc, count.div_ceil(PLACES))?;
+        let mut values = Vec::with_capacity(alloc, count)?;
+        let mut from = 0;
+        'kept: while let Some(i) = keep.next_true(from) {
+            prove!(i < numbers.len());
+            push_place(&mut valid, &mut values, bit(known, i), numbers[i])?;
+            from = i + 1;
         }
         Ok(Lane { valid, values })
     }
@@ -297,24 +299,6 @@ fn push_place<T: Width>(valid: &mut Vec<u64>, values: &mut Vec<T>, known: bool, 
     push_bit(valid, values.len(), known)?;
     values.push(value)?;
     Ok(())
-}
-
-/// Adds a number, or null, after the last, if it is kept.
-fn push_if<T: Width>(
-    kept: bool,
-    valid: &mut Vec<u64>,
-    values: &mut Vec<T>,
-    number: Option<T>,
-) -> Mem<()>
-    requires { AreTidyNumbers valid.old.items (map T.value values.old.items) }
-    ensures tidy { IfOk result (λ _. AreTidyNumbers valid.new.items (map T.value values.new.items)) }
-    ensures numbers { IfOk result (λ _. numbers_of valid.new.items (map T.value values.new.items)
-        ≡ numbers_of valid.old.items (map T.value values.old.items) ++ cond kept (option_map T.value number ∷ []) []) }
-{
-    if !kept {
-        return Ok(());
-    }
-    push(valid, values, number)
 }
 
 /// The value that stands at the place of a number, or of null: then 0.

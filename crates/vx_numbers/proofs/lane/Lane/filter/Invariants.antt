@@ -1,10 +1,14 @@
-use Rattle.std.proofs.Common.{◌≡◌, ◌++◌, drop, map}
+use Rattle.std.proofs.Common.{◌≡◌, ◌≤◌, ◌-◌, ◌++◌, drop, length, map}
 use Rattle.vx_numbers.specs.Numbers.{kept_numbers}
 use Rattle.vx_numbers.specs.Lanes.{numbers_of, AreTidyNumbers}
 use Rattle.vx_numbers.proofs.lane.Lane.filter.Given as goal
 
-abbrev pub invariant-loop-i : goal.invariant-loop-i
-invariant-loop-i g l =
-    AreTidyNumbers l.valid.items (map g.T.Width.value l.values.items)
-    × (numbers_of l.valid.items (map g.T.Width.value l.values.items) ++ kept_numbers (drop l.i l.self) (drop l.i l.keep)
+abbrev pub invariant-kept : goal.invariant-kept
+invariant-kept g l =
+    (l.from ≤ length l.keep)
+    × AreTidyNumbers l.valid.items (map g.T.Width.value l.values.items)
+    × (numbers_of l.valid.items (map g.T.Width.value l.values.items) ++ kept_numbers (drop l.from l.self) (drop l.from l.keep)
     ≡ kept_numbers l.self l.keep)
+
+abbrev pub decreases-kept : goal.decreases-kept
+decreases-kept g l = length l.keep - l.from
