@@ -12,14 +12,15 @@ use crate::totals::{Total, total_of};
 use crate::width::Width;
 use std::alloc::{AllocError, Global};
 use std::marker::Model;
+use std::rc::Rc;
 use vx_dtype::Mem;
 use vx_words::{PLACES, Truths, bit, both, push_bit, repeated_bit, without};
 
-/// Numbers of one width, null at some places.
+/// Numbers of one width, null at some places. The values are shared by clones and by lists that differ in their nulls alone.
 #[derive(Debug, Drop)]
 pub(crate) struct Lane<T: Width> {
     valid: Vec<u64>,
-    values: Vec<T>,
+    values: Rc<Vec<T>>,
 }
 
 impl<T: Width> Model for Lane<T> {
@@ -28,9 +29,9 @@ impl<T: Width> Model for Lane<T> {
 
     ghost Value = { List (Option ℤ) };
 
-    ghost view = { λ lane. numbers_of lane.valid.items (map T.value lane.values.items) };
+    ghost view = { λ lane. numbers_of lane.valid.items (map T.value lane.values.value.items) };
 
-    ghost invariant = { λ lane. AreTidyNumbers lane.valid.items (map T.value lane.values.items) };
+    ghost invariant = { λ lane. AreTidyNumbers lane.valid.items (map T.value lane.values.value.items) };
 }
 
 impl<T: Width> Lane<T> {
@@ -44,7 +45,8 @@ impl<T: Width> Lane<T> {
         for i in 0..numbers.len() {
             push(&mut valid, &mut values, of_number::<T>(numbers[i]))?;
         }
-        Ok(Lane { valid, values })
+        let lane = Lane::of_values(alloc, valid, values)?;
+        Ok(lane)
     }
 
     /// The list of one number, or of null, this many times.
@@ -55,6 +57,16 @@ impl<T: Width> Lane<T> {
         let number = of_number::<T>(number);
         let valid = repeated_bit(alloc, number.is_some(), len)?;
         let values = repeated_value(alloc, value_of(number), len)?;
+        let lane = Lane::of_values(alloc, valid, values)?;
+        Ok(lane)
+    }
+
+    /// The list of these words of validity and these values.
+    fn of_values(alloc: Global, valid: Vec<u64>, values: Vec<T>) -> Mem<Lane<T>>
+        requires { AreTidyNumbers valid.items (map T.value values.items) }
+        ensures { IfOk result (λ lane. lane ≡ numbers_of valid.items (map T.value values.items)) }
+    {
+        let values = Rc::new(alloc, values)?;
         Ok(Lane { valid, values })
     }
 
@@ -141,7 +153,8 @@ impl<T: Width> Lane<T> {
             push_place(&mut valid, &mut values, bit(known, i), numbers[i])?;
             from = i + 1;
         }
-        Ok(Lane { valid, values })
+        let lane = Lane::of_values(alloc, valid, values)?;
+        Ok(lane)
     }
 
     /// The total of each number and the one at its place in the other list; null where one is null. None exactly where a total leaves the type.
@@ -157,7 +170,8 @@ impl<T: Width> Lane<T> {
             };
             push(&mut valid, &mut values, total)?;
         }
-        Ok(Some(Lane { valid, values }))
+        let lane = Lane::of_values(alloc, valid, values)?;
+        Ok(Some(lane))
     }
 
     /// The numbers, null where the other list is true.
@@ -165,10 +179,9 @@ impl<T: Width> Lane<T> {
         requires { length nulls.now ≡ length self.now }
         ensures { IfOk result (λ lane. lane ≡ zip2 masked_number self.now nulls.now) }
     {
-        let (valid, values) = self.parts();
         let (_, hidden) = nulls.words();
-        let valid = without(alloc, valid, hidden)?;
-        let values = Vec::from_slice(alloc, values)?;
+        let valid = without(alloc, self.valid.as_slice(), hidden)?;
+        let values = self.values.clone()?;
         Ok(Lane { valid, values })
     }
 
@@ -184,7 +197,8 @@ impl<T: Width> Lane<T> {
                 None => return Ok(None),
             }
         }
-        Ok(Some(Lane { valid, values }))
+        let lane = Lane::of_values(alloc, valid, values)?;
+        Ok(Some(lane))
     }
 
     /// Whether two lists have the same numbers.
@@ -221,7 +235,7 @@ impl<T: Width> Clone for Lane<T> {
     fn clone(&self) -> Result<Lane<T>, AllocError> {
         let alloc = *self.valid.allocator();
         let valid = Vec::from_slice(alloc, self.valid.as_slice())?;
-        let values = Vec::from_slice(alloc, self.values.as_slice())?;
+        let values = self.values.clone()?;
         Ok(Lane { valid, values })
     }
 }

@@ -26,4 +26,4 @@ returns-in-None g c =
     totals_stop p ns i (omega arith) seen
 
 pub returns : goal.returns
-returns g c = totals_all g.U.Width.ptype c.args.self.now c.places.i _ (omega arith) c.places.invariant.1 c.places.invariant.2
+returns g c = totals_all g.U.Width.ptype c.args.self.now c.places.i _ (omega arith) (c.in_ok-lane.ensures ∙ c.places.invariant.1) c.places.invariant.2

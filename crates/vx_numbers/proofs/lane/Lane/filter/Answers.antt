@@ -42,5 +42,6 @@ kept-preserved g c =
 
 pub returns : goal.returns
 returns g c =
-    kept_end None kept_numbers (λ ks. refl) (λ n ns k ks. refl) c.args.self.now c.args.keep.now c.requires
+    c.in_ok-lane.ensures
+    ∙ kept_end None kept_numbers (λ ks. refl) (λ n ns k ks. refl) c.args.self.now c.args.keep.now c.requires
     (numbers_of c.kept.valid.items (map g.T.Width.value c.kept.values.items)) c.kept.from c.kept.invariant.0 c.in_default.ensures c.kept.invariant.2

@@ -46,4 +46,4 @@ returns g c =
     let rs = c.args.other.now in
     let ts = zip2 rule ls rs in
     let long : length ts ≡ length ls = length-zip2 rule ls rs (sym c.requires) in
-    totals_all g.T.Width.ptype ts c.places.i _ (omega arith) c.places.invariant.1 c.places.invariant.2
+    totals_all g.T.Width.ptype ts c.places.i _ (omega arith) (c.in_ok-lane.ensures ∙ c.places.invariant.1) c.places.invariant.2
