@@ -2,7 +2,8 @@
 ghost use Rattle.std.specs.Prelude.{◌≡◌};
 ghost use Rattle.std.specs.Ordering.{int_cmp};
 ghost use Rattle.vx_dtype.specs.declared.CompareOperator.{CompareOperator};
-ghost use Rattle.vx_dtype.specs.declared.CompareOperator.TheVariants.{Eq as EqOperator, NotEq as NotEqOperator, Gt as GtOperator, Gte as GteOperator, Lt as LtOperator, Lte as LteOperator};
+ghost use Rattle.vx_dtype.specs.declared.CompareOperator.TheVariants.{Eq as EqOperator, NotEq as NotEqOperator, Gt as GtOperator};
+ghost use Rattle.vx_dtype.specs.declared.CompareOperator.TheVariants.{Gte as GteOperator, Lt as LtOperator, Lte as LteOperator};
 ghost use Rattle.vx_dtype.specs.Order.{meets};
 
 use crate::width::Width;
