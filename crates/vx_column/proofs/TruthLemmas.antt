@@ -15,9 +15,9 @@ use Rattle.vx_dtype.specs.Logic.{not3, is_null3, is_true_val}
 use Rattle.vx_dtype.specs.RawViews.{raw_view}
 use Rattle.vx_dtype.specs.declared.values.ScalarValue.{ScalarValue}
 use Rattle.vx_words.specs.Words.{truth_val}
-use Rattle.vx_words.specs.Truths.{vals_of, is_true, kept_truths}
+use Rattle.vx_words.specs.Truths.{vals_of, is_true, hidden_if, kept_truths}
 use Rattle.vx_column.specs.RawParts.{raw_truth, truth_fits, is_raw_null}
-use Rattle.vx_column.specs.Columns.{Column, column, row_at, rows_fit, raws_fit, raw_rows, values_fit, seen, seen_rows, zip_rows, kept_rows, true_count}
+use Rattle.vx_column.specs.Columns.{Column, column, row_at, rows_fit, raws_fit, raw_rows, values_fit, seen, seen_rows, zip_rows, kept_rows, masked, true_count}
 use Rattle.vx_column.specs.Answers.{optional_raw}
 use Rattle.vx_column.specs.Cells.{truths_fit, AreTruthsOf, kept_column}
 use Rattle.vx_column.specs.StructColumns.{StandsAt}
@@ -315,3 +315,22 @@ tests_are_truths xs = record { kind = refl; fit = nulls_fit NonNullable xs }
 
 pub nulls_of_truths : (ls ts : List (Option Bool)) → vals_of ts ≡ map is_null3 (vals_of ls) → AreTruthsOf (bool_ty NonNullable) ts
 nulls_of_truths ls ts e = record { kind = refl; fit = null_fit NonNullable ls ts e }
+
+-- truths of which some are hidden stand for values of which some are made null
+hidden_row : (b : Bool) (t : Option Bool) → truth_val (cond b None t) ≡ cond b null_val (truth_val t)
+hidden_row true t = refl
+hidden_row false t = refl
+
+hidden_rows : (ts ks : List (Option Bool)) → vals_of (zip2 hidden_if ts ks) ≡ zip_rows masked (vals_of ts) (vals_of ks)
+hidden_rows [] ks = refl
+hidden_rows (t ∷ ts) [] = refl
+hidden_rows (t ∷ ts) (k ∷ ks) = λ j. (hidden_row (is_true k) t ∙ (λ m. cond (sym (is_true_of k) m) null_val (truth_val t))) j ∷ hidden_rows ts ks j
+
+pub masked_truths_rows : (ts ks us : List (Option Bool)) (rows : List Val) → vals_of ts ≡ rows → us ≡ zip2 hidden_if ts ks → vals_of us ≡ zip_rows masked rows (vals_of ks)
+masked_truths_rows ts ks us rows r e = ap vals_of e ∙ hidden_rows ts ks ∙ ap (λ vs. zip_rows masked vs (vals_of ks)) r
+
+pub nullable_truths_of : (t d : Ty) (us : List (Option Bool)) → d ≡ t → nullability_of t ≡ Nullable → is_bool_ty t ≡ true → AreTruthsOf d us
+nullable_truths_of t d us e n k = record {
+  kind = ap is_bool_ty e ∙ k;
+  fit = ap (λ u. truths_fit (nullability_of u) us) e ∙ ap (λ m. truths_fit m us) n ∙ truths_fit_nullable us;
+}

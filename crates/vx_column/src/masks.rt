@@ -38,6 +38,10 @@ impl ColumnRef {
         let nullable = self.made_nullable(alloc)?;
         let dtype = nullable.dtype().clone()?;
         match nullable.cells() {
+            Cells::Truths(own) => {
+                let masked = truths_in(own).mask(alloc, truths_in(&truths))?;
+                ColumnRef::of_truths(alloc, dtype, masked)
+            }
             Cells::Numbers(numbers) => {
                 let masked = numbers_in(numbers).mask(alloc, truths_in(&truths))?;
                 ColumnRef::of_numbers(alloc, dtype, masked)

@@ -8,7 +8,7 @@ use Rattle.vx_dtype.specs.declared.PType.{PType}
 use Rattle.vx_dtype.specs.Fits.{in_range}
 use Rattle.vx_dtype.specs.declared.CompareOperator.{CompareOperator}
 use Rattle.vx_dtype.specs.Order.{meets}
-use Rattle.vx_words.specs.Truths.{is_true}
+use Rattle.vx_words.specs.Truths.{is_true, hidden_if}
 
 -- numbers of one integer type, null where there is none
 pub record NumberList : Type 0 where
@@ -64,7 +64,7 @@ null_test (Some i) = Some false
 
 -- the number, or null where the truth is true
 abbrev pub masked_number : Option ℤ → Option Bool → Option ℤ
-masked_number n t = cond (is_true t) None n
+masked_number = hidden_if
 
 -- the numbers at the places where the other list is true
 abbrev pub kept_numbers : List (Option ℤ) → List (Option Bool) → List (Option ℤ)

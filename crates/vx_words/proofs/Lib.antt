@@ -6,3 +6,4 @@ pub mod ListLemmas
 pub mod NextLemmas
 pub mod CountLemmas
 pub mod KeptLemmas
+pub mod HiddenLemmas

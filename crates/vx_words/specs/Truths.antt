@@ -32,6 +32,10 @@ is_true _ = false
 abbrev pub true_at : List (Option Bool) → ℕ → Bool
 true_at truths i = is_true (slice_index_or truths i None)
 
+-- what stands at a place, and none where the truth is true
+abbrev pub hidden_if : {A : Type 0} → Option A → Option Bool → Option A
+hidden_if x t = cond (is_true t) None x
+
 -- the truths at the places where the other list is true
 abbrev pub kept_truths : List (Option Bool) → List (Option Bool) → List (Option Bool)
 kept_truths [] ks = []

@@ -4,10 +4,10 @@ ghost use Rattle.std.specs.Cmp.{partial_equiv_from_equiv};
 ghost use Rattle.std.specs.Simd.Lanes.{zip2};
 ghost use Rattle.vx_dtype.specs.Logic.{and3, or3, not3, is_null3};
 ghost use Rattle.vx_words.specs.Words.{truth_of_words, HaveSameBits, IsNextPlace};
-ghost use Rattle.vx_words.specs.Truths.{AreTidy, truths_of_words, vals_of, is_true, true_at, kept_truths};
+ghost use Rattle.vx_words.specs.Truths.{AreTidy, truths_of_words, vals_of, is_true, true_at, hidden_if, kept_truths};
 ghost use Rattle.vx_words.specs.TruthsEqual.{truths_eq, truths_eq_equiv};
 
-use crate::bits::{bit, bit_count, next_bit, ones, push_bit, repeated_bit, zeros};
+use crate::bits::{bit, bit_count, next_bit, ones, push_bit, repeated_bit, without, zeros};
 use crate::logic::{and_words, not_words, or_words};
 use std::alloc::{AllocError, Global};
 use std::marker::Model;
@@ -154,6 +154,18 @@ impl Truths {
         let count = bit_count(self.values.as_slice());
         prove!(count <= places);
         count
+    }
+
+    /// The truths, null where the other list is true.
+    pub fn mask(&self, alloc: Global, nulls: &Truths) -> Mem<Truths>
+        requires { length nulls.now ≡ length self.now }
+        ensures { IfOk result (λ truths. truths ≡ zip2 hidden_if self.now nulls.now) }
+    {
+        let (valid, values) = self.words();
+        let (_, hidden) = nulls.words();
+        let known = without(alloc, valid, hidden)?;
+        let made = without(alloc, values, hidden)?;
+        Ok(Truths::of_words(self.len(), known, made))
     }
 
     /// The truths at the places where the other list is true, in order.

@@ -5,10 +5,11 @@ use Rattle.vx_dtype.specs.TypeRules.{nullability_of}
 use Rattle.vx_dtype.specs.TypeViews.{type_view}
 use Rattle.vx_numbers.specs.Numbers.{number_list, masked_number}
 use Rattle.vx_column.specs.Columns.{Column, column, masked, zip_rows}
-use Rattle.vx_column.specs.Cells.{cell_rows, numbers_vals, AreNumbersOf, ArePartsOf}
+use Rattle.vx_column.specs.Cells.{cell_rows, numbers_vals, AreNumbersOf, ArePartsOf, AreTruthsOf}
 use Rattle.vx_column.proofs.FitLemmas.{nullability_with}
 use Rattle.vx_column.proofs.StructLemmas.{if_ok_map}
 use Rattle.vx_column.proofs.NumberLemmas.{masked_numbers_of, masked_rows}
+use Rattle.vx_column.proofs.TruthLemmas.{masked_truths_rows, nullable_truths_of}
 use Rattle.vx_column.proofs.columns.ColumnRef.mask.Goals as goal
 
 pub of_numbers-requires : goal.of_numbers-requires
@@ -26,3 +27,17 @@ returns-in-Numbers-clause-rows c =
     let made = c.in_ok-masked-in-Numbers.ensures ∙ (λ j. number_list (c.numbers_in.ensures j).ptype (zip2 masked_number (c.numbers_in.ensures j).numbers (c.truths_in.ensures j))) in
     let there = masked_rows c.in-Numbers.numbers.value c.in_ok-masked-in-Numbers.masked c.in_ok-truths.truths.value c.args.self.now.rows rows made ∙ ap (zip_rows masked c.args.self.now.rows) c.in_ok-truths.ensures.rows in
     if_ok_map _ _ c.of_numbers.result (λ (x : Column) (h : x ≡ column (type_view c.in_ok-dtype.dtype) (numbers_vals c.in_ok-masked-in-Numbers.masked)). ap (λ (d : Column). d.rows) h ∙ there) c.of_numbers.ensures
+
+pub of_truths-requires : goal.of_truths-requires
+of_truths-requires c =
+    let type : type_view c.in_ok-dtype.dtype ≡ c.in_ok-nullable.nullable.ty = c.in_ok-dtype.ensures.cases ∙ c.dtype.ensures.shown in
+    let nullable : nullability_of c.in_ok-nullable.nullable.ty ≡ Nullable = ap (λ (d : Column). nullability_of d.ty) c.in_ok-nullable.ensures ∙ nullability_with c.args.self.now.ty Nullable in
+    let parts : AreTruthsOf c.in_ok-nullable.nullable.ty c.in-Truths.own.value = subst (ArePartsOf c.in_ok-nullable.nullable.ty) c.in-Truths.is c.cells.ensures.parts in
+    nullable_truths_of c.in_ok-nullable.nullable.ty _ c.in_ok-masked-in-Truths.masked type nullable parts.kind
+
+pub returns-in-Truths-clause-rows : goal.returns-in-Truths-clause-rows
+returns-in-Truths-clause-rows c =
+    let rows : vals_of c.in-Truths.own.value ≡ c.args.self.now.rows = ap (cell_rows c.in_ok-nullable.nullable.ty) (sym c.in-Truths.is) ∙ c.cells.ensures.rows ∙ ap (λ (d : Column). d.rows) c.in_ok-nullable.ensures in
+    let made = c.in_ok-masked-in-Truths.ensures ∙ (λ j. zip2 hidden_if (c.truths_in.ensures j) (c.truths_in-in-Truths.ensures j)) in
+    let there = masked_truths_rows c.in-Truths.own.value c.in_ok-truths.truths.value c.in_ok-masked-in-Truths.masked c.args.self.now.rows rows made ∙ ap (zip_rows masked c.args.self.now.rows) c.in_ok-truths.ensures.rows in
+    if_ok_map _ _ c.of_truths.result (λ (x : Column) (h : x ≡ column (type_view c.in_ok-dtype.dtype) (vals_of c.in_ok-masked-in-Truths.masked)). ap (λ (d : Column). d.rows) h ∙ there) c.of_truths.ensures
