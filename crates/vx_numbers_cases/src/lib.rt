@@ -1,0 +1,19 @@
+//! Tests of lists of numbers.
+#![tactic(auto)]
+
+#[cfg(test)]
+mod ample;
+#[cfg(test)]
+mod bounds;
+#[cfg(test)]
+mod calls;
+#[cfg(test)]
+mod equality;
+#[cfg(test)]
+mod lengths;
+#[cfg(test)]
+mod lists;
+#[cfg(test)]
+mod nulls;
+#[cfg(test)]
+mod plain;
