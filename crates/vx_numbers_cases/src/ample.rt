@@ -59,6 +59,6 @@ fn ample(rt: HostRuntime) {
     assert!(rt; filter_answers(alloc));
     assert!(rt; add_gives(alloc, one(alloc, 3), one(alloc, 2), plain(alloc, 5)));
     assert!(rt; sub_gives(alloc, one(alloc, 3), one(alloc, 2), plain(alloc, 1)));
-    assert!(rt; clone_gives(one(alloc, 3), plain(alloc, 3)));
+    assert!(rt; clone_gives(alloc, one(alloc, 3), plain(alloc, 3)));
     assert!(rt; are_equal(one(alloc, 3), one(alloc, 3)));
 }

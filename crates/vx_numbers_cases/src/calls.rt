@@ -1,8 +1,9 @@
-//! Each call behind a test of what it asks: whether it gives the wanted answer. Lists are moved in, so that the caller holds none.
+//! Each call behind a test of what it asks: whether it gives the wanted answer. Lists are moved in, so that the caller holds none, and shared, so that what drops them is small.
 
-use crate::lists::{Made, all_fit, fits};
+use crate::lists::{Made, all_fit, answered, fits, shared};
 use crate::plain::{Flags, Plain};
 use std::alloc::Global;
+use std::rc::Rc;
 use vx_dtype::{CompareOperator, Mem, PType};
 use vx_numbers::Numbers;
 use vx_words::Truths;
@@ -42,9 +43,9 @@ fn has_truths(made: Mem<Truths>, want: &Flags) -> bool {
 }
 
 /// Whether a list is made and has these numbers.
-fn has_numbers(made: Mem<Numbers>, want: &Plain) -> bool {
+fn has_numbers(made: Made, want: &Plain) -> bool {
     match (&made, want) {
-        (Ok(list), Ok(want)) => reads(list, want.as_slice()),
+        (Ok(Some(list)), Ok(want)) => reads(list, want.as_slice()),
         _ => false,
     }
 }
@@ -138,7 +139,7 @@ fn filter_makes(alloc: Global, list: &Numbers, keep: &Truths, want: &Plain) -> b
     if list.len() != keep.len() {
         return false;
     }
-    has_numbers(list.filter(alloc, keep), want)
+    has_numbers(answered(alloc, list.filter(alloc, keep)), want)
 }
 
 /// Whether these numbers are kept.
@@ -157,7 +158,7 @@ fn add_makes(alloc: Global, l: &Numbers, r: &Numbers, want: &Plain) -> bool {
     if l.len() != r.len() {
         return false;
     }
-    has_totals(l.checked_add(alloc, r), l.ptype(), want)
+    has_totals(shared(alloc, l.checked_add(alloc, r)), l.ptype(), want)
 }
 
 /// Whether a sum has these numbers, or is none where one of them isn't a number of the type.
@@ -176,7 +177,7 @@ fn sub_makes(alloc: Global, l: &Numbers, r: &Numbers, want: &Plain) -> bool {
     if l.len() != r.len() {
         return false;
     }
-    has_totals(l.checked_sub(alloc, r), l.ptype(), want)
+    has_totals(shared(alloc, l.checked_sub(alloc, r)), l.ptype(), want)
 }
 
 /// Whether a difference has these numbers, or is none where one of them isn't a number of the type.
@@ -187,15 +188,15 @@ pub(crate) fn sub_gives(alloc: Global, l: Made, r: Made, want: Plain) -> bool {
     }
 }
 
-/// A copy of a list.
-fn copy_of(list: &Numbers) -> Mem<Numbers> {
-    Ok(list.clone()?)
+/// A copy of a list, not of what shares it.
+fn copy_of(alloc: Global, list: &Numbers) -> Made {
+    Ok(Some(Rc::new(alloc, list.clone()?)?))
 }
 
 /// Whether a copy has these numbers.
-pub(crate) fn clone_gives(list: Made, want: Plain) -> bool {
+pub(crate) fn clone_gives(alloc: Global, list: Made, want: Plain) -> bool {
     match &list {
-        Ok(Some(list)) => has_numbers(copy_of(list), &want),
+        Ok(Some(list)) => has_numbers(copy_of(alloc, list), &want),
         _ => false,
     }
 }
@@ -203,7 +204,7 @@ pub(crate) fn clone_gives(list: Made, want: Plain) -> bool {
 /// Whether two lists are made and equal.
 pub(crate) fn are_equal(l: Made, r: Made) -> bool {
     match (&l, &r) {
-        (Ok(Some(l)), Ok(Some(r))) => *l == *r,
+        (Ok(Some(l)), Ok(Some(r))) => **l == **r,
         _ => false,
     }
 }
@@ -211,7 +212,7 @@ pub(crate) fn are_equal(l: Made, r: Made) -> bool {
 /// Whether two lists are made and not equal.
 pub(crate) fn differ(l: Made, r: Made) -> bool {
     match (&l, &r) {
-        (Ok(Some(l)), Ok(Some(r))) => *l != *r,
+        (Ok(Some(l)), Ok(Some(r))) => **l != **r,
         _ => false,
     }
 }
@@ -224,7 +225,7 @@ fn sum_is(alloc: Global, l: &Numbers, r: &Numbers, want: Made) -> bool {
     if l.len() != r.len() {
         return false;
     }
-    are_equal(l.checked_add(alloc, r), want)
+    are_equal(shared(alloc, l.checked_add(alloc, r)), want)
 }
 
 /// Whether a sum is made and equals this list.

@@ -199,7 +199,7 @@ fn copies(rt: HostRuntime) {
         for &len in &LENGTHS {
             let made = list(alloc, Rule::Left, ptype, len);
             let want = plain(alloc, Rule::Left, ptype, len);
-            assert!(rt; clone_gives(made, want), "at {len}");
+            assert!(rt; clone_gives(alloc, made, want), "at {len}");
         }
     }
 }

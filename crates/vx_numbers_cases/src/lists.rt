@@ -4,12 +4,26 @@ ghost use Rattle.vx_numbers.specs.Numbers.{all_in_range, fits_ptype};
 
 use crate::plain::{Flags, Plain, Rule, plain};
 use std::alloc::Global;
+use std::rc::Rc;
 use vx_dtype::{Mem, NoMemory, PType};
 use vx_numbers::Numbers;
 use vx_words::Truths;
 
-/// A list of numbers. There is none exactly where a number leaves the type.
-pub(crate) type Made = Mem<Option<Numbers>>;
+/// A list of numbers, shared. There is none exactly where a number leaves the type.
+pub(crate) type Made = Mem<Option<Rc<Numbers>>>;
+
+/// The list of a call that has no refusal but for want of memory.
+pub(crate) fn answered(alloc: Global, list: Mem<Numbers>) -> Made {
+    Ok(Some(Rc::new(alloc, list?)?))
+}
+
+/// The list of a call that may have none.
+pub(crate) fn shared(alloc: Global, list: Mem<Option<Numbers>>) -> Made {
+    let Some(list) = list? else {
+        return Ok(None);
+    };
+    Ok(Some(Rc::new(alloc, list)?))
+}
 
 /// Whether what stands at a place is null or a number of the type.
 pub(crate) fn fits(ptype: PType, number: Option<i128>) -> bool
@@ -29,11 +43,11 @@ pub(crate) fn all_fit(ptype: PType, numbers: &[Option<i128>]) -> bool
 }
 
 /// The list of these numbers.
-pub(crate) fn list_of(alloc: Global, ptype: PType, numbers: &[Option<i128>]) -> Made {
+fn list_of(alloc: Global, ptype: PType, numbers: &[Option<i128>]) -> Made {
     if !all_fit(ptype, numbers) {
         return Ok(None);
     }
-    Ok(Some(Numbers::from_options(alloc, ptype, numbers)?))
+    answered(alloc, Numbers::from_options(alloc, ptype, numbers))
 }
 
 /// The list of these numbers, which aren't kept.

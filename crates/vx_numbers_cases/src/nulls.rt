@@ -105,7 +105,7 @@ fn are_kept(alloc: Global, ptype: PType, len: usize) -> bool {
     if !is_null_gives(alloc, nulls(alloc, ptype, len), known) {
         return false;
     }
-    clone_gives(nulls(alloc, ptype, len), repeated(alloc, None, len))
+    clone_gives(alloc, nulls(alloc, ptype, len), repeated(alloc, None, len))
 }
 
 /// Whether all of the nulls stay where all places are true, and none where no place is.
