@@ -6,7 +6,7 @@ use crate::strings::is_text;
 use std::alloc::Global;
 use std::fmt::Write;
 use vx_dtype::Nullability::NonNullable;
-use vx_dtype::{DType, Mem, PType, Scalar, ScalarError};
+use vx_dtype::{DType, Mem, NoMemory, PType, Scalar, ScalarError};
 
 /// A scalar, or why it isn't made.
 type Made = Result<Scalar, ScalarError>;
@@ -35,7 +35,7 @@ fn text(alloc: Global, s: &str) -> Mem<Scalar> {
 fn answered(answer: Mem<Scalar>) -> Made {
     match answer {
         Ok(scalar) => Ok(scalar),
-        Err(_) => Err(ScalarError::NoMemory),
+        Err(NoMemory) => Err(ScalarError::NoMemory),
     }
 }
 
@@ -49,7 +49,7 @@ fn list(alloc: Global, items: Mem<Vec<Scalar>>) -> Made {
     let element = DType::Primitive(PType::I32, NonNullable);
     match items {
         Ok(items) => Scalar::list(alloc, element, items, NonNullable),
-        Err(_) => Err(ScalarError::NoMemory),
+        Err(NoMemory) => Err(ScalarError::NoMemory),
     }
 }
 
@@ -64,7 +64,7 @@ fn pet_type(alloc: Global) -> Mem<DType> {
 fn pets(alloc: Global, dtype: Mem<DType>, values: Mem<Vec<Scalar>>) -> Made {
     match (dtype, values) {
         (Ok(dtype), Ok(values)) => Scalar::struct_(alloc, dtype, values),
-        _ => Err(ScalarError::NoMemory),
+        (Err(NoMemory), _) | (_, Err(NoMemory)) => Err(ScalarError::NoMemory),
     }
 }
 
