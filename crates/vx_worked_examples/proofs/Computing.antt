@@ -24,5 +24,7 @@ use Rattle.vx_laws_scan.specs.Exactness.{is_plain_filter, is_exact_filter, Paths
 
 -- named on an `unfolding` line it opens all of these
 unfoldable pub all_definitions : Unit {0}
-unfolding digits chars alike no_name_twice depth_of ty_eq raw_eq valued fits val_fits fits_but_for_faults holds_fault matches conjuncts_of typed_of loosely_typed mean asked rules_out slots_fit without_ranges IsReplaced tree_eq rebuilt changed_by annotated_from taken_from falsified is_plain_filter is_exact_filter PathsAreBounded
+unfolding digits chars alike no_name_twice depth_of ty_eq raw_eq valued fits val_fits fits_but_for_faults holds_fault matches conjuncts_of
+    typed_of loosely_typed mean asked rules_out slots_fit without_ranges IsReplaced tree_eq rebuilt changed_by annotated_from taken_from
+    falsified is_plain_filter is_exact_filter PathsAreBounded
 all_definitions = tt

@@ -32,7 +32,8 @@ x_is_bounded = record {
   in_order = refl;
 }
 
-pub paths_are_bounded : PathsAreBounded five_to_nine 0 ((col "x" ⟨ Gt ⟩ number I32 (pos 7)) ⟨ And ⟩ list_contains (number_list I32 (pos 1 ∷ pos 8 ∷ [])) (col "x"))
+pub paths_are_bounded : PathsAreBounded five_to_nine 0
+    ((col "x" ⟨ Gt ⟩ number I32 (pos 7)) ⟨ And ⟩ list_contains (number_list I32 (pos 1 ∷ pos 8 ∷ [])) (col "x"))
 unfolding all_definitions
 paths_are_bounded = ((x_is_bounded, tt), x_is_bounded)
 
@@ -43,7 +44,9 @@ range_is_bounded = (x_is_bounded, tt, tt)
 -- two rows of the same first number agree on it
 agree_on_x : (x y z : ℕ) → AgreeOn (asked_columns (row_type two_columns) (col "x")) (row_of x y) (row_of x z)
 unfolding all_definitions
-agree_on_x x y z = All-from_recursion (λ (f : Bytes). field_of f (row_of x y) ≡ field_of f (row_of x z)) (asked_columns (row_type two_columns) (col "x")) (refl, tt)
+agree_on_x x y z =
+    All-from_recursion (λ (f : Bytes). field_of f (row_of x y) ≡ field_of f (row_of x z))
+    (asked_columns (row_type two_columns) (col "x")) (refl, tt)
 
 pub tables_agree : TablesAgree statistics two_columns [] above_five (col "x") blocks other_blocks
 unfolding all_definitions

@@ -16,7 +16,8 @@ ghost use Rattle.vx_semantics.specs.Tables.{row_type};
 ghost use Rattle.vx_semantics.specs.Scans.{kept_blocks, skipped_blocks, phase_breaks, phases_of, first_breaks_by, reads_to_break, rows_of};
 ghost use Rattle.vx_semantics.specs.Honest.{IsHonest};
 ghost use Rattle.vx_worked_examples.specs.Samples.{col, only, number, boolean, null_of, ◌⟨◌⟩◌, numbers, rows_of_numbers, number_table, zones_of, bounds};
-ghost use Rattle.vx_worked_examples.specs.Samples.{statistic, answer_of, breaks_in_order, sound, broken_sum, broken_cast, types_of, two_blocks, up_to_127, above_ten};
+ghost use Rattle.vx_worked_examples.specs.Samples.{statistic, answer_of, breaks_in_order, sound, broken_sum, broken_cast, types_of};
+ghost use Rattle.vx_worked_examples.specs.Samples.{two_blocks, up_to_127, above_ten};
 ghost use Rattle.vx_worked_examples.specs.Samples.{two_structs, joined_twice, two_small, pack_one, pack_two, number_list, reads_in};
 ghost use Rattle.vx_worked_examples.specs.Catalog.{catalog, brief_columns, catalog_statistics, dear_in_oslo, brief, brief_of, filter_reads, all_reads};
 
