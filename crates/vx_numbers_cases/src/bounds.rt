@@ -1,6 +1,7 @@
 //! The least and the greatest number of each type.
 
-use crate::calls::{add_gives, compare_gives, compare_with_gives, keeps, sub_gives};
+use crate::answers::keeps;
+use crate::calls::{add_gives, compare_gives, compare_with_gives, sub_gives};
 use crate::lengths::OPERATORS;
 use crate::lists::{Made, listed, numbers, truths};
 use crate::plain::{Flags, ending_in};
@@ -8,7 +9,7 @@ use std::alloc::Global;
 use vx_dtype::{CompareOperator, PType};
 
 /// Each type with its least number and its greatest.
-const BOUNDS: [(PType, i128, i128); 8] = [
+pub(crate) const BOUNDS: [(PType, i128, i128); 8] = [
     (PType::U8, 0, 255),
     (PType::U16, 0, 65_535),
     (PType::U32, 0, 4_294_967_295),
@@ -24,7 +25,7 @@ const BOUNDS: [(PType, i128, i128); 8] = [
 ];
 
 /// A list of one number.
-fn one(alloc: Global, ptype: PType, number: i128) -> Made {
+pub(crate) fn one(alloc: Global, ptype: PType, number: i128) -> Made {
     listed(alloc, ptype, numbers(alloc, [Some(number)].as_slice()))
 }
 
@@ -51,7 +52,7 @@ fn bounds_are_kept(rt: HostRuntime) {
     }
 }
 
-/// The truths of a comparison of a lower number, the same and a higher one with a number.
+/// The truths of a comparison of a lower number, the same and a higher one with one number.
 fn against(alloc: Global, op: CompareOperator) -> Flags {
     match op {
         CompareOperator::Eq => truths(alloc, [Some(false), Some(true), Some(false)].as_slice()),
@@ -169,7 +170,7 @@ fn highest_bit_is_no_sign(rt: HostRuntime) {
 }
 
 /// A type with its greatest number, the one above, and a type that has both.
-const ABOVE: [(PType, i128, i128, PType); 7] = [
+pub(crate) const ABOVE: [(PType, i128, i128, PType); 7] = [
     (PType::U8, 255, 256, PType::U16),
     (PType::U16, 65_535, 65_536, PType::U32),
     (PType::U32, 4_294_967_295, 4_294_967_296, PType::U64),
@@ -185,7 +186,7 @@ const ABOVE: [(PType, i128, i128, PType); 7] = [
 ];
 
 /// A type with its least number, the one below, and a type that has both.
-const BELOW: [(PType, i128, i128, PType); 7] = [
+pub(crate) const BELOW: [(PType, i128, i128, PType); 7] = [
     (PType::U8, 0, -1, PType::I8),
     (PType::U16, 0, -1, PType::I16),
     (PType::U32, 0, -1, PType::I32),
@@ -195,13 +196,13 @@ const BELOW: [(PType, i128, i128, PType); 7] = [
     (PType::I32, -2_147_483_648, -2_147_483_649, PType::I64),
 ];
 
-/// Whether a number and 1 have this sum, which is left out exactly where it isn't a number of the type.
+/// Whether a number and 1 have this sum, or none because it isn't a number of the type.
 fn adds_one(alloc: Global, ptype: PType, number: i128, want: i128) -> bool {
     let sum = numbers(alloc, [Some(want)].as_slice());
     add_gives(alloc, one(alloc, ptype, number), one(alloc, ptype, 1), sum)
 }
 
-/// Whether a number less 1 is this difference, which is left out exactly where it isn't a number of the type.
+/// Whether a number less 1 is this difference, or none because it isn't a number of the type.
 fn takes_one(alloc: Global, ptype: PType, number: i128, want: i128) -> bool {
     let difference = numbers(alloc, [Some(want)].as_slice());
     sub_gives(
@@ -251,7 +252,7 @@ fn list_ending_in(alloc: Global, ptype: PType, number: i128, last: i128) -> Made
     listed(alloc, ptype, ending_in(alloc, Some(number), 64, Some(last)))
 }
 
-/// Whether the sums of lists whose last numbers alone leave the type are left out.
+/// Whether there are no sums where the last alone isn't a number of the type, and sums where all are.
 fn adds_at_the_end(alloc: Global, ptype: PType, greatest: i128, above: i128) -> bool {
     add_gives(
         alloc,
@@ -261,7 +262,7 @@ fn adds_at_the_end(alloc: Global, ptype: PType, greatest: i128, above: i128) -> 
     )
 }
 
-/// Whether the differences of lists whose last numbers alone leave the type are left out.
+/// Whether there are no differences where the last alone isn't a number of the type, and differences where all are.
 fn takes_at_the_end(alloc: Global, ptype: PType, least: i128, below: i128) -> bool {
     sub_gives(
         alloc,

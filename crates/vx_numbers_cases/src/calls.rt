@@ -1,71 +1,13 @@
-//! Each call behind a test of what it asks: whether it gives the wanted answer. Lists are moved in, so that the caller holds none, and shared, so that what drops them is small.
+//! Each call behind a test of what it asks, and whether it gives the wanted answer. Lists are moved in, so that the caller holds none, and shared, so that what drops them is small.
 
-use crate::lists::{Made, all_fit, answered, fits, shared};
+use crate::answers::{are_equal, has_if_in_range, has_numbers, has_truths};
+use crate::lists::{Made, answered, fits, shared};
 use crate::plain::{Flags, Plain};
 use std::alloc::Global;
 use std::rc::Rc;
-use vx_dtype::{CompareOperator, Mem, PType};
+use vx_dtype::{CompareOperator, Mem, NoMemory, PType};
 use vx_numbers::Numbers;
 use vx_words::Truths;
-
-/// Whether a list has these numbers.
-fn reads(list: &Numbers, want: &[Option<i128>]) -> bool {
-    if list.len() != want.len() {
-        return false;
-    }
-    for i in 0..want.len() {
-        if list.number_at(i) != want[i] {
-            return false;
-        }
-    }
-    true
-}
-
-/// Whether a list has these truths.
-fn reads_truths(truths: &Truths, want: &[Option<bool>]) -> bool {
-    if truths.len() != want.len() {
-        return false;
-    }
-    for i in 0..want.len() {
-        if truths.truth_at(i) != want[i] {
-            return false;
-        }
-    }
-    true
-}
-
-/// Whether a list is made and has these truths.
-fn has_truths(made: Mem<Truths>, want: &Flags) -> bool {
-    match (&made, want) {
-        (Ok(truths), Ok(want)) => reads_truths(truths, want.as_slice()),
-        _ => false,
-    }
-}
-
-/// Whether a list is made and has these numbers.
-fn has_numbers(made: Made, want: &Plain) -> bool {
-    match (&made, want) {
-        (Ok(Some(list)), Ok(want)) => reads(list, want.as_slice()),
-        _ => false,
-    }
-}
-
-/// Whether an answer has these numbers, or is none where one of them isn't a number of the type.
-fn has_totals(made: Made, ptype: PType, want: &Plain) -> bool {
-    match (&made, want) {
-        (Ok(Some(list)), Ok(want)) => reads(list, want.as_slice()),
-        (Ok(None), Ok(want)) => !all_fit(ptype, want.as_slice()),
-        _ => false,
-    }
-}
-
-/// Whether a list is of this type and has these numbers.
-pub(crate) fn keeps(list: Made, ptype: PType, want: Plain) -> bool {
-    match (&list, &want) {
-        (Ok(Some(list)), Ok(want)) => list.ptype() == ptype && reads(list, want.as_slice()),
-        _ => false,
-    }
-}
 
 /// As below, for lists that are made.
 fn compare_makes(
@@ -139,7 +81,11 @@ fn filter_makes(alloc: Global, list: &Numbers, keep: &Truths, want: &Plain) -> b
     if list.len() != keep.len() {
         return false;
     }
-    has_numbers(answered(alloc, list.filter(alloc, keep)), want)
+    has_numbers(
+        answered(alloc, list.filter(alloc, keep)),
+        list.ptype(),
+        want,
+    )
 }
 
 /// Whether these numbers are kept.
@@ -158,7 +104,7 @@ fn add_makes(alloc: Global, l: &Numbers, r: &Numbers, want: &Plain) -> bool {
     if l.len() != r.len() {
         return false;
     }
-    has_totals(shared(alloc, l.checked_add(alloc, r)), l.ptype(), want)
+    has_if_in_range(shared(alloc, l.checked_add(alloc, r)), l.ptype(), want)
 }
 
 /// Whether a sum has these numbers, or is none where one of them isn't a number of the type.
@@ -177,7 +123,7 @@ fn sub_makes(alloc: Global, l: &Numbers, r: &Numbers, want: &Plain) -> bool {
     if l.len() != r.len() {
         return false;
     }
-    has_totals(shared(alloc, l.checked_sub(alloc, r)), l.ptype(), want)
+    has_if_in_range(shared(alloc, l.checked_sub(alloc, r)), l.ptype(), want)
 }
 
 /// Whether a difference has these numbers, or is none where one of them isn't a number of the type.
@@ -196,23 +142,7 @@ fn copy_of(alloc: Global, list: &Numbers) -> Made {
 /// Whether a copy has these numbers.
 pub(crate) fn clone_gives(alloc: Global, list: Made, want: Plain) -> bool {
     match &list {
-        Ok(Some(list)) => has_numbers(copy_of(alloc, list), &want),
-        _ => false,
-    }
-}
-
-/// Whether two lists are made and equal.
-pub(crate) fn are_equal(l: Made, r: Made) -> bool {
-    match (&l, &r) {
-        (Ok(Some(l)), Ok(Some(r))) => **l == **r,
-        _ => false,
-    }
-}
-
-/// Whether two lists are made and not equal.
-pub(crate) fn differ(l: Made, r: Made) -> bool {
-    match (&l, &r) {
-        (Ok(Some(l)), Ok(Some(r))) => **l != **r,
+        Ok(Some(list)) => has_numbers(copy_of(alloc, list), list.ptype(), &want),
         _ => false,
     }
 }
@@ -232,6 +162,39 @@ fn sum_is(alloc: Global, l: &Numbers, r: &Numbers, want: Made) -> bool {
 pub(crate) fn sum_equals(alloc: Global, l: Made, r: Made, want: Made) -> bool {
     match (&l, &r) {
         (Ok(Some(l)), Ok(Some(r))) => sum_is(alloc, l, r, want),
+        _ => false,
+    }
+}
+
+/// The list of one number so many times. There is none where the number isn't one of the type.
+pub(crate) fn repeated(alloc: Global, ptype: PType, number: Option<i128>, len: usize) -> Made {
+    if !fits(ptype, number) {
+        return Ok(None);
+    }
+    answered(alloc, Numbers::repeated(alloc, ptype, number, len))
+}
+
+/// As below, for lists that are made.
+fn mask_of(alloc: Global, list: &Numbers, nulls: &Truths) -> Made {
+    if list.len() != nulls.len() {
+        return Ok(None);
+    }
+    answered(alloc, list.mask(alloc, nulls))
+}
+
+/// The list with null where these truths are true. There is none where there isn't a truth for each number.
+pub(crate) fn masked(alloc: Global, list: Made, nulls: Mem<Truths>) -> Made {
+    match (&list, &nulls) {
+        (Ok(Some(list)), Ok(nulls)) => mask_of(alloc, list, nulls),
+        (Ok(None), Ok(_)) => Ok(None),
+        (Err(NoMemory), _) | (_, Err(NoMemory)) => Err(NoMemory),
+    }
+}
+
+/// Whether a list in another type has these numbers, or there is none because one of them isn't a number of that type.
+pub(crate) fn cast_gives(alloc: Global, list: Made, target: PType, want: Plain) -> bool {
+    match &list {
+        Ok(Some(list)) => has_if_in_range(shared(alloc, list.cast(alloc, target)), target, &want),
         _ => false,
     }
 }

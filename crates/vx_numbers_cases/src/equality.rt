@@ -1,6 +1,7 @@
 //! Equality of lists of numbers: lists of one type with the same numbers are equal.
 
-use crate::calls::{are_equal, differ, sum_equals};
+use crate::answers::{are_equal, differ};
+use crate::calls::sum_equals;
 use crate::lengths::TYPES;
 use crate::lists::{Made, listed, numbers};
 use crate::plain::{ending_in, repeated};

@@ -1,8 +1,9 @@
 //! Each call beside a plain loop, for each type, at lengths around those of words.
 
+use crate::answers::{are_equal, keeps};
 use crate::calls::{
-    add_gives, are_equal, clone_gives, compare_gives, compare_with_gives, filter_gives,
-    is_null_gives, keeps, sub_gives,
+    add_gives, clone_gives, compare_gives, compare_with_gives, filter_gives, is_null_gives,
+    sub_gives,
 };
 use crate::lists::{flagged, list, listed};
 use crate::plain::{Rule, comparisons, comparisons_with, keep, kept, nulls, plain};
@@ -10,7 +11,7 @@ use std::alloc::Global;
 use vx_dtype::{CompareOperator, PType};
 
 /// How many numbers the lists have.
-const LENGTHS: [usize; 9] = [0, 1, 63, 64, 65, 127, 128, 129, 1_000];
+pub(crate) const LENGTHS: [usize; 9] = [0, 1, 63, 64, 65, 127, 128, 129, 1_000];
 
 /// The integer types.
 pub(crate) const TYPES: [PType; 8] = [
@@ -23,6 +24,9 @@ pub(crate) const TYPES: [PType; 8] = [
     PType::I32,
     PType::I64,
 ];
+
+/// A number that is among the left ones of each type.
+const AMONG_THEM: Option<i128> = Some(13);
 
 /// The comparisons.
 pub(crate) const OPERATORS: [CompareOperator; 6] = [
@@ -69,7 +73,7 @@ fn comparisons_of_lists(rt: HostRuntime) {
     }
 }
 
-/// Whether a comparison of the left numbers with 13, which is among them, or with null is that of a plain loop.
+/// Whether a comparison of the left numbers with one number, or with null, is that of a plain loop.
 fn compares_with(
     alloc: Global,
     ptype: PType,
@@ -92,7 +96,10 @@ fn comparisons_with_one_number(rt: HostRuntime) {
     for &ptype in &TYPES {
         for &len in &LENGTHS {
             for &op in &OPERATORS {
-                assert!(rt; compares_with(alloc, ptype, len, op, Some(13)), "at {len}");
+                assert!(rt;
+                    compares_with(alloc, ptype, len, op, AMONG_THEM),
+                    "at {len}"
+                );
                 assert!(rt; compares_with(alloc, ptype, len, op, None), "at {len}");
             }
         }
@@ -133,7 +140,7 @@ fn kept_numbers(rt: HostRuntime) {
     }
 }
 
-/// Whether a sum by one rule and another is that of a third.
+/// Whether the sums of the left numbers and the right ones are those of a plain loop.
 fn adds(alloc: Global, ptype: PType, len: usize) -> bool {
     add_gives(
         alloc,
@@ -153,7 +160,7 @@ fn sums(rt: HostRuntime) {
     }
 }
 
-/// Whether the numbers of one rule less those of another are those of a third, or none where one of these isn't of the type.
+/// Whether the numbers of one rule less those of another are those of a third, or none because one of these isn't a number of the type.
 fn subtracts(alloc: Global, ptype: PType, len: usize, from: Rule, less: Rule, want: Rule) -> bool {
     sub_gives(
         alloc,

@@ -1,11 +1,13 @@
 //! Null beside numbers and beside null, and lists of nulls alone.
 
+use crate::answers::keeps;
+use crate::bounds::BOUNDS;
 use crate::calls::{
-    add_gives, clone_gives, compare_gives, compare_with_gives, filter_gives, is_null_gives, keeps,
+    add_gives, clone_gives, compare_gives, compare_with_gives, filter_gives, is_null_gives,
     sub_gives,
 };
 use crate::lengths::{OPERATORS, TYPES};
-use crate::lists::{Made, flagged, listed, numbers, truths};
+use crate::lists::{Made, flagged, listed, numbers};
 use crate::plain::{Flags, Plain, repeated, repeated_truth};
 use std::alloc::Global;
 use vx_dtype::{CompareOperator, PType};
@@ -13,7 +15,7 @@ use vx_dtype::{CompareOperator, PType};
 /// How many nulls the lists of nulls alone have.
 const NULLS: [usize; 4] = [1, 64, 65, 130];
 
-/// The number 7, null and null; and null, 7 and null.
+/// 7, null and null.
 fn left(alloc: Global, ptype: PType) -> Made {
     listed(
         alloc,
@@ -22,6 +24,7 @@ fn left(alloc: Global, ptype: PType) -> Made {
     )
 }
 
+/// Null, 7 and null.
 fn right(alloc: Global, ptype: PType) -> Made {
     listed(
         alloc,
@@ -30,10 +33,12 @@ fn right(alloc: Global, ptype: PType) -> Made {
     )
 }
 
+/// Three nulls instead of numbers.
 fn three_nulls(alloc: Global) -> Plain {
     repeated(alloc, None, 3)
 }
 
+/// Three nulls instead of truths.
 fn three_null_truths(alloc: Global) -> Flags {
     repeated_truth(alloc, None, 3)
 }
@@ -150,19 +155,7 @@ fn nulls_alone(rt: HostRuntime) {
     }
 }
 
-/// Each type with its greatest number.
-const GREATEST: [(PType, i128); 8] = [
-    (PType::U8, 255),
-    (PType::U16, 65_535),
-    (PType::U32, 4_294_967_295),
-    (PType::U64, 18_446_744_073_709_551_615),
-    (PType::I8, 127),
-    (PType::I16, 32_767),
-    (PType::I32, 2_147_483_647),
-    (PType::I64, 9_223_372_036_854_775_807),
-];
-
-/// Whether the greatest number and null have null for their sum, which isn't above the type.
+/// Whether the greatest number and null have null for their sum: there is none above the type.
 fn adds_greatest(alloc: Global, ptype: PType, greatest: i128) -> bool {
     let l = numbers(alloc, [Some(greatest), None].as_slice());
     let r = numbers(alloc, [None, Some(greatest)].as_slice());
@@ -173,7 +166,7 @@ fn adds_greatest(alloc: Global, ptype: PType, greatest: i128) -> bool {
 #[test]
 fn greatest_beside_null(rt: HostRuntime) {
     let alloc = rt.alloc();
-    for &(ptype, greatest) in &GREATEST {
+    for &(ptype, _, greatest) in &BOUNDS {
         assert!(rt; adds_greatest(alloc, ptype, greatest), "{greatest}");
     }
 }

@@ -24,6 +24,7 @@ pub(crate) enum Rule {
     SumLessLeft,
 }
 
+/// Whether the type has numbers below 0.
 fn has_sign(ptype: PType) -> bool {
     match ptype {
         PType::U8 | PType::U16 | PType::U32 | PType::U64 => false,
@@ -40,6 +41,7 @@ fn spread(ptype: PType, i: usize) -> i128 {
     number.wrapping_add(1)
 }
 
+/// The left number, or null.
 fn left(ptype: PType, i: usize) -> Option<i128> {
     if i % 7 == 3 {
         return None;
@@ -47,6 +49,7 @@ fn left(ptype: PType, i: usize) -> Option<i128> {
     Some(spread(ptype, i))
 }
 
+/// The right number, or null.
 fn right(ptype: PType, i: usize) -> Option<i128> {
     match (i % 5, i % 3) {
         (2, _) => None,
@@ -56,6 +59,7 @@ fn right(ptype: PType, i: usize) -> Option<i128> {
     }
 }
 
+/// The sum of two numbers; null beside null.
 fn sum(l: Option<i128>, r: Option<i128>) -> Option<i128> {
     match (l, r) {
         (Some(l), Some(r)) => Some(l.wrapping_add(r)),
@@ -63,6 +67,7 @@ fn sum(l: Option<i128>, r: Option<i128>) -> Option<i128> {
     }
 }
 
+/// The difference of two numbers; null beside null.
 fn difference(l: Option<i128>, r: Option<i128>) -> Option<i128> {
     match (l, r) {
         (Some(l), Some(r)) => Some(l.wrapping_sub(r)),
@@ -150,6 +155,18 @@ pub(crate) fn kept(alloc: Global, ptype: PType, len: usize) -> Plain {
     Ok(numbers)
 }
 
+/// The left numbers, null at the places where those truths are true.
+pub(crate) fn masked(alloc: Global, ptype: PType, len: usize) -> Plain {
+    let mut numbers = Vec::new(alloc);
+    for i in 0..len {
+        match keep_at(i) {
+            Some(true) => numbers.push(None)?,
+            _ => numbers.push(left(ptype, i))?,
+        }
+    }
+    Ok(numbers)
+}
+
 /// Whether the left numbers are null.
 pub(crate) fn nulls(alloc: Global, ptype: PType, len: usize) -> Flags {
     let mut truths = Vec::new(alloc);
@@ -159,7 +176,7 @@ pub(crate) fn nulls(alloc: Global, ptype: PType, len: usize) -> Flags {
     Ok(truths)
 }
 
-/// A comparison of two numbers.
+/// The comparison of two numbers; null beside null.
 fn compared(op: CompareOperator, l: Option<i128>, r: Option<i128>) -> Option<bool> {
     let (Some(l), Some(r)) = (l, r) else {
         return None;
