@@ -9,7 +9,7 @@ use vx_column::ColumnRef;
 use vx_dtype::{CompareOperator, DType, Nullability, PType, Scalar, ScalarValue};
 
 /// How many rows the columns of the tables have.
-const LENGTHS: [usize; 9] = [0, 1, 63, 64, 65, 127, 128, 129, 1_000];
+pub(crate) const LENGTHS: [usize; 9] = [0, 1, 63, 64, 65, 127, 128, 129, 1_000];
 
 /// What stands at the rows of a column: of each three rows the right side has false, true and null, and of each nine the left side has
 /// three of each, so that each pair comes.
