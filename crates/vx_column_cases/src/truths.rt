@@ -11,72 +11,51 @@ use vx_dtype::{CompareOperator, DType, Nullability, PType, Scalar, ScalarValue};
 /// How many rows the columns of the tables have.
 pub(crate) const LENGTHS: [usize; 9] = [0, 1, 63, 64, 65, 127, 128, 129, 1_000];
 
-/// What stands at the rows of a column: of each three rows the right side has false, true and null, and of each nine the left side has
-/// three of each, so that each pair comes.
+/// What stands at the rows of a column.
 #[derive(Clone, Copy)]
 enum Rows {
     Left,
     Right,
     Conjunction,
     Disjunction,
-    Negation,
-    NullTest,
     /// Whether the left side is above the right one: false stands before true.
     Above,
+    /// Of the right side.
+    Negation,
+    /// Of the right side.
+    NullTest,
 }
 
-/// One of the three truths.
-fn truth(i: usize) -> Option<bool> {
-    match i % 3 {
-        0 => Some(false),
-        1 => Some(true),
-        _ => None,
-    }
-}
+/// False, short for the table.
+const NO: Option<bool> = Some(false);
 
-fn conjunction(l: Option<bool>, r: Option<bool>) -> Option<bool> {
-    match (l, r) {
-        (Some(true), _) => r,
-        (Some(false), _) => l,
-        (None, Some(false)) => r,
-        (None, _) => l,
-    }
-}
+/// True, short for the table.
+const YES: Option<bool> = Some(true);
 
-fn disjunction(l: Option<bool>, r: Option<bool>) -> Option<bool> {
-    match (l, r) {
-        (Some(false), _) => r,
-        (Some(true), _) => l,
-        (None, Some(true)) => r,
-        (None, _) => l,
-    }
-}
+/// The nine pairs of a left side and a right one, each with what stands beside it at the rows of the other columns, in the order above.
+const PAIRS: [[Option<bool>; 7]; 9] = [
+    [NO, NO, NO, NO, NO, YES, NO],
+    [NO, YES, NO, YES, NO, NO, NO],
+    [NO, None, NO, None, None, None, YES],
+    [YES, NO, NO, YES, YES, YES, NO],
+    [YES, YES, YES, YES, NO, NO, NO],
+    [YES, None, None, YES, None, None, YES],
+    [None, NO, NO, None, None, YES, NO],
+    [None, YES, None, YES, None, NO, NO],
+    [None, None, None, None, None, None, YES],
+];
 
-fn negation(truth: Option<bool>) -> Option<bool> {
-    match truth {
-        Some(b) => Some(!b),
-        None => None,
-    }
-}
-
-fn is_above(l: Option<bool>, r: Option<bool>) -> Option<bool> {
-    match (l, r) {
-        (Some(l), Some(r)) => Some(l && !r),
-        _ => None,
-    }
-}
-
-/// What stands at a row.
+/// What stands at a row: the pairs come by turns.
 fn at(rows: Rows, i: usize) -> Option<bool> {
-    let (l, r) = (truth(i / 3), truth(i));
+    let [left, right, conjunction, disjunction, above, negation, null] = PAIRS[i % 9];
     match rows {
-        Rows::Left => l,
-        Rows::Right => r,
-        Rows::Conjunction => conjunction(l, r),
-        Rows::Disjunction => disjunction(l, r),
-        Rows::Negation => negation(r),
-        Rows::NullTest => Some(r.is_none()),
-        Rows::Above => is_above(l, r),
+        Rows::Left => left,
+        Rows::Right => right,
+        Rows::Conjunction => conjunction,
+        Rows::Disjunction => disjunction,
+        Rows::Above => above,
+        Rows::Negation => negation,
+        Rows::NullTest => null,
     }
 }
 
