@@ -1,4 +1,5 @@
-//! Each call behind a test of what it asks, and whether it gives the wanted answer. Lists are moved in, so that the caller holds none, and shared, so that what drops them is small.
+//! Each call behind a test of what it asks, and whether it gives the wanted answer.
+//! Lists are moved in, so that the caller holds none, and shared, so that what drops them is small.
 
 use crate::answers::{are_equal, has_if_in_range, has_numbers, has_truths};
 use crate::lists::{Made, answered, fits, shared};
