@@ -21,7 +21,7 @@ ROWS, TIMES, RUNS = 1_000_000, 100, 3
 FEW_ROWS = 1_000
 # Rows at which words take far more memory than the programs themselves, and the pairs of lists that are made of so many rows.
 MANY_ROWS, PAIRS = 64_000_000, 3
-MOST_KEPT = 1024
+LEAST_KEPT, MOST_KEPT = 32, 4096
 
 # A kernel, beside what it is timed, the aim of the ratio and that of the bytes of a row, where there is one.
 LOOP, FEW = "C", "1,000 rows"
@@ -80,13 +80,13 @@ def bytes_of_words(kernel):
 
 
 def bytes_of_answers(kernel):
-    """The bytes of a row of a kernel's answer, by the growth from so many kept answers to four times as many. A child's peak counts no
-    less than this script's own memory, so the kept answers are to take more."""
-    _, own = ran("true")
-    kept = 4
+    """The bytes of a row of a kernel's answer, by the growth from so many kept answers to four times as many. A peak counts what is taken
+    on the way too, and memory is taken in steps of some megabytes: so the kept answers are to take more than all else."""
+    _, least = ran(PROGRAM, "keep", f"{kernel} {ROWS} 1")
+    kept = LEAST_KEPT
     while True:
         few, before = ran(PROGRAM, "keep", f"{kernel} {ROWS} {kept}")
-        if before > 2 * own or 4 * kept >= MOST_KEPT:
+        if before > 2 * least or 4 * kept >= MOST_KEPT:
             break
         kept *= 4
     many, after = ran(PROGRAM, "keep", f"{kernel} {ROWS} {4 * kept}")
