@@ -3,7 +3,7 @@
 use crate::truths::reads;
 use std::alloc::Global;
 use std::test::Fail;
-use vx_words::Truths;
+use vx_words::{Truths, both, push_bit, repeated_bit, without};
 
 /// The list of true alone.
 fn sure(alloc: Global) -> Result<Truths, Fail> {
@@ -58,6 +58,36 @@ fn filter_answers(alloc: Global) -> Result<bool, Fail> {
     Ok(reads(&truths.filter(alloc, &keep)?, [None].as_slice()))
 }
 
+fn mask_answers(alloc: Global) -> Result<bool, Fail> {
+    let truths = sure(alloc)?;
+    let nulls = sure(alloc)?;
+    if truths.len() != nulls.len() {
+        return Ok(false);
+    }
+    Ok(reads(&truths.mask(alloc, &nulls)?, [None].as_slice()))
+}
+
+fn both_answers(alloc: Global) -> Result<bool, Fail> {
+    let words = both(alloc, &[12], &[10])?;
+    Ok(words.as_slice() == [8].as_slice())
+}
+
+fn without_answers(alloc: Global) -> Result<bool, Fail> {
+    let words = without(alloc, &[12], &[10])?;
+    Ok(words.as_slice() == [4].as_slice())
+}
+
+fn repeated_bit_answers(alloc: Global) -> Result<bool, Fail> {
+    let words = repeated_bit(alloc, true, 3)?;
+    Ok(words.as_slice() == [7].as_slice())
+}
+
+fn push_bit_answers(alloc: Global) -> Result<bool, Fail> {
+    let mut words = Vec::new(alloc);
+    push_bit(&mut words, 0, true)?;
+    Ok(words.as_slice() == [1].as_slice())
+}
+
 fn clone_answers(alloc: Global) -> Result<bool, Fail> {
     let truths = sure(alloc)?;
     Ok(truths.clone()? == truths)
@@ -73,6 +103,11 @@ fn ample(rt: HostRuntime) -> Result<(), Fail> {
     assert!(rt; not_answers(alloc)?);
     assert!(rt; is_null_answers(alloc)?);
     assert!(rt; filter_answers(alloc)?);
+    assert!(rt; mask_answers(alloc)?);
+    assert!(rt; both_answers(alloc)?);
+    assert!(rt; without_answers(alloc)?);
+    assert!(rt; repeated_bit_answers(alloc)?);
+    assert!(rt; push_bit_answers(alloc)?);
     assert!(rt; clone_answers(alloc)?);
     Ok(())
 }

@@ -65,6 +65,14 @@ fn disjunction(l: Option<bool>, r: Option<bool>) -> Option<bool> {
     }
 }
 
+/// The truth, or null where the other one is true.
+fn hidden_if(truth: Option<bool>, hides: Option<bool>) -> Option<bool> {
+    match hides {
+        Some(true) => None,
+        _ => truth,
+    }
+}
+
 /// Whether the next true place from each place on is that of a plain loop, which goes from the end.
 fn next_places_are_right(truths: &Truths, options: &[Option<bool>]) -> bool {
     let mut next = None;
@@ -110,12 +118,14 @@ fn two_lists_are_right(
     let mut both = Vec::new(alloc);
     let mut either = Vec::new(alloc);
     let mut kept = Vec::new(alloc);
+    let mut masked = Vec::new(alloc);
     for (l, r) in left.iter().zip(right) {
         both.push(conjunction(*l, *r))?;
         either.push(disjunction(*l, *r))?;
         if *r == Some(true) {
             kept.push(*l)?;
         }
+        masked.push(hidden_if(*l, *r))?;
     }
     let l = Truths::from_options(alloc, left)?;
     let r = Truths::from_options(alloc, right)?;
@@ -125,7 +135,8 @@ fn two_lists_are_right(
     Ok(
         reads(&l.and(alloc, &r)?, both.as_slice())
             && reads(&l.or(alloc, &r)?, either.as_slice())
-            && reads(&l.filter(alloc, &r)?, kept.as_slice()),
+            && reads(&l.filter(alloc, &r)?, kept.as_slice())
+            && reads(&l.mask(alloc, &r)?, masked.as_slice()),
     )
 }
 
