@@ -13,7 +13,7 @@ use Rattle.vx_dtype.specs.declared.PType.{PType}
 use Rattle.vx_dtype.specs.TypeRules.{alike, nullability_of, union}
 use Rattle.vx_dtype.specs.declared.CompareOperator.{CompareOperator}
 use Rattle.vx_dtype.specs.declared.CompareOperator.TheVariants.{Eq, NotEq, Gt, Gte, Lt, Lte}
-use Rattle.vx_dtype.specs.Order.{meets, compare3}
+use Rattle.vx_dtype.specs.Order.{meets, swapped_comparison, compare3}
 use Rattle.vx_dtype.specs.Values.{Val}
 use Rattle.vx_words.specs.Words.{truth_val}
 use Rattle.vx_words.specs.Truths.{vals_of}
@@ -21,7 +21,6 @@ use Rattle.vx_numbers.specs.Numbers.{NumberList, compared}
 use Rattle.vx_column.specs.RawParts.{truth_fits}
 use Rattle.vx_column.specs.Columns.{zip_rows}
 use Rattle.vx_column.specs.Cells.{numbers_vals, numbers_fit, truths_fit, AreNumbersOf, AreTruthsOf}
-use Rattle.vx_column.specs.Comparisons.{swapped}
 use Rattle.vx_column.specs.Totals.{number_val, number_fits}
 use Rattle.vx_column.proofs.FitLemmas.{both_of, of_both}
 use Rattle.vx_column.proofs.OrderLemmas.{nullable_left, nullable_right}
@@ -82,7 +81,7 @@ with_are_truths op t u q ls b d ts e h k made = record {
 }
 
 -- the comparison in the other order
-reversed_meets : (op : CompareOperator) (o : Ordering) → meets (swapped op) o ≡ meets op (ordering_reverse o)
+reversed_meets : (op : CompareOperator) (o : Ordering) → meets (swapped_comparison op) o ≡ meets op (ordering_reverse o)
 reversed_meets Eq Less = refl
 reversed_meets Eq Equal = refl
 reversed_meets Eq Greater = refl
@@ -102,26 +101,26 @@ reversed_meets Lte Less = refl
 reversed_meets Lte Equal = refl
 reversed_meets Lte Greater = refl
 
-swapped_compared : (op : CompareOperator) (a b : Option ℤ) → compared (swapped op) b a ≡ compared op a b
+swapped_compared : (op : CompareOperator) (a b : Option ℤ) → compared (swapped_comparison op) b a ≡ compared op a b
 swapped_compared op None None = refl
 swapped_compared op None (Some b) = refl
 swapped_compared op (Some a) None = refl
 swapped_compared op (Some a) (Some b) = ap Some (reversed_meets op (int_cmp b a) ∙ ap (meets op) (sym (int_cmp_total.antisymm a b)))
 
-swapped_rows : (op : CompareOperator) (p q : PType) (a : Option ℤ) (rs : List (Option ℤ)) → vals_of (map (λ n. compared (swapped op) n a) rs) ≡ zip_rows (compare3 op) (replicate (length rs) (number_val p a)) (map (number_val q) rs)
+swapped_rows : (op : CompareOperator) (p q : PType) (a : Option ℤ) (rs : List (Option ℤ)) → vals_of (map (λ n. compared (swapped_comparison op) n a) rs) ≡ zip_rows (compare3 op) (replicate (length rs) (number_val p a)) (map (number_val q) rs)
 swapped_rows op p q a [] = refl
 swapped_rows op p q a (r ∷ rs) = λ j. (ap truth_val (swapped_compared op a r) ∙ compared_row op p q a r) j ∷ swapped_rows op p q a rs j
 
-swapped_fits : (op : CompareOperator) (p q : PType) (n m : Nullability) (a r : Option ℤ) → number_fits p n a ≡ true → number_fits q m r ≡ true → truth_fits (union n m) (compared (swapped op) r a) ≡ true
+swapped_fits : (op : CompareOperator) (p q : PType) (n m : Nullability) (a r : Option ℤ) → number_fits p n a ≡ true → number_fits q m r ≡ true → truth_fits (union n m) (compared (swapped_comparison op) r a) ≡ true
 swapped_fits op p q n m a r e h = ap (truth_fits (union n m)) (swapped_compared op a r) ∙ compared_fits op p q n m a r e h
 
-swapped_fit : (op : CompareOperator) (p q : PType) (n m : Nullability) (a : Option ℤ) (rs : List (Option ℤ)) → number_fits p n a ≡ true → numbers_fit q m rs ≡ true → truths_fit (union n m) (map (λ r. compared (swapped op) r a) rs) ≡ true
+swapped_fit : (op : CompareOperator) (p q : PType) (n m : Nullability) (a : Option ℤ) (rs : List (Option ℤ)) → number_fits p n a ≡ true → numbers_fit q m rs ≡ true → truths_fit (union n m) (map (λ r. compared (swapped_comparison op) r a) rs) ≡ true
 swapped_fit op p q n m a [] e h = refl
 swapped_fit op p q n m a (r ∷ rs) e h =
     let right = both_of (number_fits q m r) (numbers_fit q m rs) h in
     of_both _ _ (swapped_fits op p q n m a r e right.0) (swapped_fit op p q n m a rs e right.1)
 
-pub swapped_are_truths : (op : CompareOperator) (t u : Ty) (p : PType) (rs : NumberList) (a : Option ℤ) (d : Nullability) (ts : List (Option Bool)) → d ≡ union (nullability_of t) (nullability_of u) → number_fits p (nullability_of t) a ≡ true → AreNumbersOf u rs → ts ≡ map (λ r. compared (swapped op) r a) rs.numbers → AreTruthsOf (bool_ty d) ts
+pub swapped_are_truths : (op : CompareOperator) (t u : Ty) (p : PType) (rs : NumberList) (a : Option ℤ) (d : Nullability) (ts : List (Option Bool)) → d ≡ union (nullability_of t) (nullability_of u) → number_fits p (nullability_of t) a ≡ true → AreNumbersOf u rs → ts ≡ map (λ r. compared (swapped_comparison op) r a) rs.numbers → AreTruthsOf (bool_ty d) ts
 swapped_are_truths op t u p rs a d ts e h k made = record {
   kind = refl;
   fit = (λ j. truths_fit (e j) (made j)) ∙ swapped_fit op p rs.ptype (nullability_of t) (nullability_of u) a rs.numbers h k.fit;
@@ -133,7 +132,7 @@ with_list op q ls b v n ts lv rv e k w r made =
     let right : replicate (length ls.numbers) (number_val q b) ≡ rv = (λ j. replicate (k j) (w j)) ∙ r in
     ap vals_of made ∙ with_rows op ls.ptype q ls.numbers b ∙ (λ j. zip_rows (compare3 op) (e j) (right j))
 
-pub swapped_list : (op : CompareOperator) (p : PType) (rs : NumberList) (a : Option ℤ) (v : Val) (n : ℕ) (ts : List (Option Bool)) (lv rv : List Val) → numbers_vals rs ≡ rv → length rs.numbers ≡ n → number_val p a ≡ v → replicate n v ≡ lv → ts ≡ map (λ r. compared (swapped op) r a) rs.numbers → vals_of ts ≡ zip_rows (compare3 op) lv rv
+pub swapped_list : (op : CompareOperator) (p : PType) (rs : NumberList) (a : Option ℤ) (v : Val) (n : ℕ) (ts : List (Option Bool)) (lv rv : List Val) → numbers_vals rs ≡ rv → length rs.numbers ≡ n → number_val p a ≡ v → replicate n v ≡ lv → ts ≡ map (λ r. compared (swapped_comparison op) r a) rs.numbers → vals_of ts ≡ zip_rows (compare3 op) lv rv
 swapped_list op p rs a v n ts lv rv e k w r made =
     let left : replicate (length rs.numbers) (number_val p a) ≡ lv = (λ j. replicate (k j) (w j)) ∙ r in
     ap vals_of made ∙ swapped_rows op p rs.ptype a rs.numbers ∙ (λ j. zip_rows (compare3 op) (left j) (e j))

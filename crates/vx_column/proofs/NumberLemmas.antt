@@ -15,8 +15,8 @@ use Rattle.vx_dtype.specs.Logic.{is_null3}
 use Rattle.vx_dtype.specs.RawViews.{raw_view}
 use Rattle.vx_dtype.specs.declared.values.ScalarValue.{ScalarValue}
 use Rattle.vx_words.specs.Words.{truth_val}
-use Rattle.vx_words.specs.Truths.{vals_of, is_true}
-use Rattle.vx_numbers.specs.Numbers.{NumberList, number_list, fits_ptype, all_in_range, null_test, masked_number, kept_numbers}
+use Rattle.vx_words.specs.Truths.{vals_of, is_true, hidden_if}
+use Rattle.vx_numbers.specs.Numbers.{NumberList, number_list, fits_ptype, all_in_range, null_test, kept_numbers}
 use Rattle.vx_column.specs.RawParts.{raw_number}
 use Rattle.vx_column.specs.Columns.{Column, column, row_at, rows_fit, raws_fit, raw_rows, values_fit, seen, seen_rows, zip_rows, kept_rows, masked}
 use Rattle.vx_column.specs.Answers.{optional_raw}
@@ -187,7 +187,7 @@ vals_masked : (p : PType) (b : Bool) (i : Option ℤ) → number_val p (cond b N
 vals_masked p true i = refl
 vals_masked p false i = refl
 
-masked_numbers_rows : (p : PType) (ns : List (Option ℤ)) (ks : List (Option Bool)) → map (number_val p) (zip2 masked_number ns ks) ≡ zip_rows masked (map (number_val p) ns) (vals_of ks)
+masked_numbers_rows : (p : PType) (ns : List (Option ℤ)) (ks : List (Option Bool)) → map (number_val p) (zip2 hidden_if ns ks) ≡ zip_rows masked (map (number_val p) ns) (vals_of ks)
 masked_numbers_rows p [] ks = refl
 masked_numbers_rows p (n ∷ ns) [] = refl
 masked_numbers_rows p (n ∷ ns) (k ∷ ks) =
@@ -197,19 +197,19 @@ masked_fits : (p : PType) (b : Bool) (i : Option ℤ) → number_fits p Nullable
 masked_fits p true i e = refl
 masked_fits p false i e = e
 
-masked_numbers_fit : (p : PType) (ns : List (Option ℤ)) (ks : List (Option Bool)) → numbers_fit p Nullable ns ≡ true → numbers_fit p Nullable (zip2 masked_number ns ks) ≡ true
+masked_numbers_fit : (p : PType) (ns : List (Option ℤ)) (ks : List (Option Bool)) → numbers_fit p Nullable ns ≡ true → numbers_fit p Nullable (zip2 hidden_if ns ks) ≡ true
 masked_numbers_fit p [] ks e = refl
 masked_numbers_fit p (i ∷ is) [] e = refl
 masked_numbers_fit p (i ∷ is) (k ∷ ks) e =
     let both = both_of (number_fits p Nullable i) (numbers_fit p Nullable is) e in
     of_both _ _ (masked_fits p (is_true k) i both.0) (masked_numbers_fit p is ks both.1)
 
-pub masked_numbers_of : (t d : Ty) (ns ms : NumberList) (ks : List (Option Bool)) → d ≡ t → nullability_of t ≡ Nullable → AreNumbersOf t ns → ms ≡ number_list ns.ptype (zip2 masked_number ns.numbers ks) → AreNumbersOf d ms
+pub masked_numbers_of : (t d : Ty) (ns ms : NumberList) (ks : List (Option Bool)) → d ≡ t → nullability_of t ≡ Nullable → AreNumbersOf t ns → ms ≡ number_list ns.ptype (zip2 hidden_if ns.numbers ks) → AreNumbersOf d ms
 masked_numbers_of t d ns ms ks e n h k =
     let fit : numbers_fit ns.ptype Nullable ns.numbers ≡ true = ap (λ m. numbers_fit ns.ptype m ns.numbers) (sym n) ∙ h.fit in
-    numbers_are d ns.ptype Nullable (zip2 masked_number ns.numbers ks) ms (e ∙ h.kind ∙ ap (int_ty ns.ptype) n) k (masked_numbers_fit ns.ptype ns.numbers ks fit)
+    numbers_are d ns.ptype Nullable (zip2 hidden_if ns.numbers ks) ms (e ∙ h.kind ∙ ap (int_ty ns.ptype) n) k (masked_numbers_fit ns.ptype ns.numbers ks fit)
 
-pub masked_rows : (ns ms : NumberList) (ks : List (Option Bool)) (rows : List Val) → numbers_vals ns ≡ rows → ms ≡ number_list ns.ptype (zip2 masked_number ns.numbers ks) → numbers_vals ms ≡ zip_rows masked rows (vals_of ks)
+pub masked_rows : (ns ms : NumberList) (ks : List (Option Bool)) (rows : List Val) → numbers_vals ns ≡ rows → ms ≡ number_list ns.ptype (zip2 hidden_if ns.numbers ks) → numbers_vals ms ≡ zip_rows masked rows (vals_of ks)
 masked_rows ns ms ks rows r k = ap numbers_vals k ∙ masked_numbers_rows ns.ptype ns.numbers ks ∙ ap (λ vs. zip_rows masked vs (vals_of ks)) r
 
 -- tests for null

@@ -12,4 +12,3 @@ pub mod Cells
 pub mod Sizes
 pub mod RowValues
 pub mod Connectives
-pub mod Comparisons

@@ -202,7 +202,7 @@ impl ColumnRef {
         ensures value { IfOk result (λ s. value_of s ≡ row_at self.now i) }
     {
         let value = made_at(alloc, self, i)?;
-        Ok(Scalar::try_new(self.dtype.clone()?, value).unwrap())
+        Ok(Scalar::new(self.dtype.clone()?, value))
     }
 
     /// Whether the value at this row, counted from 0, isn't null.

@@ -7,7 +7,6 @@ ghost use Rattle.vx_dtype.specs.Order.{meets, compare3, between3};
 ghost use Rattle.vx_dtype.specs.RawViews.{raw_view, raws_of};
 ghost use Rattle.vx_dtype.specs.Lists.{contains3};
 ghost use Rattle.vx_column.specs.Columns.{zip_rows, zip_rows3};
-ghost use Rattle.vx_column.specs.Comparisons.{swapped};
 ghost use Rattle.vx_column.specs.RawParts.{raw_order, raw_equal, raws_have, raw_contains, lists_kind};
 
 use crate::cells::{Cells, numbers_in};
@@ -85,7 +84,7 @@ pub fn compare(alloc: Global, l: &ColumnRef, r: &ColumnRef, op: CompareOperator)
             ColumnRef::of_truths(alloc, DType::Bool(nullability), truths)
         }
         (Cells::Constant { value, .. }, Cells::Numbers(right)) => {
-            let truths = numbers_in(right).compare_with(alloc, number_of(value), swapped(op))?;
+            let truths = numbers_in(right).compare_with(alloc, number_of(value), op.swap())?;
             ColumnRef::of_truths(alloc, DType::Bool(nullability), truths)
         }
         _ => {
@@ -93,20 +92,6 @@ pub fn compare(alloc: Global, l: &ColumnRef, r: &ColumnRef, op: CompareOperator)
             let right = r.dtype();
             zip_columns(alloc, &Comparison { op, left, right }, nullability, l, r)
         }
-    }
-}
-
-/// The comparison that holds of two values where this one does of the second and the first.
-fn swapped(op: CompareOperator) -> CompareOperator
-    ensures { result ≡ swapped op }
-{
-    match op {
-        CompareOperator::Eq => CompareOperator::Eq,
-        CompareOperator::NotEq => CompareOperator::NotEq,
-        CompareOperator::Gt => CompareOperator::Lt,
-        CompareOperator::Gte => CompareOperator::Lte,
-        CompareOperator::Lt => CompareOperator::Gt,
-        CompareOperator::Lte => CompareOperator::Gte,
     }
 }
 

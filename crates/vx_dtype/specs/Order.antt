@@ -27,6 +27,14 @@ meets Gte o = is_ge o
 meets Lt o = is_lt o
 meets Lte o = is_le o
 
+-- the comparison that holds of two values where this one does of the second and the first
+abbrev pub swapped_comparison : CompareOperator → CompareOperator
+swapped_comparison Gt = Lt
+swapped_comparison Lt = Gt
+swapped_comparison Gte = Lte
+swapped_comparison Lte = Gte
+swapped_comparison op = op
+
 -- the comparison of values by how they stand; a fault where they have no order
 abbrev pub by_order : CompareOperator → Option Ordering → Val
 by_order op (Some o) = bool_val (meets op o)

@@ -1,6 +1,6 @@
 // The comparisons of two plain values.
 ghost use Rattle.std.specs.Prelude.{◌≡◌, Some};
-ghost use Rattle.vx_dtype.specs.Order.{bound_operator, meets};
+ghost use Rattle.vx_dtype.specs.Order.{bound_operator, meets, swapped_comparison};
 ghost use Rattle.vx_dtype.specs.Texts.{operator_text};
 
 use std::cmp::Ordering;
@@ -55,6 +55,19 @@ impl CompareOperator {
             CompareOperator::Gte => ordering.is_ge(),
             CompareOperator::Lt => ordering.is_lt(),
             CompareOperator::Lte => ordering.is_le(),
+        }
+    }
+
+    /// The comparison that holds of two values where this one does of the second and the first.
+    pub fn swap(self) -> CompareOperator
+        ensures { result ≡ swapped_comparison self }
+    {
+        match self {
+            CompareOperator::Gt => CompareOperator::Lt,
+            CompareOperator::Gte => CompareOperator::Lte,
+            CompareOperator::Lt => CompareOperator::Gt,
+            CompareOperator::Lte => CompareOperator::Gte,
+            other => other,
         }
     }
 

@@ -1,8 +1,8 @@
 -- The tables of the operators.
-use Rattle.std.specs.Prelude.{ℕ, zero, suc, Option, Some, None, option_map, ℤ, pos, negsuc}
+use Rattle.std.specs.Prelude.{ℕ, zero, suc, Option, Some, None, option_map, unwrap_or, ℤ, pos, negsuc}
 use Rattle.vx_dtype.specs.declared.CompareOperator.{CompareOperator}
 use Rattle.vx_dtype.specs.declared.BetweenOptions.{BetweenOptions}
-use Rattle.vx_dtype.specs.Order.{bound_operator}
+use Rattle.vx_dtype.specs.Order.{bound_operator, swapped_comparison}
 use Rattle.vx_expr.specs.declared.operators.Operator.{Operator}
 use Rattle.vx_expr.specs.Trees.{Tree, binary}
 
@@ -78,11 +78,7 @@ logical_inverse_of _ = None
 
 -- the operator that means the same with its operands exchanged; a difference is given back as it is
 abbrev pub swapped : Operator → Operator
-swapped Operator.Gt = Operator.Lt
-swapped Operator.Lt = Operator.Gt
-swapped Operator.Gte = Operator.Lte
-swapped Operator.Lte = Operator.Gte
-swapped op = op
+swapped op = unwrap_or (option_map (λ c. operator_of (swapped_comparison c)) (comparison_of op)) op
 
 -- the two comparisons that a range stands for: the lower bound before the value, and the value before the upper bound
 abbrev pub range_as_binary : Tree → Tree → Tree → BetweenOptions → Tree

@@ -14,7 +14,7 @@ use Rattle.vx_dtype.specs.TypeRules.{same_ptype}
 use Rattle.vx_dtype.specs.Values.{Val, null_val, bool_val, int_val, text_val, list_val, struct_val, fault}
 use Rattle.vx_dtype.specs.Logic.{on_known, not3, and3}
 use Rattle.vx_dtype.specs.Sums.{sum_of, int_in}
-use Rattle.vx_dtype.specs.Order.{order, meets, by_order, compared, compare3, bound_operator}
+use Rattle.vx_dtype.specs.Order.{order, meets, swapped_comparison, by_order, compared, compare3, bound_operator}
 use Rattle.vx_expr.specs.declared.Operator.{Operator}
 use Rattle.vx_expr.specs.Operators.{inverse_comparison, operator_of}
 use Rattle.vx_semantics.specs.Meaning.{binary3, mean}
@@ -40,14 +40,6 @@ order-swap (list_val xs) (bool_val b) = refl
 order-swap (struct_val ms) (bool_val b) = refl
 order-swap fault (bool_val b) = refl
 order-swap _ _ = refl
-
--- the comparison with its operands in the other order
-abbrev pub swapped_comparison : CompareOperator → CompareOperator
-swapped_comparison Gt = Lt
-swapped_comparison Lt = Gt
-swapped_comparison Gte = Lte
-swapped_comparison Lte = Gte
-swapped_comparison op = op
 
 pub meets-reverse : (op : CompareOperator) (o : Ordering) → meets op (ordering_reverse o) ≡ meets (swapped_comparison op) o
 meets-reverse Eq Less = refl

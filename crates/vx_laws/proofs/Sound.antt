@@ -13,14 +13,14 @@ use Rattle.vx_dtype.specs.Values.{Val, null_val, bool_val, int_val, text_val, li
 use Rattle.vx_dtype.specs.Fits.{fits, val_fits, vals_fit, members_fit, fits_but_for_faults, holds_fault, some_holds_fault, member_holds_fault}
 use Rattle.vx_dtype.specs.Types.{Fields, no_fields, field}
 use Rattle.vx_dtype.specs.Logic.{Tri, holds, fails, unknown, broken, tri, truth, and_tri, or_tri, not_tri, and3, or3, not3, is_null3}
-use Rattle.vx_dtype.specs.Order.{compare3, between3, bound_operator}
+use Rattle.vx_dtype.specs.Order.{compare3, between3, bound_operator, swapped_comparison}
 use Rattle.vx_dtype.specs.Like.{like3}
 use Rattle.vx_dtype.specs.Lists.{contains3}
 use Rattle.vx_semantics.specs.Typing.{equal_plain}
 use Rattle.vx_semantics.specs.Meaning.{default_answer, dynamic3}
 use Rattle.vx_semantics.specs.Breaks.{Cause, is_fault, cause_where}
 use Rattle.vx_semantics.specs.Slots.{null_allowed, held_fits}
-use Rattle.vx_laws.proofs.Comparing.{compare3-swap, swapped_comparison}
+use Rattle.vx_laws.proofs.Comparing.{compare3-swap}
 use Rattle.vx_laws.proofs.Fitting.{valued-fits, fits-but_for_faults, null_ok-fits, compare3-fits}
 use Rattle.vx_laws.proofs.Preserving.{FitsButFaults}
 

@@ -7,9 +7,9 @@ use Rattle.std.specs.Prelude.{ℤ, zero, suc, replicate}
 use Rattle.std.specs.Simd.Lanes.{zip2}
 use Rattle.vx_dtype.specs.Fits.{in_range}
 use Rattle.vx_dtype.specs.declared.PType.{PType}
-use Rattle.vx_words.specs.Truths.{is_true}
+use Rattle.vx_words.specs.Truths.{is_true, hidden_if}
 use Rattle.vx_words.proofs.BitLemmas.{and_false}
-use Rattle.vx_numbers.specs.Numbers.{NumberList, number_list, fits_ptype, all_in_range, on_both, total_in, if_in_range, kept_numbers, masked_number}
+use Rattle.vx_numbers.specs.Numbers.{NumberList, number_list, fits_ptype, all_in_range, on_both, total_in, if_in_range, kept_numbers}
 
 both_true : (x y : Bool) → (x && y) ≡ true → (x ≡ true) × (y ≡ true)
 both_true true y e = (refl, e)
@@ -33,7 +33,7 @@ kept_in_range p (n ∷ ns) (k ∷ ks) e =
     kept_first p (is_true k) n (kept_numbers ns ks) fits.0 (kept_in_range p ns ks fits.1)
 
 pub masked_in_range : (p : PType) (ns : List (Option ℤ)) (ts : List (Option Bool)) → all_in_range p ns ≡ true
-    → all_in_range p (zip2 masked_number ns ts) ≡ true
+    → all_in_range p (zip2 hidden_if ns ts) ≡ true
 masked_in_range p [] ts e = refl
 masked_in_range p (n ∷ ns) [] e = refl
 masked_in_range p (n ∷ ns) (t ∷ ts) e =

@@ -8,7 +8,7 @@ use Rattle.vx_dtype.specs.declared.PType.{PType}
 use Rattle.vx_dtype.specs.Fits.{in_range}
 use Rattle.vx_dtype.specs.declared.CompareOperator.{CompareOperator}
 use Rattle.vx_dtype.specs.Order.{meets}
-use Rattle.vx_words.specs.Truths.{is_true, hidden_if}
+use Rattle.vx_words.specs.Truths.{is_true}
 
 -- numbers of one integer type, null where there is none
 pub record NumberList : Type 0 where
@@ -61,10 +61,6 @@ if_in_range p ns = cond (all_in_range p ns) (Some ns) None
 abbrev pub null_test : Option ℤ → Option Bool
 null_test None = Some true
 null_test (Some i) = Some false
-
--- the number, or null where the truth is true
-abbrev pub masked_number : Option ℤ → Option Bool → Option ℤ
-masked_number = hidden_if
 
 -- the numbers at the places where the other list is true
 abbrev pub kept_numbers : List (Option ℤ) → List (Option Bool) → List (Option ℤ)

@@ -2,10 +2,10 @@
 ghost use Rattle.std.specs.Prelude.{◌≡◌, ℕ, ◌+◌, ◌*◌, ◌<◌, ◌≤◌, ◌^◌, true, Option, Some, None, [], ◌∷◌, ◌++◌, length, map, replicate, slice_index_or, is_some, cond, IfOk, Decides};
 ghost use Rattle.std.specs.Option.{option_map};
 ghost use Rattle.std.specs.Simd.Lanes.{zip2};
-ghost use Rattle.vx_numbers.specs.Numbers.{all_in_range, fits_ptype, compared, null_test, kept_numbers, masked_number, on_both, total_in, if_in_range};
+ghost use Rattle.vx_words.specs.Truths.{hidden_if};
+ghost use Rattle.vx_numbers.specs.Numbers.{all_in_range, fits_ptype, compared, null_test, kept_numbers, on_both, total_in, if_in_range};
 ghost use Rattle.vx_numbers.specs.NumbersEqual.{number_eq};
 ghost use Rattle.vx_numbers.specs.Lanes.{numbers_of, number_in, number_of, AreTidyNumbers};
-
 use crate::kernels::{words, words_with};
 use crate::operators::Operator;
 use crate::totals::{Total, total_of};
@@ -177,7 +177,7 @@ impl<T: Width> Lane<T> {
     /// The numbers, null where the other list is true.
     pub(crate) fn mask(&self, alloc: Global, nulls: &Truths) -> Mem<Lane<T>>
         requires { length nulls.now ≡ length self.now }
-        ensures { IfOk result (λ lane. lane ≡ zip2 masked_number self.now nulls.now) }
+        ensures { IfOk result (λ lane. lane ≡ zip2 hidden_if self.now nulls.now) }
     {
         let (_, hidden) = nulls.words();
         let valid = without(alloc, self.valid.as_slice(), hidden)?;

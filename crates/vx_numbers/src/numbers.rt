@@ -3,11 +3,11 @@ ghost use Rattle.std.specs.Prelude.{◌≡◌, ℕ, ◌<◌, true, Option, Some,
 ghost use Rattle.std.specs.Cmp.{partial_equiv_from_equiv};
 ghost use Rattle.std.specs.Option.{option_map};
 ghost use Rattle.std.specs.Simd.Lanes.{zip2};
-ghost use Rattle.vx_numbers.specs.Numbers.{number_list, all_in_range, fits_ptype, compared, null_test, kept_numbers, masked_number, on_both, sums, differences, if_in_range};
+ghost use Rattle.vx_words.specs.Truths.{hidden_if};
+ghost use Rattle.vx_numbers.specs.Numbers.{number_list, all_in_range, fits_ptype, compared, null_test, kept_numbers, on_both, sums, differences, if_in_range};
 ghost use Rattle.vx_numbers.specs.NumbersEqual.{numbers_eq, numbers_eq_equiv};
 ghost use Rattle.vx_dtype.specs.TypeRules.{same_ptype};
 ghost use Rattle.vx_numbers.specs.LaneViews.{list_of};
-
 use crate::lane::Lane;
 use crate::operators::{Above, AtLeast, AtMost, Below, Equal, Unequal};
 use crate::totals::{Difference, Sum, Total};
@@ -214,7 +214,7 @@ impl Numbers {
     /// The numbers, null where the other list is true.
     pub fn mask(&self, alloc: Global, nulls: &Truths) -> Mem<Numbers>
         requires { length nulls.now ≡ length self.now.numbers }
-        ensures { IfOk result (λ list. list ≡ number_list self.now.ptype (zip2 masked_number self.now.numbers nulls.now)) }
+        ensures { IfOk result (λ list. list ≡ number_list self.now.ptype (zip2 hidden_if self.now.numbers nulls.now)) }
     {
         let lanes = mask_lanes(alloc, &self.lanes, nulls)?;
         Ok(Numbers { lanes })
@@ -330,7 +330,7 @@ fn repeated_lanes(alloc: Global, ptype: PType, number: Option<i128>, len: usize)
 fn mask_lanes(alloc: Global, lanes: &Lanes, nulls: &Truths) -> Mem<Lanes>
     requires { length nulls.now ≡ length (list_of lanes.now).numbers }
     ensures { IfOk result (λ masked. list_of masked
-        ≡ number_list (list_of lanes.now).ptype (zip2 masked_number (list_of lanes.now).numbers nulls.now)) }
+        ≡ number_list (list_of lanes.now).ptype (zip2 hidden_if (list_of lanes.now).numbers nulls.now)) }
 {
     match lanes {
         Lanes::U8(lane) => Ok(Lanes::U8(lane.mask(alloc, nulls)?)),

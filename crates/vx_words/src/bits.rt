@@ -1,5 +1,5 @@
 // Single bits of lists of words, and words for a number of places.
-ghost use Rattle.std.specs.Prelude.{◌≡◌, ℕ, ◌+◌, ◌-◌, ◌*◌, ◌^◌, ◌<◌, ◌≤◌, ◌==◌, ◌&&◌, ◌||◌, not, false, nat_lt, length, replicate, count_by, IfOk};
+ghost use Rattle.std.specs.Prelude.{◌≡◌, ℕ, ◌+◌, ◌-◌, ◌*◌, ◌^◌, ◌<◌, ◌≤◌, ◌==◌, ◌&&◌, ◌||◌, not, false, nat_lt, length, replicate, count_by, OnErr, IfOk};
 ghost use Rattle.std.specs.List.{range_with_len};
 ghost use Rattle.vx_words.specs.Words.{bit_of, IsNextPlace};
 ghost use Rattle.vx_words.specs.Truths.{words_for};
@@ -66,6 +66,7 @@ pub(crate) fn make_room(words: &mut Vec<u64>, len: usize) -> Mem<()>
     requires { length words.old.items ≡ words_for len }
     ensures lengths { IfOk result (λ _. length words.new.items ≡ words_for (len + 1)) }
     ensures bits { IfOk result (λ _. (j : ℕ) → bit_of words.new.items j ≡ bit_of words.old.items j) }
+    ensures kept { OnErr result (words.new.items ≡ words.old.items) }
 {
     if len % PLACES > 0 {
         return Ok(());
@@ -74,11 +75,12 @@ pub(crate) fn make_room(words: &mut Vec<u64>, len: usize) -> Mem<()>
     Ok(())
 }
 
-/// Makes room for one place more than the first `len`, and sets its bit, if it is to be.
+/// Makes room for one place more than the first `len`, and sets its bit, if it is to be. Where memory runs out the words are as they were.
 pub fn push_bit(words: &mut Vec<u64>, len: usize, bit: bool) -> Mem<()>
     requires { length words.old.items ≡ words_for len }
     ensures lengths { IfOk result (λ _. length words.new.items ≡ words_for (len + 1)) }
     ensures bits { IfOk result (λ _. (j : ℕ) → bit_of words.new.items j ≡ ((j == len && bit) || bit_of words.old.items j)) }
+    ensures kept { OnErr result (words.new.items ≡ words.old.items) }
 {
     make_room(words, len)?;
     set_bit(words, len, bit);

@@ -5,6 +5,7 @@ ghost use Rattle.vx_dtype.specs.TypeRules.{is_nullable, nullability_of};
 ghost use Rattle.vx_dtype.specs.Values.{raw_null, raw_bool, raw_int, raw_text, raw_list, raw_struct};
 ghost use Rattle.vx_dtype.specs.TypeViews.{type_view};
 ghost use Rattle.vx_dtype.specs.RawViews.{raw_view, raws_of};
+ghost use Rattle.vx_dtype.specs.Fits.{fits};
 ghost use Rattle.vx_dtype.specs.ScalarAnswers.{typed, Fitted, FittedInMemory, values_alone};
 
 use super::Scalar;
@@ -30,6 +31,14 @@ impl Scalar {
         } else {
             Err(WrongValue)
         }
+    }
+
+    /// The value beside its type, which it is known to be one of.
+    pub fn new(dtype: DType, value: ScalarValue) -> Scalar
+        requires { fits (raw_view value) (type_view dtype) ≡ true }
+        ensures { result ≡ typed (type_view dtype) (raw_view value) }
+    {
+        Scalar { dtype, value }
     }
 
     /// The null of a nullable type.

@@ -93,7 +93,7 @@ of_truths-requires-in-Constant-Numbers c =
     let fit : fits (raw_view c.in-Constant-Numbers.value) c.args.l.now.ty ≡ true = subst (ArePartsOf c.args.l.now.ty) c.in-Constant-Numbers.is-0 c.cells.ensures.parts in
     let type = same_int c.args.r.now.ty c.args.l.now.ty c.in-Constant-Numbers.right.value.ptype _ right.kind (same_other _ _ c.requires.plain c.requires.same) in
     let own = c.number_of-in-Constant-Numbers.ensures.fit c.in-Constant-Numbers.right.value.ptype (nullability_of c.args.l.now.ty) (ap (fits (raw_view c.in-Constant-Numbers.value)) (sym type) ∙ fit) in
-    let made = c.in_ok-truths-in-Constant-Numbers.ensures ∙ (λ j. map (λ n. compared (c.swapped.ensures j) n c.number_of-in-Constant-Numbers.result) (c.numbers_in-in-Constant-Numbers.ensures j).numbers) in
+    let made = c.in_ok-truths-in-Constant-Numbers.ensures ∙ (λ j. map (λ n. compared (c.swap.ensures j) n c.number_of-in-Constant-Numbers.result) (c.numbers_in-in-Constant-Numbers.ensures j).numbers) in
     swapped_are_truths c.args.op c.args.l.now.ty c.args.r.now.ty c.in-Constant-Numbers.right.value.ptype c.in-Constant-Numbers.right.value c.number_of-in-Constant-Numbers.result _ _ c.union_of-nullability.ensures own right made
 
 pub returns-in_ok-truths-in-Constant-Numbers-clause-rows : goal.returns-in_ok-truths-in-Constant-Numbers-clause-rows
@@ -106,6 +106,6 @@ returns-in_ok-truths-in-Constant-Numbers-clause-rows c =
     let type = same_int c.args.r.now.ty c.args.l.now.ty c.in-Constant-Numbers.right.value.ptype _ parts.kind (same_other _ _ c.requires.plain c.requires.same) in
     let value = sym (c.number_of-in-Constant-Numbers.ensures.value c.in-Constant-Numbers.right.value.ptype (nullability_of c.args.l.now.ty) (ap (fits (raw_view c.in-Constant-Numbers.value)) (sym type) ∙ fit)) ∙ ap (λ t. seen t c.in-Constant-Numbers.value) (sym type) in
     let number : length c.in-Constant-Numbers.right.value.numbers ≡ c.in-Constant-Numbers.len-0 = length_of_rows c.in-Constant-Numbers.right.value c.args.r.now.rows right ∙ sym c.requires.lengths ∙ sym (constant_length c.in-Constant-Numbers.len-0 _ c.args.l.now.rows left) in
-    let made = c.in_ok-truths-in-Constant-Numbers.ensures ∙ (λ j. map (λ n. compared (c.swapped.ensures j) n c.number_of-in-Constant-Numbers.result) (c.numbers_in-in-Constant-Numbers.ensures j).numbers) in
+    let made = c.in_ok-truths-in-Constant-Numbers.ensures ∙ (λ j. map (λ n. compared (c.swap.ensures j) n c.number_of-in-Constant-Numbers.result) (c.numbers_in-in-Constant-Numbers.ensures j).numbers) in
     let rows = swapped_list c.args.op p c.in-Constant-Numbers.right.value c.number_of-in-Constant-Numbers.result _ c.in-Constant-Numbers.len-0 c.in_ok-truths-in-Constant-Numbers.truths c.args.l.now.rows c.args.r.now.rows right number value left made in
     if_ok_map _ _ c.of_truths-in-Constant-Numbers.result (λ (x : Column) (h : x ≡ column (bool_ty c.union_of-nullability.result) (vals_of c.in_ok-truths-in-Constant-Numbers.truths)). ap (λ (d : Column). d.rows) h ∙ rows) c.of_truths-in-Constant-Numbers.ensures

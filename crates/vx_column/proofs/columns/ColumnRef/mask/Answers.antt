@@ -4,7 +4,7 @@ use Rattle.vx_dtype.specs.declared.Nullability.TheVariants.{Nullable}
 use Rattle.vx_dtype.specs.TypeRules.{nullability_of}
 use Rattle.vx_dtype.specs.TypeViews.{type_view}
 use Rattle.vx_words.specs.Truths.{vals_of, hidden_if}
-use Rattle.vx_numbers.specs.Numbers.{number_list, masked_number}
+use Rattle.vx_numbers.specs.Numbers.{number_list}
 use Rattle.vx_column.specs.Columns.{Column, column, masked, zip_rows}
 use Rattle.vx_column.specs.Cells.{cell_rows, numbers_vals, AreNumbersOf, ArePartsOf, AreTruthsOf}
 use Rattle.vx_column.proofs.FitLemmas.{nullability_with}
@@ -19,13 +19,13 @@ of_numbers-requires c =
     let type : type_view c.in_ok-dtype.dtype ≡ c.in_ok-nullable.nullable.ty = c.in_ok-dtype.ensures.cases ∙ c.dtype.ensures.shown in
     let nullable : nullability_of c.in_ok-nullable.nullable.ty ≡ Nullable = ap (λ (d : Column). nullability_of d.ty) c.in_ok-nullable.ensures ∙ nullability_with c.args.self.now.ty Nullable in
     let parts : AreNumbersOf c.in_ok-nullable.nullable.ty c.in-Numbers.numbers.value = subst (ArePartsOf c.in_ok-nullable.nullable.ty) c.in-Numbers.is c.cells.ensures.parts in
-    let made = c.in_ok-masked-in-Numbers.ensures ∙ (λ j. number_list (c.numbers_in.ensures j).ptype (zip2 masked_number (c.numbers_in.ensures j).numbers (c.truths_in-in-Numbers.ensures j))) in
+    let made = c.in_ok-masked-in-Numbers.ensures ∙ (λ j. number_list (c.numbers_in.ensures j).ptype (zip2 hidden_if (c.numbers_in.ensures j).numbers (c.truths_in-in-Numbers.ensures j))) in
     masked_numbers_of t _ c.in-Numbers.numbers.value _ c.in_ok-truths.truths.value type nullable parts made
 
 pub returns-in-Numbers-clause-rows : goal.returns-in-Numbers-clause-rows
 returns-in-Numbers-clause-rows c =
     let rows : numbers_vals c.in-Numbers.numbers.value ≡ c.args.self.now.rows = ap (cell_rows c.in_ok-nullable.nullable.ty) (sym c.in-Numbers.is) ∙ c.cells.ensures.rows ∙ ap (λ (d : Column). d.rows) c.in_ok-nullable.ensures in
-    let made = c.in_ok-masked-in-Numbers.ensures ∙ (λ j. number_list (c.numbers_in.ensures j).ptype (zip2 masked_number (c.numbers_in.ensures j).numbers (c.truths_in-in-Numbers.ensures j))) in
+    let made = c.in_ok-masked-in-Numbers.ensures ∙ (λ j. number_list (c.numbers_in.ensures j).ptype (zip2 hidden_if (c.numbers_in.ensures j).numbers (c.truths_in-in-Numbers.ensures j))) in
     let there = masked_rows c.in-Numbers.numbers.value c.in_ok-masked-in-Numbers.masked c.in_ok-truths.truths.value c.args.self.now.rows rows made ∙ ap (zip_rows masked c.args.self.now.rows) c.in_ok-truths.ensures.rows in
     if_ok_map _ _ c.of_numbers.result (λ (x : Column) (h : x ≡ column (type_view c.in_ok-dtype.dtype) (numbers_vals c.in_ok-masked-in-Numbers.masked)). ap (λ (d : Column). d.rows) h ∙ there) c.of_numbers.ensures
 
