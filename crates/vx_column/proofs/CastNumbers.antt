@@ -1,6 +1,7 @@
 -- Casts of lists of numbers beside those of the rows that they stand for.
-use Rattle.std.proofs.Common.{◌≡◌, refl, ap, ◌∙◌, sym, ℕ, ◌+◌, Bool, true, false, ◌&&◌, cond, Option, Some, None, List, [], ◌∷◌, map, arith, Ok}
+use Rattle.std.proofs.Common.{◌≡◌, refl, ap, ◌∙◌, sym, ℕ, ◌+◌, Bool, true, false, ◌&&◌, cond, Option, Some, None, List, [], ◌∷◌, map, length, arith, Ok}
 use Rattle.std.specs.Prelude.{ℤ, count_by, option_map, nat_lt}
+use Rattle.std.proofs.Math.ListN.{replicate}
 use Rattle.std.proofs.lemmas.Bool.Decides.{nat_tests}
 use Rattle.std.proofs.lemmas.List.Sums.{sum_by-cons}
 use Rattle.vx_dtype.specs.Types.{Ty, bool_ty, int_ty, text_ty}
@@ -9,16 +10,20 @@ use Rattle.vx_dtype.specs.declared.Nullability.TheVariants.{NonNullable, Nullabl
 use Rattle.vx_dtype.specs.declared.PType.{PType}
 use Rattle.vx_dtype.specs.TypeRules.{alike, is_nullable, same_ptype, nullability_of, with_nullability}
 use Rattle.vx_dtype.specs.Values.{Val, null_val, bool_val, int_val, text_val, fault}
-use Rattle.vx_dtype.specs.Fits.{in_range, val_fits}
+use Rattle.vx_dtype.specs.Fits.{fits, in_range, val_fits}
+use Rattle.vx_dtype.specs.RawViews.{raw_view}
+use Rattle.vx_dtype.specs.declared.values.ScalarValue.{ScalarValue}
 use Rattle.vx_dtype.specs.Casts.{takes_cast, cast3}
 use Rattle.vx_words.specs.Truths.{is_true}
 use Rattle.vx_numbers.specs.Numbers.{NumberList, number_list, fits_ptype, all_in_range, if_in_range, null_test}
 use Rattle.vx_column.specs.declared.errors.ColumnError.{ColumnError}
 use Rattle.vx_column.specs.Answers.{no_faults, unless_faulty}
-use Rattle.vx_column.specs.Columns.{Column, column, rows_fit}
+use Rattle.vx_column.specs.Columns.{Column, column, rows_fit, seen}
 use Rattle.vx_column.specs.Cells.{numbers_vals, numbers_fit, AreNumbersOf}
 use Rattle.vx_column.specs.Totals.{number_val, number_fits, has_null, stray_null}
 use Rattle.vx_column.proofs.FitLemmas.{both_of, of_both}
+use Rattle.vx_column.proofs.RowLemmas.{map_repeated}
+use Rattle.vx_column.proofs.CellLemmas.{rows_fit_repeated}
 use Rattle.vx_column.proofs.NumberLemmas.{numbers_are, number_rows_fit}
 use Rattle.vx_column.proofs.SumLemmas.{no_faults_fit, fault_first, fault_behind, same_ptype_equal}
 use Rattle.vx_column.proofs.TotalLemmas.{made_totals, no_totals, in_type, out_of_type}
@@ -147,3 +152,11 @@ widened_answer r t c d a w f e =
     let rows = widened_rows c.ty t c.rows a both.0 both.1 f in
     let none : no_faults (map (cast3 t) c.rows) ≡ true = ap no_faults rows ∙ no_faults_fit c.ty c.rows f in
     rw none (ap (λ x. Ok x) (e ∙ (λ j. column (widened_type c.ty t a both.0 both.1 j) (sym rows j))))
+
+-- the cast of one value at all rows
+pub constant_answer : (e : ColumnError) (t : Ty) (c d : Column) (x : ScalarValue) (v : Val) → fits (raw_view x) t ≡ true → seen t x ≡ cast3 t v → c.rows ≡ replicate (length c.rows) v → d ≡ column t (replicate (length c.rows) (seen t x))
+    → Ok d ≡ unless_faulty e (column t (map (cast3 t) c.rows))
+constant_answer e t c d x v f s r m =
+    let rows : replicate (length c.rows) (seen t x) ≡ map (cast3 t) c.rows = ap (replicate (length c.rows)) s ∙ sym (map_repeated (cast3 t) (length c.rows) v) ∙ ap (map (cast3 t)) (sym r) in
+    let none : no_faults (map (cast3 t) c.rows) ≡ true = ap no_faults (sym rows) ∙ no_faults_fit t (replicate (length c.rows) (seen t x)) (rows_fit_repeated t (length c.rows) x f) in
+    rw none (ap (λ (y : Column). Ok y) (m ∙ ap (column t) rows))

@@ -1,5 +1,5 @@
 -- The rows that the parts of a column hold, one by one.
-use Rattle.std.proofs.Common.{◌≡◌, refl, ap, ◌∙◌, sym, ℕ, zero, suc, ◌+◌, ◌<◌, ◌≤◌, max, Bool, true, false, not, ◌==◌, None, List, [], ◌∷◌, ◌++◌, map, length, take, get_or, arith, add-one}
+use Rattle.std.proofs.Common.{◌≡◌, refl, ap, ◌∙◌, sym, ℕ, zero, suc, ◌+◌, ◌*◌, ◌<◌, ◌≤◌, max, Bool, true, false, not, ◌==◌, None, List, [], ◌∷◌, ◌++◌, map, length, take, get_or, arith, add-one}
 use Rattle.std.specs.List.{All, AllZip, range_with_len}
 use Rattle.std.proofs.Math.ListN.{replicate}
 use Rattle.std.proofs.lemmas.List.{get_or-replicate, length-replicate, take_more}
@@ -20,13 +20,16 @@ use Rattle.vx_column.specs.RawParts.{is_raw_null, lists_kind}
 use Rattle.vx_column.specs.Columns.{Column, column, row_at, rows_fit, values_fit, seen, seen_rows}
 use Rattle.vx_column.specs.StructColumns.{column_types, all_have_rows, struct_row, row_members, StandsAt}
 use Rattle.vx_column.specs.declared.cells.Cells.{Cells}
-use Rattle.vx_column.specs.declared.cells.Cells.TheVariants.{Constant, Rows, Truths, Numbers, Columns}
+use Rattle.vx_column.specs.declared.cells.Cells.TheVariants.{Constant, Rows, Truths, Numbers, Columns, Masked}
+use Rattle.vx_column.specs.TypeSizes.{size_of}
+use Rattle.vx_column.specs.Sizes.{size_le}
 use Rattle.vx_column.specs.Cells.{cell_rows, structs_of, all_rows_fit, AreFieldsOf, ArePartsOf, keeps_values}
 use Rattle.vx_column.proofs.FitLemmas.{both_of, of_both, bytes_eq_self, fits_nullable, valued_with_nullability, rows_fit_seen, is_null3_valued}
 use Rattle.vx_column.proofs.RowLemmas.{fits_at, seen_row, seen_rows_append, values_fit_more}
 use Rattle.vx_column.proofs.StructLemmas.{struct_fits, struct_stands}
 use Rattle.vx_column.proofs.TruthLemmas.{truth_rows_fit}
 use Rattle.vx_column.proofs.NumberLemmas.{number_rows_fit}
+use Rattle.vx_column.proofs.MaskedLemmas.{masked_fit}
 
 -- a constant has its value at each row
 pub constant_row : (c : Column) (n i : ℕ) (v : Val) → replicate n v ≡ c.rows → i < length c.rows → v ≡ row_at c i
@@ -37,11 +40,6 @@ constant_row c n i v e h =
 
 pub constant_length : (n : ℕ) (v : Val) (rows : List Val) → replicate n v ≡ rows → n ≡ length rows
 constant_length n v rows e = sym (length-replicate n v) ∙ ap length e
-
-pub constant_all : (c : Column) (n : ℕ) (v : Val) → replicate n v ≡ c.rows → c.rows ≡ replicate (length c.rows) v
-constant_all c n v e =
-    let lengths : n ≡ length c.rows = sym (length-replicate n v) ∙ ap length e in
-    sym e ∙ ap (λ m. replicate m v) lengths
 
 -- there are as many values as rows, and each stands for its row
 pub values_length : (c : Column) (xs : List ScalarValue) → seen_rows c.ty xs ≡ c.rows → length xs ≡ length c.rows
@@ -89,13 +87,6 @@ alike_kept (int_ty p n) (int_ty q m) a e = refl
 alike_kept (text_ty n) (text_ty m) a e = refl
 alike_kept _ _ a e = absurd cc
 
-pub nullable_kept : (t : Ty) → keeps_values (with_nullability t Nullable) ≡ true
-nullable_kept (bool_ty n) = refl
-nullable_kept (int_ty p n) = refl
-nullable_kept (text_ty n) = refl
-nullable_kept (list_ty e n) = refl
-nullable_kept (struct_ty fs n) = refl
-
 pub bool_kept : (t : Ty) → is_bool_ty t ≡ true → keeps_values t ≡ true
 bool_kept (bool_ty n) e = refl
 bool_kept _ e = absurd cc
@@ -117,26 +108,26 @@ length-columns (c ∷ cs) = ap (λ n. suc n) (length-columns cs)
 pub fields_number : (t : Ty) (cs : List Column) (n : ℕ) → AreFieldsOf t cs n → length (field_names (fields_of t)) ≡ length cs
 fields_number t cs n h = sym (length-field_types (fields_of t)) ∙ ap length (sym h.types) ∙ length-columns cs
 
--- the depth of the deepest of the columns' types
+-- the size of the greatest of the columns' types
 abbrev pub deepest : List Column → ℕ
 deepest [] = 0
-deepest (c ∷ cs) = max (depth_of c.ty) (deepest cs)
+deepest (c ∷ cs) = max (size_of c.ty) (deepest cs)
 
-pub depth_le-deepest : (cs : List Column) (k : ℕ) (d : Column) → k < length cs → depth_of (get_or cs k d).ty ≤ deepest cs
-depth_le-deepest [] k d h = absurd (omega arith)
-depth_le-deepest (c ∷ cs) zero d h = omega arith
-depth_le-deepest (c ∷ cs) (suc k) d h = omega (arith, depth_le-deepest cs k d (omega arith))
+pub size_le-deepest : (cs : List Column) (k : ℕ) (d : Column) → k < length cs → size_of (get_or cs k d).ty ≤ deepest cs
+size_le-deepest [] k d h = absurd (omega arith)
+size_le-deepest (c ∷ cs) zero d h = omega arith
+size_le-deepest (c ∷ cs) (suc k) d h = omega (arith, size_le-deepest cs k d (omega arith))
 
-deepest_below : (cs : List Column) (fs : Fields) → column_types cs ≡ field_types fs → deepest cs ≤ depth_below fs
+deepest_below : (cs : List Column) (fs : Fields) → column_types cs ≡ field_types fs → deepest cs ≤ 2 * depth_below fs + 1
 unfolding depth_of
 deepest_below [] fs e = omega arith
 deepest_below (c ∷ cs) no_fields e = absurd cc
 deepest_below (c ∷ cs) (field f t fs) e =
     let here : c.ty ≡ t = cc in
     let rest : column_types cs ≡ field_types fs = cc in
-    omega (arith, ap depth_of here, deepest_below cs fs rest)
+    omega (arith, size_le c.ty, ap depth_of here, deepest_below cs fs rest)
 
-pub deepest_lt : (t : Ty) (cs : List Column) (n : ℕ) → AreFieldsOf t cs n → deepest cs < depth_of t
+pub deepest_lt : (t : Ty) (cs : List Column) (n : ℕ) → AreFieldsOf t cs n → deepest cs < size_of t
 unfolding depth_of
 deepest_lt t cs n h = omega (arith, deepest_below cs (fields_of t) h.types, ap depth_of h.shape)
 
@@ -276,4 +267,5 @@ cells_fit t (Constant x n) h = rows_fit_repeated t n x h
 cells_fit t (Rows xs) h = rows_fit_seen t xs.value.items h.fit
 cells_fit t (Truths ts) h = truth_rows_fit t ts.value h
 cells_fit t (Numbers ns) h = number_rows_fit t ns.value h
+cells_fit t (Masked c ns) h = masked_fit t c.value ns.value h
 cells_fit t (Columns cs n) h = made_fit t (struct_row (field_names (fields_of t)) cs.value.items None) n 0 n (omega arith) (struct_row_fits t cs.value.items n h)

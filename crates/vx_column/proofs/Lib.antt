@@ -22,3 +22,6 @@ mod ComparedNumbers
 mod TotalLemmas
 mod CastNumbers
 mod KeptPlaces
+mod MaskedLemmas
+mod SameMasked
+mod MaskedParts

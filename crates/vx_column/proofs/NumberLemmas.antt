@@ -247,13 +247,6 @@ repeated_numbers p n i v rows ms e r k = ap numbers_vals k ∙ numbers_repeated 
 pub repeated_numbers_fit : (t : Ty) (p : PType) (n : Nullability) (m : ℕ) (i : Option ℤ) (ms : NumberList) → t ≡ int_ty p n → number_fits p n i ≡ true → ms ≡ number_list p (replicate m i) → AreNumbersOf t ms
 repeated_numbers_fit t p n m i ms k f e = numbers_are t p n (replicate m i) ms k e (numbers_fit_repeated p n m i f)
 
--- two numbers that stand for one value are one
-pub number_val_same : (p : PType) (a b : Option ℤ) → number_val p a ≡ number_val p b → a ≡ b
-number_val_same p None None e = refl
-number_val_same p (Some a) (Some b) e = cc
-number_val_same p None (Some b) e = absurd cc
-number_val_same p (Some a) None e = absurd cc
-
 -- the integer type that a type is but for nullability
 pub same_int_ty : (p q : PType) (n m : Nullability) → int_ty p n ≡ int_ty q m → p ≡ q
 same_int_ty p q n m e = cc

@@ -1,11 +1,10 @@
 -- Equality and hash of columns, row by row and by the columns of fields.
-use Rattle.std.proofs.Common.{◌≡◌, refl, ap, ◌∙◌, sym, subst, ℕ, zero, suc, ◌+◌, ◌<◌, ◌≤◌, Bool, true, false, ◌==◌, Option, Some, None, List, [], ◌∷◌, ◌++◌, map, length, take, drop, get_or, fold, arith}
+use Rattle.std.proofs.Common.{◌≡◌, refl, ap, ◌∙◌, sym, subst, ℕ, zero, suc, ◌+◌, ◌<◌, ◌≤◌, Bool, true, false, Option, Some, None, List, [], ◌∷◌, ◌++◌, map, length, take, drop, get_or, fold, arith}
 use Rattle.std.specs.Prelude.{Decides}
 use Rattle.std.specs.List.{AllZip, flat_map}
 use Rattle.std.specs.Hash as fed
 use Rattle.std.specs.Hash.{HashWrites}
-use Rattle.std.proofs.Math.ListN.{replicate}
-use Rattle.std.proofs.lemmas.List.{take_all, take_more, drop_more, drop_all, ext_get_or}
+use Rattle.std.proofs.lemmas.List.{take_all, take_more, drop_more, drop_all}
 use Rattle.std.proofs.lemmas.Grind.{fold-append}
 use Rattle.vx_dtype.specs.Types.{Bytes, Ty, struct_ty, Fields, no_fields, field}
 use Rattle.vx_dtype.specs.declared.Nullability.{Nullability}
@@ -17,15 +16,15 @@ use Rattle.vx_dtype.specs.Fits.{fits, fields_fit}
 use Rattle.vx_dtype.specs.Feeds.{ty_feed, raw_feed}
 use Rattle.vx_dtype.specs.RawViews.{raw_view, raws_of}
 use Rattle.vx_dtype.specs.declared.values.ScalarValue.{ScalarValue}
-use Rattle.vx_column.specs.Columns.{Column, column, row_at, seen, seen_rows}
+use Rattle.vx_column.specs.Columns.{Column, column, row_at, seen}
 use Rattle.vx_column.specs.Answers.{PartsOf}
 use Rattle.vx_column.specs.ColumnEqual.{val_feed, members_feed, column_feed}
-use Rattle.vx_column.specs.StructColumns.{column_types, all_have_rows, row_members}
-use Rattle.vx_column.specs.Cells.{structs_of, AreFieldsOf, AreStructsOf, AreOfOneShape, HasFit, HasAt, fields_feed}
+use Rattle.vx_column.specs.StructColumns.{column_types, row_members}
+use Rattle.vx_column.specs.Cells.{structs_of, AreFieldsOf, AreStructsOf, HasFit, HasAt, fields_feed}
 use Rattle.vx_column.proofs.FitLemmas.{both_of}
 use Rattle.vx_column.proofs.EqualLemmas.{valued-same, val_feed-valued}
 use Rattle.vx_column.proofs.StructLemmas.{all_zip_more}
-use Rattle.vx_column.proofs.CellLemmas.{fields_number, structs_row, structs_length, constant_all}
+use Rattle.vx_column.proofs.CellLemmas.{fields_number, structs_row, structs_length}
 
 -- a value that is kept at a row is another of the type where their raw values are the same
 pub has_kept : (c : Column) (i : ℕ) (x y : ScalarValue) (b : Bool) → fits (raw_view x) c.ty ≡ true → fits (raw_view y) c.ty ≡ true → seen c.ty x ≡ row_at c i → Decides b (raw_view x ≡ raw_view y) → Decides b (HasAt i c y)
@@ -79,15 +78,9 @@ has_members i (c ∷ cs) (field f t fs) (x ∷ xs) e g h =
 pub parts_of_row : (t : Ty) (cs : List Column) (n : ℕ) (v : Val) (xs : List ScalarValue) → AreFieldsOf t cs n → PartsOf (fields_of t) NonNullable v (Some xs) → AllZip HasFit cs xs
 parts_of_row t cs n v xs h p = parts_fit cs (fields_of t) xs h.types p.0
 
--- equal structs have equal members, equal members equal values
-same_members : {ms ns : Members} → struct_val ms ≡ struct_val ns → ms ≡ ns
+-- equal structs have equal members
+pub same_members : {ms ns : Members} → struct_val ms ≡ struct_val ns → ms ≡ ns
 same_members e = cc
-
-member_value : {f g : Bytes} {v w : Val} {ms ns : Members} → member f v ms ≡ member g w ns → v ≡ w
-member_value e = cc
-
-member_rest : {f g : Bytes} {v w : Val} {ms ns : Members} → member f v ms ≡ member g w ns → ms ≡ ns
-member_rest e = cc
 
 -- the columns have the parts of a struct value exactly where the struct of the row is the value
 pub has_struct : (c : Column) (i : ℕ) (cs : List Column) (n : ℕ) (y : ScalarValue) (xs : List ScalarValue) (b : Bool) → AreFieldsOf c.ty cs n → structs_of (field_names (fields_of c.ty)) cs n ≡ c.rows → i < length c.rows → PartsOf (fields_of c.ty) NonNullable (seen c.ty y) (Some xs) → Decides b (AllZip (HasAt i) cs xs) → Decides b (HasAt i c y)
@@ -120,43 +113,6 @@ zip_more R xs ys k d e w v h r = subst (λ zs. AllZip R (take (k + 1) xs) zs) (s
 pub zip_all : {A B : Type 0} (R : A → B → Type 0) (xs : List A) (ys : List B) (k : ℕ) → length xs ≤ k → length ys ≤ k → AllZip R (take k xs) (take k ys) → AllZip R xs ys
 zip_all R xs ys k w v h = subst (λ zs. AllZip R zs ys) (take_all k xs w) (subst (λ zs. AllZip R (take k xs) zs) (take_all k ys v) h)
 
--- columns of fields are the same where the structs at each row are
-rows_same : (c d : Column) (n : ℕ) → length c.rows ≡ n → length d.rows ≡ n → ((i : ℕ) → i < n → row_at c i ≡ row_at d i) → c.rows ≡ d.rows
-rows_same c d n e f h = ext_get_or null_val c.rows d.rows (e ∙ sym f) (λ i w. h i (omega (arith, e)))
-
-same_count : (m n : ℕ) → (m == n) ≡ true → m ≡ n
-same_count m n e = grind (arith, e)
-
-pub fields_same : (n : ℕ) (fs : List Bytes) (cs ds : List Column) → length fs ≡ length cs → column_types cs ≡ column_types ds → all_have_rows n cs ≡ true → all_have_rows n ds ≡ true → ((i : ℕ) → i < n → row_members fs cs i ≡ row_members fs ds i) → cs ≡ ds
-fields_same n fs [] [] l t g h r = refl
-fields_same n fs [] (d ∷ ds) l t g h r = absurd cc
-fields_same n fs (c ∷ cs) [] l t g h r = absurd cc
-fields_same n [] (c ∷ cs) (d ∷ ds) l t g h r = absurd (omega (arith, l))
-fields_same n (f ∷ fs) (c ∷ cs) (d ∷ ds) l t g h r =
-    let first : c.ty ≡ d.ty = cc in
-    let others : column_types cs ≡ column_types ds = cc in
-    let left = both_of (length c.rows == n) (all_have_rows n cs) g in
-    let right = both_of (length d.rows == n) (all_have_rows n ds) h in
-    let rows = rows_same c d n (same_count _ _ left.0) (same_count _ _ right.0) (λ i w. member_value (r i w)) in
-    λ j. column (first j) (rows j) ∷ fields_same n fs cs ds (omega (arith, l)) others left.1 right.1 (λ i w. member_rest (r i w)) j
-
-struct_rows_same : (c d : Column) (fs : List Bytes) (cs ds : List Column) (n i : ℕ) → structs_of fs cs n ≡ c.rows → structs_of fs ds n ≡ d.rows → c.rows ≡ d.rows → i < n → struct_val (row_members fs cs i) ≡ struct_val (row_members fs ds i)
-struct_rows_same c d fs cs ds n i p q e w =
-    let left : i < length c.rows = omega (arith, structs_length c fs cs n p) in
-    let right : i < length d.rows = omega (arith, structs_length d fs ds n q) in
-    structs_row c fs cs n i p left ∙ ap (λ vs. get_or vs i null_val) e ∙ sym (structs_row d fs ds n i q right)
-
-pub structs_same : (c d : Column) (cs ds : List Column) (m n : ℕ) (b : Bool) → c.ty ≡ d.ty → AreFieldsOf c.ty cs m → AreFieldsOf d.ty ds n → structs_of (field_names (fields_of c.ty)) cs m ≡ c.rows → structs_of (field_names (fields_of d.ty)) ds n ≡ d.rows → m ≡ n → Decides b (cs ≡ ds) → Decides b (c.rows ≡ d.rows)
-structs_same c d cs ds m n b t g h p q e k =
-    let names : field_names (fields_of d.ty) ≡ field_names (fields_of c.ty) = ap (λ u. field_names (fields_of u)) (sym t) in
-    let types : column_types cs ≡ column_types ds = g.types ∙ ap (λ u. field_types (fields_of u)) t ∙ sym h.types in
-    let right : structs_of (field_names (fields_of c.ty)) ds m ≡ d.rows = (λ j. structs_of (sym names j) ds (e j)) ∙ q in
-    let rows : all_have_rows m ds ≡ true = ap (λ w. all_have_rows w ds) e ∙ h.lengths in (
-      λ s. sym p ∙ ap (λ es. structs_of (field_names (fields_of c.ty)) es m) (k.0 s) ∙ right,
-      λ s. k.1 (fields_same m (field_names (fields_of c.ty)) cs ds (fields_number c.ty cs m g) types g.lengths rows
-          (λ i w. same_members (struct_rows_same c d (field_names (fields_of c.ty)) cs ds m i p right s w))),
-    )
-
 -- two tests of what is the same one way round and the other
 pub turned : {A : Type 0} (x y : A) (b : Bool) → Decides b (x ≡ y) → Decides b (y ≡ x)
 turned x y b d = (λ e. sym (d.0 e), λ p. d.1 (sym p))
@@ -173,18 +129,6 @@ members_fed (f ∷ fs) (c ∷ cs) i e = ap (λ w. fed.u8 1 ++ val_feed (row_at c
 pub struct_parts : (t : Ty) (cs : List Column) (n : ℕ) (y : ScalarValue) (o : Option (List ScalarValue)) → AreFieldsOf t cs n → fits (raw_view y) t ≡ true → ((fs : Fields) (m : Nullability) → fits (raw_view y) (struct_ty fs m) ≡ true → PartsOf fs m (seen (struct_ty fs m) y) o) → PartsOf (fields_of t) NonNullable (seen t y) o
 struct_parts t cs n y o h f told =
     subst (λ u. PartsOf (fields_of t) NonNullable (seen u y) o) (sym h.shape) (told (fields_of t) NonNullable (ap (fits (raw_view y)) (sym h.shape) ∙ f))
-
--- a column has the rows of another that is kept as one value, or as values, where it has the value or the values
-pub constant_same : (c d : Column) (n : ℕ) (x : ScalarValue) (b : Bool) → c.ty ≡ d.ty → length c.rows ≡ length d.rows → replicate n (seen c.ty x) ≡ c.rows → Decides b (d.rows ≡ replicate (length d.rows) (seen d.ty x)) → Decides b (d.rows ≡ c.rows)
-constant_same c d n x b t l r k =
-    let value : seen c.ty x ≡ seen d.ty x = ap (λ u. seen u x) t in
-    let whole : c.rows ≡ replicate (length d.rows) (seen d.ty x) = constant_all c n (seen c.ty x) r ∙ (λ j. replicate (l j) (value j)) in
-    (λ e. k.0 e ∙ sym whole, λ p. k.1 (p ∙ whole))
-
-pub values_same : (c d : Column) (xs : List ScalarValue) (b : Bool) → c.ty ≡ d.ty → seen_rows c.ty xs ≡ c.rows → Decides b (d.rows ≡ seen_rows d.ty xs) → Decides b (d.rows ≡ c.rows)
-values_same c d xs b t r k =
-    let whole : seen_rows d.ty xs ≡ c.rows = ap (λ u. seen_rows u xs) (sym t) ∙ r in
-    (λ e. k.0 e ∙ whole, λ p. k.1 (p ∙ sym whole))
 
 -- columns at one place of lists of columns of the same types
 length_columns : (cs : List Column) → length (column_types cs) ≡ length cs
@@ -259,5 +203,5 @@ kept_structs_of c cs n h r =
       rows = ap (structs_of (field_names (fields_of c.ty)) cs) (sym number) ∙ r;
     }
 
-pub kept_types_same : (c d : Column) (cs ds : List Column) (n : ℕ) → AreOfOneShape c d → AreFieldsOf c.ty cs n → AreStructsOf d ds → column_types ds ≡ column_types cs
-kept_types_same c d cs ds n s h k = k.fields.types ∙ ap (λ u. field_types (fields_of u)) (sym s.types) ∙ sym h.types
+pub kept_types_same : (c d : Column) (cs ds : List Column) (n : ℕ) → d.ty ≡ c.ty → AreFieldsOf c.ty cs n → AreStructsOf d ds → column_types ds ≡ column_types cs
+kept_types_same c d cs ds n s h k = k.fields.types ∙ ap (λ u. field_types (fields_of u)) s ∙ sym h.types

@@ -1,29 +1,22 @@
 -- Struct columns: what rows of values of the fields' columns stand for.
-use Rattle.std.proofs.Common.{◌≡◌, refl, ap, ◌∙◌, sym, ℕ, zero, suc, ◌+◌, ◌<◌, Bool, true, false, Option, Some, None, List, [], ◌∷◌, ◌++◌, ◌==◌, IfSome, IfOk, Result, Ok, Err, map, length, take, get_or, arith, add-one}
-use Rattle.std.specs.List.{AllZip, All, range_with_len}
-use Rattle.std.proofs.lemmas.List.FromFn.{map-range_with_len_more}
-use Rattle.vx_dtype.specs.Types.{Bytes, Ty, struct_ty}
+use Rattle.std.proofs.Common.{◌≡◌, refl, ap, ◌∙◌, sym, ℕ, zero, suc, ◌+◌, ◌<◌, true, List, [], ◌∷◌, ◌++◌, ◌==◌, IfOk, Result, Ok, Err, map, length, take, get_or, arith, add-one}
+use Rattle.std.specs.List.{AllZip, All}
+use Rattle.vx_dtype.specs.Types.{Bytes, struct_ty}
 use Rattle.vx_dtype.specs.declared.Nullability.{Nullability}
 use Rattle.vx_dtype.proofs.ZippedLemmas.{field_names_zipped}
-use Rattle.vx_dtype.specs.TypeRules.{is_nullable, distinct_names, no_name_twice, no_name_twice_below}
+use Rattle.vx_dtype.specs.TypeRules.{distinct_names, no_name_twice, no_name_twice_below}
 use Rattle.vx_dtype.specs.Zipped.{zipped}
 use Rattle.vx_dtype.specs.Fits.{fits, fields_fit}
-use Rattle.vx_dtype.specs.Values.{Val, struct_val, member, raw_struct, members_valued, valued}
+use Rattle.vx_dtype.specs.Values.{struct_val, member, raw_struct, members_valued, valued}
 use Rattle.vx_dtype.specs.RawViews.{raw_view, raws_of}
 use Rattle.vx_dtype.specs.declared.values.ScalarValue.{ScalarValue}
 use Rattle.vx_dtype.specs.TypeViews.{type_view}
 use Rattle.vx_dtype.specs.declared.types.DType.{DType}
 use Rattle.std.proofs.lemmas.List.{map_more, map-append}
 use Rattle.vx_dtype.proofs.ValuedLemmas.{valued-struct}
-use Rattle.vx_column.specs.Columns.{Column, seen, seen_rows}
-use Rattle.vx_column.specs.StructColumns.{column_types, all_have_rows, truths_number, nullability_by, is_valid_row, row_members, StandsAt}
+use Rattle.vx_column.specs.Columns.{Column, seen}
+use Rattle.vx_column.specs.StructColumns.{column_types, all_have_rows, row_members, StandsAt}
 use Rattle.vx_column.proofs.FitLemmas.{both_of, of_both}
-use Rattle.vx_column.proofs.RowLemmas.{seen_rows_append}
-
--- a row that isn't valid is one of a nullable type
-pub nullable_by : (valid : Option (List Bool)) (i : ℕ) → is_valid_row valid i ≡ false → is_nullable (nullability_by valid) ≡ true
-nullable_by None i e = absurd cc
-nullable_by (Some bs) i e = refl
 
 -- values that stand for the columns' rows are one per field
 pub row_fits : (fs : List Bytes) (cs : List Column) (xs : List ScalarValue) (i : ℕ) → length fs ≡ length cs → AllZip (StandsAt i) cs xs → fields_fit (raws_of (map raw_view xs)) (zipped fs (column_types cs)) ≡ true
@@ -63,17 +56,6 @@ all_rows_at n (c ∷ cs) i e h zero d q =
     let first : (length c.rows == n) ≡ true = (both_of (length c.rows == n) (all_have_rows n cs) e).0 in
     grind (arith, first)
 all_rows_at n (c ∷ cs) i e h (suc k) d q = all_rows_at n cs i (both_of (length c.rows == n) (all_have_rows n cs) e).1 h k d (omega arith)
-
--- and the truths have one there
-pub truths_at : (n : ℕ) (valid : Option (List Bool)) (i : ℕ) → truths_number n valid ≡ true → i < n → IfSome valid (λ bs. i < length bs)
-truths_at n None i e h = tt
-truths_at n (Some bs) i e h = grind (arith, e)
-
--- one struct more
-pub struct_rows_more : (t : Ty) (row : ℕ → Val) (xs ys : List ScalarValue) (i : ℕ) (x : ScalarValue) → ys ≡ xs ++ x ∷ [] → seen_rows t xs ≡ map row (range_with_len 0 i) → seen t x ≡ row i → seen_rows t ys ≡ map row (range_with_len 0 (i + 1))
-struct_rows_more t row xs ys i x e p q =
-    let more = map-range_with_len_more row 0 i i (omega arith) in
-    rw (e, seen_rows_append t xs x, p, q) (sym more)
 
 -- the types of columns without a name twice have none below a struct of them
 pub names_below : (fs : List Bytes) (cs : List Column) → All (λ c. no_name_twice c.ty ≡ true) cs → no_name_twice_below (zipped fs (column_types cs)) ≡ true

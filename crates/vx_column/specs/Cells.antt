@@ -1,5 +1,5 @@
 -- For the checker: no public clause cites this. What the parts of a column hold.
-use Rattle.std.specs.Prelude.{◌≡◌, ℕ, ℤ, slice_index_or, Bool, true, false, ◌&&◌, List, [], ◌∷◌, ◌++◌, map, length, Option, None}
+use Rattle.std.specs.Prelude.{◌≡◌, ℕ, ℤ, slice_index_or, Bool, true, false, not, ◌&&◌, List, [], ◌∷◌, ◌++◌, map, length, Option, None}
 use Rattle.std.specs.Hash as fed
 use Rattle.std.specs.Hash.{HashWrites}
 use Rattle.std.specs.List.{range_with_len}
@@ -7,16 +7,16 @@ use Rattle.std.proofs.Math.ListN.{replicate}
 use Rattle.vx_dtype.specs.Types.{Bytes, Ty, int_ty, struct_ty}
 use Rattle.vx_dtype.specs.declared.Nullability.{Nullability}
 use Rattle.vx_dtype.specs.declared.PType.{PType}
-use Rattle.vx_dtype.specs.declared.Nullability.TheVariants.{NonNullable}
-use Rattle.vx_dtype.specs.TypeRules.{field_names, fields_of, is_bool_ty, is_int_ty, is_nullable, nullability_of}
+use Rattle.vx_dtype.specs.declared.Nullability.TheVariants.{NonNullable, Nullable}
+use Rattle.vx_dtype.specs.TypeRules.{field_names, fields_of, is_bool_ty, is_int_ty, is_nullable, nullability_of, with_nullability}
 use Rattle.vx_dtype.specs.StructTypes.{field_types}
 use Rattle.vx_dtype.specs.Values.{Val}
 use Rattle.vx_dtype.specs.Fits.{fits}
 use Rattle.vx_dtype.specs.RawViews.{raw_view}
 use Rattle.vx_dtype.specs.declared.values.ScalarValue.{ScalarValue}
 use Rattle.vx_column.specs.declared.cells.Cells.{Cells}
-use Rattle.vx_column.specs.declared.cells.Cells.TheVariants.{Constant, Rows, Truths, Numbers, Columns}
-use Rattle.vx_column.specs.Columns.{Column, column, row_at, rows_fit, values_fit, seen, seen_rows, kept_rows}
+use Rattle.vx_column.specs.declared.cells.Cells.TheVariants.{Constant, Rows, Truths, Numbers, Columns, Masked}
+use Rattle.vx_column.specs.Columns.{Column, column, row_at, rows_fit, values_fit, seen, seen_rows, kept_rows, masked, zip_rows}
 use Rattle.vx_column.specs.ColumnEqual.{val_feed}
 use Rattle.vx_column.specs.RawParts.{truth_fits}
 use Rattle.vx_column.specs.Totals.{number_val, number_fits}
@@ -39,6 +39,7 @@ cell_rows t (Rows xs) = seen_rows t xs.value.items
 cell_rows t (Truths ts) = vals_of ts.value
 cell_rows t (Numbers ns) = numbers_vals ns.value
 cell_rows t (Columns cs n) = structs_of (field_names (fields_of t)) cs.value.items n
+cell_rows t (Masked c ns) = zip_rows masked c.value.rows (vals_of ns.value)
 
 -- whether the rows of each column are of its type
 abbrev pub all_rows_fit : List Column → Bool
@@ -56,11 +57,6 @@ pub record AreFieldsOf (t : Ty) (cs : List Column) (n : ℕ) : Type 0 where
 pub record AreStructsOf (c : Column) (cs : List Column) : Type 0 where
   pub fields : AreFieldsOf c.ty cs (length c.rows)
   pub rows : structs_of (field_names (fields_of c.ty)) cs (length c.rows) ≡ c.rows
-
--- two columns have one type and as many rows
-pub record AreOfOneShape (c d : Column) : Type 0 where
-  pub types : c.ty ≡ d.ty
-  pub lengths : length c.rows ≡ length d.rows
 
 -- whether a boolean type of this nullability has each of the truths, and the null where there is none
 abbrev pub truths_fit : Nullability → List (Option Bool) → Bool
@@ -88,6 +84,17 @@ pub record AreNumbersOf (t : Ty) (ns : NumberList) : Type 0 where
   pub kind : t ≡ int_ty ns.ptype (nullability_of t)
   pub fit : numbers_fit ns.ptype (nullability_of t) ns.numbers ≡ true
 
+-- whether columns of a type are masked by truths that stand beside them: those of a type that isn't nullable, and neither boolean nor an integer type
+abbrev pub masks_apart : Ty → Bool
+masks_apart t = not (is_nullable (nullability_of t)) && (not (is_bool_ty t) && not (is_int_ty t))
+
+-- the type is that of the column, and null beside it; and there is a truth for each row
+pub record AreMaskedOf (t : Ty) (c : Column) (ts : List (Option Bool)) : Type 0 where
+  pub whole : t ≡ with_nullability c.ty Nullable
+  pub apart : masks_apart c.ty ≡ true
+  pub lengths : length ts ≡ length c.rows
+  pub fit : rows_fit c.ty c.rows ≡ true
+
 -- the parts are those of a column of the type
 abbrev pub ArePartsOf : Ty → Cells → Type 0
 ArePartsOf t (Constant x n) = fits (raw_view x) t ≡ true
@@ -95,10 +102,11 @@ ArePartsOf t (Rows xs) = AreValuesOf t xs.value.items
 ArePartsOf t (Truths ts) = AreTruthsOf t ts.value
 ArePartsOf t (Numbers ns) = AreNumbersOf t ns.value
 ArePartsOf t (Columns cs n) = AreFieldsOf t cs.value.items n
+ArePartsOf t (Masked c ns) = AreMaskedOf t c.value ns.value
 
--- whether a column of the type keeps a value for each row, and no columns of fields
+-- whether a column of the type keeps no columns of fields
 abbrev pub keeps_values : Ty → Bool
-keeps_values (struct_ty fs n) = is_nullable n
+keeps_values (struct_ty fs n) = false
 keeps_values _ = true
 
 -- the column with the rows where the values are true
@@ -116,6 +124,10 @@ HasFit c x = fits (raw_view x) c.ty ≡ true
 -- the value stands for what the column has at a row
 abbrev pub HasAt : ℕ → Column → ScalarValue → Type 0
 HasAt i c x = row_at c i ≡ seen c.ty x
+
+-- two columns have the same value at a row
+abbrev pub SameAt : ℕ → Column → Column → Type 0
+SameAt i c d = row_at c i ≡ row_at d i
 
 -- what a hash takes in of columns' values at a row, as the members of a struct
 abbrev pub fields_feed : List Column → ℕ → HashWrites

@@ -9,6 +9,7 @@ pub mod StructColumns
 pub mod Patterns
 pub mod LastPatterns
 pub mod Cells
+pub mod TypeSizes
 pub mod Sizes
 pub mod RowValues
 pub mod Connectives

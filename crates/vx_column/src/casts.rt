@@ -1,5 +1,7 @@
 // Casts of plain columns.
-ghost use Rattle.std.specs.Prelude.{◌≡◌, true, ◌&&◌, cond, None, Some, map, option_map, IfOk};
+ghost use Rattle.std.specs.Prelude.{◌≡◌, true, ◌&&◌, cond, None, Some, length, map, option_map, IfOk};
+ghost use Rattle.std.proofs.Math.ListN.{replicate};
+ghost use Rattle.vx_dtype.specs.Fits.{fits};
 ghost use Rattle.vx_dtype.specs.Values.{raw_int};
 ghost use Rattle.vx_dtype.specs.Types.{int_ty};
 ghost use Rattle.vx_dtype.specs.TypeRules.{alike, is_nullable, nullability_of};
@@ -7,7 +9,7 @@ ghost use Rattle.vx_dtype.specs.TypeViews.{type_view};
 ghost use Rattle.vx_dtype.specs.Casts.{takes_cast, cast3};
 ghost use Rattle.vx_dtype.specs.RawViews.{raw_view};
 ghost use Rattle.vx_column.specs.declared.errors.ColumnError.TheVariants.{BadCast};
-ghost use Rattle.vx_column.specs.Columns.{column};
+ghost use Rattle.vx_column.specs.Columns.{column, seen};
 ghost use Rattle.vx_column.specs.RawParts.{raw_cast};
 ghost use Rattle.vx_column.specs.Cells.{numbers_vals};
 ghost use Rattle.vx_column.specs.Totals.{stray_null};
@@ -75,6 +77,25 @@ fn cast_values(alloc: Global, c: &ColumnRef, target: &DType) -> Result<ColumnRef
     }
 }
 
+/// The value of all rows in the target type. BadCast exactly where there are rows, and the value has none.
+#[tactic(auto, using(crate::proofs::CastLemmas::cast_names))]
+fn cast_constant(
+    alloc: Global,
+    c: &ColumnRef,
+    value: &ScalarValue,
+    target: &DType,
+) -> Result<ColumnRef, ColumnError>
+    requires takes { takes_cast c.now.ty (type_view target.now) ≡ true }
+    requires fit { fits (raw_view value.now) c.now.ty ≡ true }
+    requires rows { c.now.rows ≡ replicate (length c.now.rows) (seen c.now.ty value.now) }
+    ensures { Answers result (unless_faulty BadCast (column (type_view target.now) (map (cast3 (type_view target.now)) c.now.rows))) }
+{
+    match cast_value(value, target)? {
+        Some(made) => Ok(ColumnRef::of_constant(target.clone()?, made, c.len())),
+        None => cast_values(alloc, c, target),
+    }
+}
+
 /// Whether one of the numbers is null where types of this nullability have no null.
 fn has_stray_null(alloc: Global, numbers: &Numbers, n: Nullability) -> Mem<bool>
     ensures { IfOk result (λ stray. stray ≡ stray_null n numbers.now.numbers) }
@@ -122,6 +143,9 @@ pub fn cast(alloc: Global, c: &ColumnRef, target: &DType) -> Result<ColumnRef, C
 {
     if widens(target, c.dtype()) {
         return Ok(c.made_nullable(alloc)?);
+    }
+    if let Some(value) = c.constant_value() {
+        return cast_constant(alloc, c, value, target);
     }
     match (c.cells(), target) {
         (Cells::Numbers(numbers), DType::Primitive(ptype, n)) => cast_numbers(

@@ -27,6 +27,11 @@ pub(crate) enum Cells {
         fields: Rc<Vec<ColumnRef>>,
         len: usize,
     },
+    /// The column of a type that isn't nullable, and neither boolean nor an integer type, and a truth for each row: it is null where the truth is true.
+    Masked {
+        column: Rc<ColumnRef>,
+        nulls: Rc<Truths>,
+    },
 }
 
 /// The values that are shared.
@@ -55,4 +60,11 @@ pub(crate) fn columns_in(fields: &Rc<Vec<ColumnRef>>) -> &[ColumnRef]
     ensures { result.now ≡ fields.now.value.items }
 {
     fields.as_slice()
+}
+
+/// The column that is shared.
+pub(crate) fn column_in(column: &Rc<ColumnRef>) -> &ColumnRef
+    ensures { result.now ≡ column.now.value }
+{
+    column
 }

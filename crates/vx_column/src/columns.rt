@@ -1,26 +1,27 @@
 // Columns: a type, and a value of the type at each row.
 ghost use Rattle.std.specs.Prelude.{◌≡◌, ◌<◌, true, false, not, length, map, IfOk};
 ghost use Rattle.std.proofs.Math.ListN.{replicate};
+ghost use Rattle.vx_dtype.specs.declared.Nullability.TheVariants.{Nullable};
 ghost use Rattle.vx_dtype.specs.Values.{bool_val, value_of};
 ghost use Rattle.vx_dtype.specs.Logic.{is_null3};
 ghost use Rattle.vx_dtype.specs.Fits.{fits};
 ghost use Rattle.vx_dtype.specs.RawViews.{raw_view};
 ghost use Rattle.vx_column.specs.Answers.{Answers, column_of_raws};
-ghost use Rattle.vx_dtype.specs.TypeRules.{no_name_twice, field_names, fields_of, is_bool_ty, is_int_ty};
+ghost use Rattle.vx_dtype.specs.TypeRules.{no_name_twice, field_names, fields_of, is_bool_ty, is_int_ty, with_nullability};
 ghost use Rattle.vx_dtype.specs.TypeViews.{type_view};
-ghost use Rattle.vx_column.specs.Columns.{Column, column, row_at, rows_fit, values_fit, seen, seen_rows};
-ghost use Rattle.vx_column.specs.Cells.{cell_rows, numbers_vals, structs_of, AreFieldsOf, AreNumbersOf, ArePartsOf, AreTruthsOf};
+ghost use Rattle.vx_column.specs.Columns.{Column, column, row_at, rows_fit, values_fit, seen, seen_rows, masked, zip_rows};
+ghost use Rattle.vx_column.specs.Cells.{cell_rows, numbers_vals, structs_of, AreFieldsOf, AreNumbersOf, ArePartsOf, AreTruthsOf, masks_apart};
 ghost use Rattle.vx_words.specs.Truths.{vals_of};
 
 use crate::cells::{Cells, numbers_in, truths_in, values_in};
 use crate::errors::ColumnError;
-use crate::logic::{is_null_value, truths_of_values};
+use crate::logic::{is_null_value, is_true, truths_of_values};
 use crate::numbers::numbers_of_values;
 use crate::reading::made_at;
 use std::alloc::{AllocError, Global};
 use std::marker::Model;
 use std::rc::Rc;
-use vx_dtype::{DType, Mem, Scalar, ScalarValue};
+use vx_dtype::{DType, Mem, Nullability, Scalar, ScalarValue};
 use vx_numbers::Numbers;
 use vx_words::Truths;
 
@@ -38,7 +39,8 @@ impl Model for ColumnRef {
     ghost use Rattle.std.proofs.Common.{arith};
     ghost use Rattle.vx_column.specs.Columns.{Column, column};
     ghost use Rattle.vx_column.specs.ValCodes.{coded_column};
-    ghost use Rattle.vx_dtype.specs.TypeRules.{no_name_twice, depth_of};
+    ghost use Rattle.vx_column.specs.TypeSizes.{size_of};
+    ghost use Rattle.vx_dtype.specs.TypeRules.{no_name_twice};
     ghost use Rattle.vx_dtype.specs.TypeViews.{type_view};
 
     ghost Value = { Column };
@@ -51,11 +53,11 @@ impl Model for ColumnRef {
 
     ghost invariant = { λ c. ArePartsOf (type_view c.dtype) c.cells × (no_name_twice (type_view c.dtype) ≡ true) };
 
-    ghost size = { λ c. depth_of c.ty };
+    ghost size = { λ c. size_of c.ty };
 
-    ghost use Rattle.vx_column.specs.Sizes.{deep_le-depth_of};
+    ghost use Rattle.vx_column.specs.Sizes.{deep_le-size_of};
 
-    ghost size_decreases = { λ c h. omega (arith, deep_le-depth_of (type_view c.dtype) c.cells h.0) };
+    ghost size_decreases = { λ c h. omega (arith, deep_le-size_of (type_view c.dtype) c.cells h.0) };
 }
 
 impl ColumnRef {
@@ -160,6 +162,21 @@ impl ColumnRef {
         })
     }
 
+    /// The column with the rows of another, null where a truth is true. It is for a column of a type that isn't nullable, and neither boolean nor an
+    /// integer type.
+    pub(crate) fn of_masked(alloc: Global, inner: ColumnRef, nulls: Rc<Truths>) -> Mem<ColumnRef>
+        requires apart { masks_apart inner.ty ≡ true }
+        requires lengths { length nulls.value ≡ length inner.rows }
+        ensures { IfOk result (λ c. c ≡ column (with_nullability inner.ty Nullable) (zip_rows masked inner.rows (vals_of nulls.value))) }
+    {
+        let dtype = inner.dtype().with_nullability(Nullability::Nullable)?;
+        let column = Rc::new(alloc, inner)?;
+        Ok(ColumnRef {
+            dtype,
+            cells: Cells::Masked { column, nulls },
+        })
+    }
+
     /// The column of these values, which it keeps. WrongValue exactly where one of them isn't of the type; else DuplicateField exactly
     /// where a name stands twice in a struct of the type, at any depth.
     pub fn of_values(
@@ -219,6 +236,7 @@ impl ColumnRef {
             Cells::Truths(truths) => truths_in(truths).truth_at(i).is_some(),
             Cells::Numbers(numbers) => numbers_in(numbers).number_at(i).is_some(),
             Cells::Columns { .. } => true,
+            Cells::Masked { nulls, .. } => !is_true(truths_in(nulls).truth_at(i)),
         }
     }
 
@@ -232,6 +250,7 @@ impl ColumnRef {
             Cells::Truths(truths) => truths_in(truths).len(),
             Cells::Numbers(numbers) => numbers_in(numbers).len(),
             Cells::Columns { len, .. } => *len,
+            Cells::Masked { nulls, .. } => truths_in(nulls).len(),
         }
     }
 }
@@ -265,6 +284,13 @@ impl Clone for ColumnRef {
                 cells: Cells::Columns {
                     fields: fields.clone()?,
                     len: *len,
+                },
+            }),
+            Cells::Masked { column, nulls } => Ok(ColumnRef {
+                dtype,
+                cells: Cells::Masked {
+                    column: column.clone()?,
+                    nulls: nulls.clone()?,
                 },
             }),
         }

@@ -3,28 +3,23 @@ ghost use Rattle.std.specs.Prelude.{◌≡◌, ◌<◌, true, length, Decides, f
 ghost use Rattle.std.specs.Cmp.{partial_equiv_from_equiv};
 ghost use Rattle.std.specs.List.{All, AllZip, flat_map};
 ghost use Rattle.std.proofs.Common.{ap};
-ghost use Rattle.std.proofs.Math.ListN.{replicate};
 ghost use Rattle.vx_dtype.specs.Fits.{fits};
-ghost use Rattle.vx_dtype.specs.Types.{int_ty};
-ghost use Rattle.vx_dtype.specs.TypeRules.{is_bool_ty, nullability_of};
-ghost use Rattle.vx_words.specs.Truths.{vals_of};
-ghost use Rattle.vx_words.specs.Words.{truth_val};
+ghost use Rattle.vx_dtype.specs.declared.Nullability.TheVariants.{Nullable};
+ghost use Rattle.vx_dtype.specs.TypeRules.{with_nullability};
 ghost use Rattle.vx_dtype.specs.RawViews.{raw_view};
-ghost use Rattle.vx_column.specs.Columns.{row_at, values_fit, seen, seen_rows};
+ghost use Rattle.vx_column.specs.Columns.{row_at, rows_fit};
 ghost use Rattle.vx_column.specs.StructColumns.{column_types};
 ghost use Rattle.vx_column.specs.ColumnEqual.{column_eq, column_feed, val_feed};
 ghost use Rattle.vx_column.specs.ColumnEqualLaws.{column_eq_equiv, column_decides};
-ghost use Rattle.vx_column.specs.Cells.{HasFit, HasAt, AreStructsOf, AreOfOneShape, fields_feed, numbers_vals};
+ghost use Rattle.vx_column.specs.Cells.{HasFit, HasAt, SameAt, AreStructsOf, fields_feed, masks_apart};
 
-use crate::cells::{Cells, columns_in, numbers_in, truths_in, values_in};
+use crate::cells::{Cells, column_in, columns_in, numbers_in, truths_in, values_in};
 use crate::columns::ColumnRef;
 use crate::fields::parts_of;
-use crate::logic::of_truth;
+use crate::logic::{is_null_value, is_true, null, of_truth};
 use crate::numbers::of_number;
 use std::hash::{Hash, Hasher};
 use vx_dtype::ScalarValue;
-use vx_numbers::Numbers;
-use vx_words::Truths;
 
 /// Whether a column has this value of its type at a row.
 #[cycle(has)]
@@ -51,6 +46,12 @@ fn has_at(column: &ColumnRef, i: usize, value: &ScalarValue) -> bool
             Some(parts) => have_at(columns_in(fields), i, parts),
             None => false,
         },
+        Cells::Masked { column, nulls } => {
+            if is_true(truths_in(nulls).truth_at(i)) {
+                return is_null_value(value);
+            }
+            !is_null_value(value) && has_at(column_in(column), i, value)
+        }
     }
 }
 
@@ -69,77 +70,99 @@ fn have_at(columns: &[ColumnRef], i: usize, values: &[ScalarValue]) -> bool
     true
 }
 
-/// Whether a column has this value of its type at each row.
-fn has_everywhere(column: &ColumnRef, value: &ScalarValue) -> bool
-    requires { fits (raw_view value.now) column.now.ty ≡ true }
-    ensures { Decides result (column.now.rows ≡ replicate (length column.now.rows) (seen column.now.ty value.now)) }
+/// Whether two columns of one type have the same value at a row.
+#[cycle(same)]
+fn same_at(left: &ColumnRef, right: &ColumnRef, i: usize) -> bool
+    requires types { left.now.ty ≡ right.now.ty }
+    requires left { i < length left.now.rows }
+    requires right { i < length right.now.rows }
+    ensures { Decides result (SameAt i left.now right.now) }
 {
-    for i in 0..column.len() {
-        if !has_at(column, i, value) {
+    match left.cells() {
+        Cells::Constant { value, .. } => has_at(right, i, value),
+        Cells::Rows(rows) => {
+            let values = values_in(rows);
+            has_at(right, i, &values[i])
+        }
+        Cells::Truths(truths) => {
+            let own = of_truth(truths_in(truths).truth_at(i));
+            has_at(right, i, &own)
+        }
+        Cells::Numbers(numbers) => {
+            let own = of_number(numbers_in(numbers).number_at(i));
+            has_at(right, i, &own)
+        }
+        Cells::Columns { fields, .. } => has_struct(right, left, columns_in(fields), i),
+        Cells::Masked { column, nulls } => {
+            if is_true(truths_in(nulls).truth_at(i)) {
+                return !right.is_valid(i);
+            }
+            has_inner(right, column_in(column), i)
+        }
+    }
+}
+
+/// Whether a column has the value of another at a row, where the other is kept as the columns of its fields.
+#[cycle(same)]
+fn has_struct(column: &ColumnRef, structs: &ColumnRef, fields: &[ColumnRef], i: usize) -> bool
+    requires types { structs.now.ty ≡ column.now.ty }
+    requires column { i < length column.now.rows }
+    requires structs { i < length structs.now.rows }
+    requires kept { AreStructsOf structs.now fields.now }
+    ensures { Decides result (SameAt i structs.now column.now) }
+{
+    match column.cells() {
+        Cells::Constant { value, .. } => has_at(structs, i, value),
+        Cells::Rows(rows) => {
+            let values = values_in(rows);
+            has_at(structs, i, &values[i])
+        }
+        Cells::Columns { fields: others, .. } => same_fields(fields, columns_in(others), i),
+        _ => unreachable!(),
+    }
+}
+
+/// Whether columns of the same types have the same values at a row, one by one.
+#[cycle(same)]
+fn same_fields(left: &[ColumnRef], right: &[ColumnRef], i: usize) -> bool
+    requires types { column_types left.now ≡ column_types right.now }
+    requires left { All (λ c. i < length c.rows) left.now }
+    requires right { All (λ c. i < length c.rows) right.now }
+    ensures { Decides result (AllZip (SameAt i) left.now right.now) }
+{
+    for k in 0..left.len() {
+        if !same_at(&left[k], &right[k], i) {
             return false;
         }
     }
     true
 }
 
-/// Whether a column has these values of its type, row by row.
-fn has_rows(column: &ColumnRef, values: &[ScalarValue]) -> bool
-    requires lengths { length values.now ≡ length column.now.rows }
-    requires fit { values_fit column.now.ty values.now ≡ true }
-    ensures { Decides result (column.now.rows ≡ seen_rows column.now.ty values.now) }
+/// Whether a column of a nullable type has at a row the value that another has of the type that isn't nullable.
+#[cycle(same)]
+fn has_inner(column: &ColumnRef, inner: &ColumnRef, i: usize) -> bool
+    requires types { column.now.ty ≡ with_nullability inner.now.ty Nullable }
+    requires apart { masks_apart inner.now.ty ≡ true }
+    requires fit { rows_fit inner.now.ty inner.now.rows ≡ true }
+    requires column { i < length column.now.rows }
+    requires inner { i < length inner.now.rows }
+    ensures { Decides result (SameAt i inner.now column.now) }
 {
-    for i in 0..values.len() {
-        if !has_at(column, i, &values[i]) {
-            return false;
+    match column.cells() {
+        Cells::Constant { value, .. } => !is_null_value(value) && has_at(inner, i, value),
+        Cells::Rows(rows) => {
+            let values = values_in(rows);
+            !is_null_value(&values[i]) && has_at(inner, i, &values[i])
         }
+        Cells::Masked {
+            column: other,
+            nulls,
+        } => { !is_true(truths_in(nulls).truth_at(i)) && same_at(inner, column_in(other), i) }
+        _ => unreachable!(),
     }
-    true
-}
-
-/// Whether two truths are one.
-fn same_truth(l: Option<bool>, r: Option<bool>) -> bool
-    ensures { Decides result (truth_val l ≡ truth_val r) }
-{
-    l == r
-}
-
-/// Whether a column of truths has these, row by row.
-fn has_truths(column: &ColumnRef, truths: &Truths) -> bool
-    requires kind { is_bool_ty column.now.ty ≡ true }
-    requires lengths { length truths.now ≡ length column.now.rows }
-    ensures { Decides result (vals_of truths.now ≡ column.now.rows) }
-{
-    for i in 0..truths.len() {
-        if !same_truth(column.truth_at(i), truths.truth_at(i)) {
-            return false;
-        }
-    }
-    true
-}
-
-/// Whether two numbers are one, or both are null.
-fn same_number(l: Option<i128>, r: Option<i128>) -> bool
-    ensures { Decides result (l ≡ r) }
-{
-    l == r
-}
-
-/// Whether a column of an integer type has these numbers, row by row.
-fn has_numbers(column: &ColumnRef, numbers: &Numbers) -> bool
-    requires kind { column.now.ty ≡ int_ty numbers.now.ptype (nullability_of column.now.ty) }
-    requires lengths { length numbers.now.numbers ≡ length column.now.rows }
-    ensures { Decides result (numbers_vals numbers.now ≡ column.now.rows) }
-{
-    for i in 0..numbers.len() {
-        if !same_number(column.number_at(i), numbers.number_at(i)) {
-            return false;
-        }
-    }
-    true
 }
 
 /// Whether two columns of one type have the same rows.
-#[cycle(same)]
 fn same(left: &ColumnRef, right: &ColumnRef) -> bool
     requires { left.now.ty ≡ right.now.ty }
     ensures { Decides result (left.now.rows ≡ right.now.rows) }
@@ -147,38 +170,8 @@ fn same(left: &ColumnRef, right: &ColumnRef) -> bool
     if left.len() != right.len() {
         return false;
     }
-    match left.cells() {
-        Cells::Constant { value, .. } => has_everywhere(right, value),
-        Cells::Rows(rows) => has_rows(right, values_in(rows)),
-        Cells::Truths(truths) => has_truths(right, truths_in(truths)),
-        Cells::Numbers(numbers) => has_numbers(right, numbers_in(numbers)),
-        Cells::Columns { fields, .. } => has_structs(right, left, columns_in(fields)),
-    }
-}
-
-/// Whether a column has the rows of another, which are the structs of these columns' values.
-#[cycle(same)]
-fn has_structs(column: &ColumnRef, structs: &ColumnRef, fields: &[ColumnRef]) -> bool
-    requires shape { AreOfOneShape column.now structs.now }
-    requires kept { AreStructsOf structs.now fields.now }
-    ensures { Decides result (structs.now.rows ≡ column.now.rows) }
-{
-    match column.cells() {
-        Cells::Constant { value, .. } => has_everywhere(structs, value),
-        Cells::Rows(rows) => has_rows(structs, values_in(rows)),
-        Cells::Columns { fields: others, .. } => same_fields(fields, columns_in(others)),
-        _ => unreachable!(),
-    }
-}
-
-/// Whether columns of the same types are the same, one by one.
-#[cycle(same)]
-fn same_fields(left: &[ColumnRef], right: &[ColumnRef]) -> bool
-    requires { column_types left.now ≡ column_types right.now }
-    ensures { Decides result (left.now ≡ right.now) }
-{
-    for k in 0..left.len() {
-        if !same(&left[k], &right[k]) {
+    for i in 0..left.len() {
+        if !same_at(left, right, i) {
             return false;
         }
     }
@@ -220,6 +213,13 @@ fn feed_at<H: Hasher>(column: &ColumnRef, i: usize, state: &mut H)
         Cells::Columns { fields, .. } => {
             state.write_u8(5);
             feed_fields(columns_in(fields), i, state);
+        }
+        Cells::Masked { column, nulls } => {
+            if is_true(truths_in(nulls).truth_at(i)) {
+                null().hash(state);
+            } else {
+                feed_at(column_in(column), i, state);
+            }
         }
     }
 }

@@ -13,7 +13,7 @@ ghost use Rattle.vx_dtype.specs.Structs.{field_of};
 ghost use Rattle.vx_dtype.specs.TypeViews.{type_view};
 ghost use Rattle.vx_column.specs.Answers.{Answers, field_column, type_at_place, PartsOf};
 
-use crate::cells::{Cells, columns_in};
+use crate::cells::{Cells, column_in, columns_in};
 use crate::columns::ColumnRef;
 use crate::errors::ColumnError;
 use crate::logic::null;
@@ -50,6 +50,20 @@ impl ColumnRef {
     /// The column of the field with this name: null where the struct is null, and of a type that is nullable also where the struct's is.
     /// UnknownField exactly where there is no field of this name.
     pub fn field(&self, alloc: Global, name: &FieldName) -> Result<ColumnRef, ColumnError>
+        requires { is_struct_ty self.now.ty ≡ true }
+        ensures { Answers result (field_column name.now self.now) }
+    {
+        match self.cells() {
+            Cells::Masked { column, nulls } => {
+                let inner = column_in(column).field_of(alloc, name)?;
+                Ok(inner.masked_by(alloc, nulls.clone()?)?)
+            }
+            _ => self.field_of(alloc, name),
+        }
+    }
+
+    /// The column of the field with this name, as `field` answers, whatever parts the column is kept in.
+    fn field_of(&self, alloc: Global, name: &FieldName) -> Result<ColumnRef, ColumnError>
         requires { is_struct_ty self.now.ty ≡ true }
         ensures { Answers result (field_column name.now self.now) }
     {

@@ -9,7 +9,7 @@ ghost use Rattle.vx_dtype.specs.Logic.{and3, or3, not3, is_null3};
 ghost use Rattle.vx_dtype.specs.Fits.{fits};
 ghost use Rattle.vx_dtype.specs.RawViews.{raw_view};
 ghost use Rattle.vx_words.specs.Words.{truth_val};
-ghost use Rattle.vx_words.specs.Truths.{vals_of};
+ghost use Rattle.vx_words.specs.Truths.{is_true, vals_of};
 ghost use Rattle.vx_column.specs.Columns.{seen, zip_rows};
 ghost use Rattle.vx_column.specs.Connectives.{connected3};
 ghost use Rattle.vx_column.specs.RawParts.{is_raw_null, raw_truth, truth_fits};
@@ -202,6 +202,13 @@ pub fn invert(alloc: Global, c: &ColumnRef) -> Mem<ColumnRef>
     ColumnRef::of_truths(alloc, dtype, made)
 }
 
+/// Whether a truth is true.
+pub(crate) fn is_true(truth: Option<bool>) -> bool
+    ensures { result ≡ is_true truth }
+{
+    matches!(truth, Some(true))
+}
+
 /// Whether a value is null.
 pub(crate) fn is_null_value(value: &ScalarValue) -> bool
     ensures { result ≡ is_raw_null (raw_view value.now) }
@@ -252,5 +259,11 @@ pub fn is_null(alloc: Global, c: &ColumnRef) -> Mem<ColumnRef>
             ColumnRef::of_truths(alloc, made, nulls)
         }
         Cells::Columns { .. } => unreachable!(),
+        Cells::Masked { nulls, .. } => {
+            let truths = truths_in(nulls);
+            let known = truths.is_null(alloc)?.not(alloc)?;
+            let hidden = truths.and(alloc, &known)?;
+            ColumnRef::of_truths(alloc, made, hidden)
+        }
     }
 }

@@ -7,24 +7,18 @@ ghost use Rattle.vx_dtype.specs.TypeViews.{type_view};
 ghost use Rattle.vx_dtype.specs.Fits.{fits};
 ghost use Rattle.vx_dtype.specs.RawViews.{raw_view};
 ghost use Rattle.vx_words.specs.Words.{truth_val};
-ghost use Rattle.vx_words.specs.Truths.{is_true, vals_of};
+ghost use Rattle.vx_words.specs.Truths.{vals_of};
 ghost use Rattle.vx_column.specs.Columns.{row_at, values_fit, seen, seen_rows, kept_rows, true_count, masked, zip_rows};
-ghost use Rattle.vx_column.specs.Cells.{keeps_values, kept_column};
+ghost use Rattle.vx_column.specs.Cells.{kept_column, masks_apart};
 
-use crate::cells::{Cells, columns_in, numbers_in, truths_in, values_in};
+use crate::cells::{Cells, column_in, columns_in, numbers_in, truths_in, values_in};
 use crate::columns::ColumnRef;
-use crate::logic::{null, truth_of};
-use crate::reading::truths_of;
+use crate::logic::{is_true, null, truth_of};
+use crate::reading::{made_at, truths_of};
 use std::alloc::Global;
-use vx_dtype::{DType, Mem, Nullability, ScalarValue};
+use std::rc::Rc;
+use vx_dtype::{DType, Mem, ScalarValue};
 use vx_words::Truths;
-
-/// Whether a truth is true.
-fn is_true(truth: Option<bool>) -> bool
-    ensures { result ≡ is_true truth }
-{
-    matches!(truth, Some(true))
-}
 
 impl ColumnRef {
     /// The column with the rows made null where the other column is true, and with its type made nullable.
@@ -35,19 +29,35 @@ impl ColumnRef {
         ensures rows { IfOk result (λ c. c.rows ≡ zip_rows masked self.now.rows nulls.now.rows) }
     {
         let truths = truths_of(alloc, nulls)?;
+        self.masked_by(alloc, truths)
+    }
+
+    /// The column with the rows made null where a truth is true, and with its type made nullable.
+    pub(crate) fn masked_by(&self, alloc: Global, nulls: Rc<Truths>) -> Mem<ColumnRef>
+        requires { length self.now.rows ≡ length nulls.value }
+        ensures dtype { IfOk result (λ c. c.ty ≡ with_nullability self.now.ty Nullable) }
+        ensures rows { IfOk result (λ c. c.rows ≡ zip_rows masked self.now.rows (vals_of nulls.value)) }
+    {
+        if masks_apart(self.dtype()) {
+            return ColumnRef::of_masked(alloc, self.clone()?, nulls);
+        }
         let nullable = self.made_nullable(alloc)?;
         let dtype = nullable.dtype().clone()?;
         match nullable.cells() {
             Cells::Truths(own) => {
-                let masked = truths_in(own).mask(alloc, truths_in(&truths))?;
+                let masked = truths_in(own).mask(alloc, truths_in(&nulls))?;
                 ColumnRef::of_truths(alloc, dtype, masked)
             }
             Cells::Numbers(numbers) => {
-                let masked = numbers_in(numbers).mask(alloc, truths_in(&truths))?;
+                let masked = numbers_in(numbers).mask(alloc, truths_in(&nulls))?;
                 ColumnRef::of_numbers(alloc, dtype, masked)
             }
+            Cells::Masked { column, nulls: own } => {
+                let either = truths_in(own).or(alloc, truths_in(&nulls))?;
+                ColumnRef::of_masked(alloc, column_in(column).clone()?, Rc::new(alloc, either)?)
+            }
             _ => {
-                let rows = masked_values(alloc, &nullable, truths_in(&truths))?;
+                let rows = masked_values(alloc, &nullable, truths_in(&nulls))?;
                 ColumnRef::of_rows(alloc, dtype, rows)
             }
         }
@@ -77,9 +87,18 @@ impl ColumnRef {
     }
 }
 
+/// Whether columns of a type are masked by truths that stand beside them.
+fn masks_apart(dtype: &DType) -> bool
+    ensures { result ≡ masks_apart (type_view dtype.now) }
+{
+    match dtype {
+        DType::Bool(_) | DType::Primitive(_, _) => false,
+        _ => !dtype.is_nullable(),
+    }
+}
+
 /// The values of a nullable column, null where a truth is true.
 fn masked_values(alloc: Global, column: &ColumnRef, nulls: &Truths) -> Mem<Vec<ScalarValue>>
-    requires kept { keeps_values column.now.ty ≡ true }
     requires nullable { is_nullable (nullability_of column.now.ty) ≡ true }
     requires lengths { length column.now.rows ≡ length nulls.now }
     ensures fit { IfOk result (λ xs. values_fit column.now.ty xs.items ≡ true) }
@@ -87,14 +106,13 @@ fn masked_values(alloc: Global, column: &ColumnRef, nulls: &Truths) -> Mem<Vec<S
 {
     let mut masked = Vec::with_capacity(alloc, column.len())?;
     for i in 0..column.len() {
-        masked.push(masked_value(column, nulls, i)?)?;
+        masked.push(masked_value(alloc, column, nulls, i)?)?;
     }
     Ok(masked)
 }
 
 /// The value of a nullable column at a row, null where the truth is true.
-fn masked_value(column: &ColumnRef, nulls: &Truths, i: usize) -> Mem<ScalarValue>
-    requires kept { keeps_values column.now.ty ≡ true }
+fn masked_value(alloc: Global, column: &ColumnRef, nulls: &Truths, i: usize) -> Mem<ScalarValue>
     requires nullable { is_nullable (nullability_of column.now.ty) ≡ true }
     requires row { i < length column.now.rows }
     requires truth { i < length nulls.now }
@@ -104,8 +122,7 @@ fn masked_value(column: &ColumnRef, nulls: &Truths, i: usize) -> Mem<ScalarValue
     if is_true(nulls.truth_at(i)) {
         return Ok(null());
     }
-    let value = column.value_at(i);
-    Ok(value.get().clone()?)
+    made_at(alloc, column, i)
 }
 
 /// The column's rows where a truth is true.
@@ -134,6 +151,11 @@ fn kept_of(alloc: Global, column: &ColumnRef, keep: &Truths) -> Mem<ColumnRef>
         Cells::Columns { fields, .. } => {
             let kept = kept_fields(alloc, columns_in(fields), keep)?;
             ColumnRef::of_fields(alloc, dtype, kept, keep.true_count())
+        }
+        Cells::Masked { column, nulls } => {
+            let kept = kept_of(alloc, column_in(column), keep)?;
+            let nulls = truths_in(nulls).filter(alloc, keep)?;
+            ColumnRef::of_masked(alloc, kept, Rc::new(alloc, nulls)?)
         }
     }
 }

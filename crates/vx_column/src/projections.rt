@@ -8,7 +8,7 @@ ghost use Rattle.vx_column.specs.Answers.{Answers};
 ghost use Rattle.vx_column.specs.StructColumns.{projected_column, place_of, IsAtPlace};
 ghost use Rattle.vx_column.specs.Cells.{HasAtPlace};
 
-use crate::cells::{Cells, columns_in};
+use crate::cells::{Cells, column_in, columns_in};
 use crate::columns::ColumnRef;
 use crate::errors::ColumnError;
 use crate::fields::parts_of;
@@ -49,6 +49,20 @@ impl ColumnRef {
     /// The column of structs of the fields with these names, in their order, null where the struct is, and nullable where its type is.
     /// UnknownField exactly where there is no field of one of the names; else DuplicateField exactly where a name is asked twice.
     pub fn project(&self, alloc: Global, names: &[FieldName]) -> Result<ColumnRef, ColumnError>
+        requires { is_struct_ty self.now.ty ≡ true }
+        ensures { Answers result (projected_column names.now self.now) }
+    {
+        match self.cells() {
+            Cells::Masked { column, nulls } => {
+                let inner = column_in(column).projection_of(alloc, names)?;
+                Ok(ColumnRef::of_masked(alloc, inner, nulls.clone()?)?)
+            }
+            _ => self.projection_of(alloc, names),
+        }
+    }
+
+    /// The column of structs of these fields, as `project` answers, whatever parts the column is kept in.
+    fn projection_of(&self, alloc: Global, names: &[FieldName]) -> Result<ColumnRef, ColumnError>
         requires { is_struct_ty self.now.ty ≡ true }
         ensures { Answers result (projected_column names.now self.now) }
     {

@@ -11,17 +11,17 @@ ghost use Rattle.vx_dtype.specs.RawViews.{raw_view};
 ghost use Rattle.vx_dtype.specs.TypeRules.{is_bool_ty, is_int_ty, is_text_ty, nullability_of, with_nullability};
 ghost use Rattle.vx_column.specs.Columns.{AppendsRows, column, row_at, values_fit, seen, seen_rows};
 ghost use Rattle.vx_column.specs.StructColumns.{StandsAt};
-ghost use Rattle.vx_column.specs.Cells.{keeps_values, truths_fit};
+ghost use Rattle.vx_column.specs.Cells.{keeps_values, masks_apart, truths_fit};
 ghost use Rattle.vx_column.specs.Patterns.{text_or_null, text_or_null_fits};
 ghost use Rattle.vx_column.specs.RowValues.{shown};
 ghost use Rattle.vx_column.specs.Totals.{number_val};
 ghost use Rattle.vx_words.specs.Truths.{vals_of};
 ghost use Rattle.vx_words.specs.Words.{truth_val};
 
-use crate::cells::{Cells, columns_in, numbers_in, truths_in, values_in};
+use crate::cells::{Cells, column_in, columns_in, numbers_in, truths_in, values_in};
 use crate::columns::ColumnRef;
 use crate::likes::text_of;
-use crate::logic::{of_truth, truth_of};
+use crate::logic::{is_true, null, of_truth, truth_of};
 use crate::numbers::{number_of, of_number};
 use crate::structs::struct_of;
 use std::alloc::Global;
@@ -65,6 +65,30 @@ impl ColumnRef {
             Cells::Truths(truths) => RowValue::Made(of_truth(truths_in(truths).truth_at(i))),
             Cells::Numbers(numbers) => RowValue::Made(of_number(numbers_in(numbers).number_at(i))),
             Cells::Columns { .. } => unreachable!(),
+            Cells::Masked { column, nulls } => {
+                if is_true(truths_in(nulls).truth_at(i)) {
+                    return RowValue::Made(null());
+                }
+                RowValue::Kept(column_in(column).kept_at(i))
+            }
+        }
+    }
+
+    /// The value at a row of a column that keeps it, as those do that are masked by truths beside them.
+    fn kept_at(&self, i: usize) -> &ScalarValue
+        requires kept { keeps_values self.now.ty ≡ true }
+        requires apart { masks_apart self.now.ty ≡ true }
+        requires row { i < length self.now.rows }
+        ensures value { seen self.now.ty result.now ≡ row_at self.now i }
+        ensures fit { fits (raw_view result.now) self.now.ty ≡ true }
+    {
+        match self.cells() {
+            Cells::Constant { value, .. } => value,
+            Cells::Rows(rows) => {
+                let values = values_in(rows);
+                &values[i]
+            }
+            _ => unreachable!(),
         }
     }
 
@@ -80,6 +104,12 @@ impl ColumnRef {
             Cells::Rows(rows) => {
                 let values = values_in(rows);
                 text_of(&values[i])
+            }
+            Cells::Masked { column, nulls } => {
+                if is_true(truths_in(nulls).truth_at(i)) {
+                    return None;
+                }
+                text_of(column_in(column).kept_at(i))
             }
             _ => unreachable!(),
         }
@@ -157,7 +187,11 @@ impl ColumnRef {
             Cells::Rows(rows) => Ok(ColumnRef::of_shared(dtype, rows.clone()?)),
             Cells::Truths(truths) => Ok(ColumnRef::of_shared_truths(dtype, truths.clone()?)),
             Cells::Numbers(numbers) => Ok(ColumnRef::of_shared_numbers(dtype, numbers.clone()?)),
-            Cells::Columns { .. } => ColumnRef::of_rows(alloc, dtype, self.made_rows(alloc)?),
+            Cells::Columns { len, .. } => {
+                let nulls = Truths::repeated(alloc, Some(false), *len)?;
+                ColumnRef::of_masked(alloc, self.clone()?, Rc::new(alloc, nulls)?)
+            }
+            Cells::Masked { .. } => Ok(self.clone()?),
         }
     }
 }
@@ -211,6 +245,12 @@ pub(crate) fn made_at(alloc: Global, column: &ColumnRef, i: usize) -> Mem<Scalar
         Cells::Truths(truths) => Ok(of_truth(truths_in(truths).truth_at(i))),
         Cells::Numbers(numbers) => Ok(of_number(numbers_in(numbers).number_at(i))),
         Cells::Columns { fields, .. } => struct_of(alloc, row_of(alloc, columns_in(fields), i)?),
+        Cells::Masked { column, nulls } => {
+            if is_true(truths_in(nulls).truth_at(i)) {
+                return Ok(null());
+            }
+            made_at(alloc, column_in(column), i)
+        }
     }
 }
 

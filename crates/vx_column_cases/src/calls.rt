@@ -6,8 +6,8 @@ use crate::kinds::{
 };
 use std::alloc::Global;
 use vx_column::{
-    ColumnRef, and_kleene, between, cast, checked_add, checked_sub, compare, invert, is_null, like,
-    list_contains, or_kleene,
+    ColumnError, ColumnRef, and_kleene, between, cast, checked_add, checked_sub, compare, invert,
+    is_null, like, list_contains, or_kleene,
 };
 use vx_dtype::{BetweenOptions, CompareOperator, DType, FieldName};
 
@@ -322,6 +322,16 @@ fn field_makes(alloc: Global, c: &ColumnRef, name: &FieldName, want: &Made) -> b
         return false;
     }
     answers(c.field(alloc, name), want)
+}
+
+/// A field of a column, or why there is none.
+pub(crate) fn field_made(alloc: Global, c: Made, name: &str) -> Made {
+    let c = c?;
+    let name = FieldName::new(alloc, name)?;
+    if !is_struct(&c) {
+        return Err(ColumnError::UnknownField);
+    }
+    c.field(alloc, &name)
 }
 
 /// Whether a field has these rows, or is refused so.

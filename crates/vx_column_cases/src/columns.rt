@@ -92,6 +92,14 @@ pub(crate) fn constant_text(alloc: Global, text: &str, len: usize) -> Made {
     )
 }
 
+/// A column of one number of an integer type.
+pub(crate) fn constant_number(alloc: Global, p: PType, i: i128, len: usize) -> Made {
+    match Scalar::primitive(p, i, Nullability::Nullable) {
+        Ok(number) => constant(alloc, number, len),
+        Err(_) => Err(ColumnError::WrongValue),
+    }
+}
+
 /// A list of one value.
 pub(crate) fn only(alloc: Global, value: ScalarValue) -> Mem<Vec<ScalarValue>> {
     let mut values = Vec::new(alloc);

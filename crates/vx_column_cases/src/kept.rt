@@ -1,12 +1,12 @@
 //! Columns of one value and structs of columns: they are the same as their rows written out, and hash equally.
 
-use crate::calls::{field_gives, filter_gives, project_gives};
-use crate::columns::{Made, constant_text, numbers, texts, truths};
+use crate::calls::{cast_gives, field_gives, filter_gives, project_gives};
+use crate::columns::{Made, constant_number, constant_text, numbers, numbers_of, texts, truths};
 use crate::structs::{both, made_of, pairs, parts};
 use std::alloc::Global;
 use std::hash::{DefaultHasher, Hash, Hasher};
 use vx_column::{ColumnError, ColumnRef};
-use vx_dtype::{Mem, Nullability, PType, Scalar};
+use vx_dtype::{DType, Mem, Nullability, PType, Scalar};
 
 /// The hash of a column.
 fn hash_of(c: &ColumnRef) -> u64 {
@@ -57,6 +57,31 @@ fn kept_columns_of_one_value(rt: HostRuntime) {
     let keep = truths(alloc, [Some(true), None, Some(true)].as_slice());
     let want = texts(alloc, [Some("x"), Some("x")].as_slice());
     assert!(rt; filter_gives(alloc, thrice(alloc), keep, want));
+}
+
+#[test]
+fn casts_of_one_value(rt: HostRuntime) {
+    let alloc = rt.alloc();
+    let small = DType::Primitive(PType::I8, Nullability::NonNullable);
+    let want = numbers_of(
+        alloc,
+        PType::I8,
+        [Some(127), Some(127)].as_slice(),
+        Nullability::NonNullable,
+    );
+    assert!(rt;
+        cast_gives(
+            alloc,
+            constant_number(alloc, PType::I64, 127, 2),
+            &small,
+            want
+        )
+    );
+    let too_great = constant_number(alloc, PType::I64, 128, 2);
+    assert!(rt; cast_gives(alloc, too_great, &small, Err(ColumnError::BadCast)));
+    let no_rows = constant_number(alloc, PType::I64, 128, 0);
+    let want = numbers_of(alloc, PType::I8, [].as_slice(), Nullability::NonNullable);
+    assert!(rt; cast_gives(alloc, no_rows, &small, want));
 }
 
 /// The structs of the numbers 1, null and 3, and the texts `x`, `y` and null, kept as two columns.

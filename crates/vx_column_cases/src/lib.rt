@@ -16,6 +16,8 @@ mod kept;
 #[cfg(test)]
 mod kinds;
 #[cfg(test)]
+mod masked;
+#[cfg(test)]
 mod numbers;
 #[cfg(test)]
 mod structs;

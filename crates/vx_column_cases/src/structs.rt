@@ -146,7 +146,7 @@ fn structs_that_are_valid_by_truths(rt: HostRuntime) {
 }
 
 /// The columns `a` and `b` with other values in the middle.
-fn other_parts(alloc: Global) -> Columns {
+pub(crate) fn other_parts(alloc: Global) -> Columns {
     let a = numbers(alloc, PType::I8, [Some(1), Some(9), Some(3)].as_slice());
     let b = texts(alloc, [Some("x"), Some("hidden"), None].as_slice());
     both(alloc, a, b)

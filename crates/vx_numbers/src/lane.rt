@@ -6,6 +6,7 @@ ghost use Rattle.vx_words.specs.Truths.{hidden_if};
 ghost use Rattle.vx_numbers.specs.Numbers.{all_in_range, fits_ptype, compared, null_test, kept_numbers, on_both, total_in, if_in_range};
 ghost use Rattle.vx_numbers.specs.NumbersEqual.{number_eq};
 ghost use Rattle.vx_numbers.specs.Lanes.{numbers_of, number_in, number_of, AreTidyNumbers};
+
 use crate::kernels::{words, words_with};
 use crate::operators::Operator;
 use crate::totals::{Total, total_of};

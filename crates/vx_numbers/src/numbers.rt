@@ -8,6 +8,7 @@ ghost use Rattle.vx_numbers.specs.Numbers.{number_list, all_in_range, fits_ptype
 ghost use Rattle.vx_numbers.specs.NumbersEqual.{numbers_eq, numbers_eq_equiv};
 ghost use Rattle.vx_dtype.specs.TypeRules.{same_ptype};
 ghost use Rattle.vx_numbers.specs.LaneViews.{list_of};
+
 use crate::lane::Lane;
 use crate::operators::{Above, AtLeast, AtMost, Below, Equal, Unequal};
 use crate::totals::{Difference, Sum, Total};

@@ -1,11 +1,11 @@
 -- Truths of which some are hidden.
-use Rattle.std.proofs.Common.{◌≡◌, refl, ap, ◌∙◌, sym, ℕ, ◌<◌, Bool, true, false, not, ◌&&◌, Option, None, List, map, length, arith}
+use Rattle.std.proofs.Common.{◌≡◌, refl, ap, ◌∙◌, sym, ℕ, Bool, true, false, not, ◌&&◌, Option, None, List, map, length}
 use Rattle.std.proofs.lemmas.Simd.{zip2_of_maps}
 use Rattle.std.specs.List.{range_with_len}
 use Rattle.std.specs.Simd.Lanes.{zip2}
 use Rattle.vx_words.specs.Words.{bit_of, truth_of_bits, truth_of_words}
 use Rattle.vx_words.specs.Truths.{AreTidy, truths_of_words, hidden_if}
-use Rattle.vx_words.proofs.TruthLemmas.{same_maps, bare_of_tidy, length_seen}
+use Rattle.vx_words.proofs.TruthLemmas.{same_maps, bare_of_tidy}
 
 -- at a place: x says whether there is a truth and v which, y and w the same of the truth that hides
 hidden_table : (x v y w : Bool) → (y ≡ false → w ≡ false) → truth_of_bits (x && not w) (v && not w) ≡ hidden_if (truth_of_bits x v) (truth_of_bits y w)

@@ -2,21 +2,25 @@ use Rattle.std.proofs.Common.{◌≡◌, ◌<◌, ◌≤◌, true, ap, sym, ◌�
 use Rattle.std.specs.Prelude.{Decides}
 use Rattle.std.specs.List.{All, AllZip}
 use Rattle.std.proofs.Math.ListN.{replicate}
-use Rattle.vx_dtype.specs.TypeRules.{field_names, fields_of, depth_of}
+use Rattle.vx_dtype.specs.TypeRules.{field_names, fields_of}
+use Rattle.vx_column.specs.TypeSizes.{size_of}
+use Rattle.vx_column.specs.Sizes.{size_masked}
 use Rattle.vx_dtype.specs.EqualLaws.{raw_decides}
 use Rattle.vx_dtype.specs.Fits.{fits}
 use Rattle.vx_dtype.specs.RawViews.{raw_view}
 use Rattle.vx_dtype.specs.declared.values.ScalarValue.{ScalarValue}
-use Rattle.vx_column.specs.Columns.{Column, seen, seen_rows, values_fit}
-use Rattle.vx_column.specs.Cells.{cell_rows, structs_of, AreFieldsOf, ArePartsOf, AreTruthsOf, HasFit, HasAt}
+use Rattle.vx_column.specs.Columns.{Column, masked, seen, seen_rows, values_fit, zip_rows}
+use Rattle.vx_column.specs.Cells.{cell_rows, structs_of, AreFieldsOf, AreMaskedOf, ArePartsOf, AreTruthsOf, HasFit, HasAt}
 use Rattle.vx_column.proofs.StructLemmas.{all_rows_at}
-use Rattle.vx_column.proofs.CellLemmas.{deepest, deepest_lt, depth_le-deepest, structs_length, constant_row, values_row, values_fit_at}
+use Rattle.vx_column.proofs.CellLemmas.{deepest, deepest_lt, size_le-deepest, structs_length, constant_row, values_row, values_fit_at}
 use Rattle.vx_column.proofs.SameLemmas.{has_kept, has_struct, no_null, struct_parts, parts_of_row, zip_length, zip_at, zip_more, zip_all}
-use Rattle.vx_words.specs.Truths.{vals_of}
+use Rattle.vx_words.specs.Truths.{is_true, vals_of}
 use Rattle.vx_column.proofs.TruthLemmas.{truth_stands}
 use Rattle.vx_numbers.specs.Numbers.{NumberList}
 use Rattle.vx_column.specs.Cells.{AreNumbersOf, numbers_vals}
 use Rattle.vx_column.proofs.NumberLemmas.{number_stands}
+use Rattle.vx_column.proofs.MaskedLemmas.{masked_length, masked_truths, masked_null, masked_own}
+use Rattle.vx_column.proofs.SameMasked.{value_within, has_null, has_within, has_no_null}
 use Rattle.vx_column.proofs.equality.+has.Goals as goal
 
 pub has_at-returns-in-Constant : goal.has_at-returns-in-Constant
@@ -39,7 +43,7 @@ has_at-have_at-requires t c =
     let rows : structs_of (field_names (fields_of c.args.column.now.ty)) c.in-Columns.fields.value.items c.in-Columns.len ≡ c.args.column.now.rows = ap (cell_rows c.args.column.now.ty) (sym c.in-Columns.is) ∙ c.cells.ensures.rows in
     let parts : AreFieldsOf c.args.column.now.ty c.in-Columns.fields.value.items c.in-Columns.len = subst (ArePartsOf c.args.column.now.ty) c.in-Columns.is c.cells.ensures.parts in
     let within : c.args.i < c.in-Columns.len = omega (arith, structs_length c.args.column.now _ _ _ rows, c.requires.row) in
-    let below : deepest c.columns_in.result.now < depth_of c.args.column.now.ty = omega (arith, deepest_lt _ _ _ parts, ap deepest c.columns_in.ensures) in
+    let below : deepest c.columns_in.result.now < size_of c.args.column.now.ty = omega (arith, deepest_lt _ _ _ parts, ap deepest c.columns_in.ensures) in
     let own = struct_parts c.args.column.now.ty c.in-Columns.fields.value.items c.in-Columns.len c.args.value.now (Some c.in-Some.parts.now) parts c.requires.fit c.in-Some.ensures in (
       omega (arith, below, c.decreases),
       (
@@ -68,7 +72,7 @@ pub have_at-has_at-requires : goal.have_at-has_at-requires
 have_at-has_at-requires t c =
     let column = c.index-columns-k.result in
     let number = zip_length HasFit c.args.columns.now c.args.values.now c.requires.fit in
-    let below : depth_of c.index-columns-k.result.ty ≤ deepest c.args.columns.now = omega (arith, depth_le-deepest c.args.columns.now c.loop-k.k c.index-columns-k.result c.loop-k-test.true, ap (λ (d : Column). depth_of d.ty) c.index-columns-k.is) in (
+    let below : size_of c.index-columns-k.result.ty ≤ deepest c.args.columns.now = omega (arith, size_le-deepest c.args.columns.now c.loop-k.k c.index-columns-k.result c.loop-k-test.true, ap (λ (d : Column). size_of d.ty) c.index-columns-k.is) in (
       omega (arith, below, c.decreases),
       (
         subst (λ (d : Column). c.args.i < length d.rows) (sym c.index-columns-k.is) (c.requires.rows c.loop-k.k c.index-columns-k.result c.loop-k-test.true),
@@ -113,3 +117,46 @@ has_at-returns-in-Numbers t c =
     let stands = number_stands c.args.column.now c.in-Numbers.numbers.value c.args.i c.number_at.result c.of_number-own.result parts rows read c.requires.row c.of_number-own.ensures.value c.of_number-own.ensures.fit in
     let same : Decides c.eq-in-Numbers.result (raw_view c.of_number-own.result ≡ raw_view c.args.value.now) = rw c.eq-in-Numbers.ensures (raw_decides (raw_view c.of_number-own.result) (raw_view c.args.value.now)) in
     has_kept c.args.column.now c.args.i c.of_number-own.result c.args.value.now _ stands.0 c.requires.fit stands.1 same
+
+pub has_at-truth_at-requires-in-Masked : goal.has_at-truth_at-requires-in-Masked
+has_at-truth_at-requires-in-Masked t c =
+    let rows : zip_rows masked c.in-Masked.column.value.rows (vals_of c.in-Masked.nulls.value) ≡ c.args.column.now.rows = ap (cell_rows c.args.column.now.ty) (sym c.in-Masked.is) ∙ c.cells.ensures.rows in
+    let parts : AreMaskedOf c.args.column.now.ty c.in-Masked.column.value c.in-Masked.nulls.value = subst (ArePartsOf c.args.column.now.ty) c.in-Masked.is c.cells.ensures.parts in
+    omega (arith, masked_truths c.args.column.now c.in-Masked.column.value c.in-Masked.nulls.value parts rows, ap length c.truths_in-in-Masked.ensures, c.requires.row)
+
+pub has_at-returns-then-is_true : goal.has_at-returns-then-is_true
+has_at-returns-then-is_true t c =
+    let rows : zip_rows masked c.in-Masked.column.value.rows (vals_of c.in-Masked.nulls.value) ≡ c.args.column.now.rows = ap (cell_rows c.args.column.now.ty) (sym c.in-Masked.is) ∙ c.cells.ensures.rows in
+    let parts : AreMaskedOf c.args.column.now.ty c.in-Masked.column.value c.in-Masked.nulls.value = subst (ArePartsOf c.args.column.now.ty) c.in-Masked.is c.cells.ensures.parts in
+    let told : c.is_true.result ≡ is_true (get_or c.in-Masked.nulls.value c.args.i None) = c.is_true.ensures ∙ ap is_true c.truth_at-in-Masked.ensures ∙ ap (λ ts. is_true (get_or ts c.args.i None)) c.truths_in-in-Masked.ensures in
+    has_null c.args.column.now c.args.i c.args.value.now _ c.requires.fit (masked_null c.args.column.now c.in-Masked.column.value c.in-Masked.nulls.value c.args.i _ parts rows c.requires.row told c.if-is_true.true) c.is_null_value.ensures
+
+pub has_at-has_at-requires : goal.has_at-has_at-requires
+has_at-has_at-requires t c =
+    let rows : zip_rows masked c.in-Masked.column.value.rows (vals_of c.in-Masked.nulls.value) ≡ c.args.column.now.rows = ap (cell_rows c.args.column.now.ty) (sym c.in-Masked.is) ∙ c.cells.ensures.rows in
+    let parts : AreMaskedOf c.args.column.now.ty c.in-Masked.column.value c.in-Masked.nulls.value = subst (ArePartsOf c.args.column.now.ty) c.in-Masked.is c.cells.ensures.parts in
+    let same : c.column_in.result.now ≡ c.in-Masked.column.value = c.column_in.ensures in
+    let below : size_of c.column_in.result.now.ty < size_of c.args.column.now.ty = omega (arith, size_masked c.args.column.now.ty c.in-Masked.column.value c.in-Masked.nulls.value parts, ap (λ (d : Column). size_of d.ty) same) in
+    let fit = value_within c.args.column.now.ty c.in-Masked.column.value.ty c.args.value.now c.is_null_value-in-Masked.result parts.whole c.requires.fit c.is_null_value-in-Masked.ensures c.if-not-is_null_value.true in (
+      omega (arith, below, c.decreases),
+      (
+        subst (λ (d : Column). c.args.i < length d.rows) (sym same) (omega (arith, masked_length c.args.column.now c.in-Masked.column.value c.in-Masked.nulls.value parts rows, c.requires.row)),
+        subst (λ (d : Column). fits (raw_view c.args.value.now) d.ty ≡ true) (sym same) fit,
+      ),
+    )
+
+pub has_at-returns-then-not-is_null_value : goal.has_at-returns-then-not-is_null_value
+has_at-returns-then-not-is_null_value t c =
+    let rows : zip_rows masked c.in-Masked.column.value.rows (vals_of c.in-Masked.nulls.value) ≡ c.args.column.now.rows = ap (cell_rows c.args.column.now.ty) (sym c.in-Masked.is) ∙ c.cells.ensures.rows in
+    let parts : AreMaskedOf c.args.column.now.ty c.in-Masked.column.value c.in-Masked.nulls.value = subst (ArePartsOf c.args.column.now.ty) c.in-Masked.is c.cells.ensures.parts in
+    let told : c.is_true.result ≡ is_true (get_or c.in-Masked.nulls.value c.args.i None) = c.is_true.ensures ∙ ap is_true c.truth_at-in-Masked.ensures ∙ ap (λ ts. is_true (get_or ts c.args.i None)) c.truths_in-in-Masked.ensures in
+    has_within c.args.column.now c.in-Masked.column.value c.args.i c.args.value.now _ parts.whole (masked_own c.args.column.now c.in-Masked.column.value c.in-Masked.nulls.value c.args.i _ parts rows c.requires.row told c.if-is_true.false) (subst (λ (d : Column). Decides c.has_at.result (HasAt c.args.i d c.args.value.now)) c.column_in.ensures c.has_at.ensures)
+
+pub has_at-returns-else-not-is_null_value : goal.has_at-returns-else-not-is_null_value
+has_at-returns-else-not-is_null_value t c =
+    let rows : zip_rows masked c.in-Masked.column.value.rows (vals_of c.in-Masked.nulls.value) ≡ c.args.column.now.rows = ap (cell_rows c.args.column.now.ty) (sym c.in-Masked.is) ∙ c.cells.ensures.rows in
+    let parts : AreMaskedOf c.args.column.now.ty c.in-Masked.column.value c.in-Masked.nulls.value = subst (ArePartsOf c.args.column.now.ty) c.in-Masked.is c.cells.ensures.parts in
+    let told : c.is_true.result ≡ is_true (get_or c.in-Masked.nulls.value c.args.i None) = c.is_true.ensures ∙ ap is_true c.truth_at-in-Masked.ensures ∙ ap (λ ts. is_true (get_or ts c.args.i None)) c.truths_in-in-Masked.ensures in
+    let within : c.args.i < length c.in-Masked.column.value.rows = omega (arith, masked_length c.args.column.now c.in-Masked.column.value c.in-Masked.nulls.value parts rows, c.requires.row) in
+    let own = masked_own c.args.column.now c.in-Masked.column.value c.in-Masked.nulls.value c.args.i _ parts rows c.requires.row told c.if-is_true.false in
+    has_no_null c.args.column.now c.in-Masked.column.value c.args.i c.args.value.now _ parts.apart parts.fit within own c.requires.fit c.is_null_value-in-Masked.ensures c.if-not-is_null_value.false

@@ -1,12 +1,12 @@
 use Rattle.std.proofs.Common.{◌*◌, ◌+◌, take}
 use Rattle.std.specs.List.{AllZip}
-use Rattle.vx_dtype.specs.TypeRules.{depth_of}
+use Rattle.vx_column.specs.TypeSizes.{size_of}
 use Rattle.vx_column.specs.Cells.{HasAt}
 use Rattle.vx_column.proofs.CellLemmas.{deepest}
 use Rattle.vx_column.proofs.equality.+has.Given as goal
 
 abbrev pub decreases-has_at : goal.decreases-has_at
-decreases-has_at l = 2 * depth_of l.column.now.ty
+decreases-has_at l = 2 * size_of l.column.now.ty
 
 abbrev pub decreases-have_at : goal.decreases-have_at
 decreases-have_at l = 2 * deepest l.columns.now + 1

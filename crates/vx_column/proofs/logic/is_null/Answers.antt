@@ -1,15 +1,16 @@
 use Rattle.std.proofs.Common.{◌≡◌, true, false, Some, ap, sym, ◌∙◌, subst, rules, refl, map}
+use Rattle.std.specs.Simd.Lanes.{zip2}
 use Rattle.std.proofs.Math.ListN.{replicate}
 use Rattle.vx_dtype.specs.declared.Nullability.TheVariants.{NonNullable}
 use Rattle.vx_dtype.specs.Types.{bool_ty}
 use Rattle.vx_dtype.specs.TypeRules.{is_nullable, nullability_of}
 use Rattle.vx_dtype.specs.Fits.{fits}
-use Rattle.vx_dtype.specs.Logic.{is_null3}
+use Rattle.vx_dtype.specs.Logic.{is_null3, and3}
 use Rattle.vx_dtype.specs.RawViews.{raw_view}
 use Rattle.vx_words.specs.Words.{truth_val}
 use Rattle.vx_words.specs.Truths.{vals_of}
-use Rattle.vx_column.specs.Columns.{Column, column, seen, seen_rows, values_fit}
-use Rattle.vx_column.specs.Cells.{cell_rows, ArePartsOf, AreTruthsOf}
+use Rattle.vx_column.specs.Columns.{Column, column, seen, seen_rows, values_fit, masked, zip_rows}
+use Rattle.vx_column.specs.Cells.{cell_rows, AreMaskedOf, ArePartsOf, AreTruthsOf}
 use Rattle.vx_column.proofs.FitLemmas.{is_null3_valued}
 use Rattle.vx_column.proofs.RowLemmas.{map_repeated}
 use Rattle.vx_column.proofs.StructLemmas.{if_ok_map}
@@ -18,6 +19,7 @@ use Rattle.vx_column.proofs.TruthLemmas.{tests_are_truths, nulls_of_truths, null
 use Rattle.vx_numbers.specs.Numbers.{NumberList, null_test}
 use Rattle.vx_column.specs.Cells.{numbers_vals}
 use Rattle.vx_column.proofs.NumberLemmas.{null_tests_are_truths, null_tests_of}
+use Rattle.vx_column.proofs.MaskedLemmas.{nulls_hidden, hidden_are_truths}
 use Rattle.vx_column.proofs.logic.is_null.Goals as goal
 
 pub of_constant-requires-clause-fit : goal.of_constant-requires-clause-fit
@@ -57,3 +59,23 @@ returns-in_ok-nulls-in-Numbers-clause-rows c =
     let rows : numbers_vals c.in-Numbers.numbers.value ≡ c.args.c.now.rows = ap (cell_rows c.args.c.now.ty) (sym c.in-Numbers.is) ∙ c.cells.ensures.rows in
     let made = null_tests_of c.in-Numbers.numbers.value c.in_ok-nulls-in-Numbers.nulls c.args.c.now.rows rows (c.in_ok-nulls-in-Numbers.ensures ∙ ap (λ (ns : NumberList). map null_test ns.numbers) c.numbers_in.ensures) in
     if_ok_map _ _ c.of_truths-in-Numbers.result (λ (x : Column) (h : x ≡ column (bool_ty NonNullable) (vals_of c.in_ok-nulls-in-Numbers.nulls)). ap (λ (r : Column). r.rows) h ∙ made) c.of_truths-in-Numbers.ensures
+
+pub of_truths-requires-in-Masked : goal.of_truths-requires-in-Masked
+of_truths-requires-in-Masked c =
+    let rows : zip_rows masked c.in-Masked.column.value.rows (vals_of c.in-Masked.nulls.value) ≡ c.args.c.now.rows = ap (cell_rows c.args.c.now.ty) (sym c.in-Masked.is) ∙ c.cells.ensures.rows in
+    let parts : AreMaskedOf c.args.c.now.ty c.in-Masked.column.value c.in-Masked.nulls.value = subst (ArePartsOf c.args.c.now.ty) c.in-Masked.is c.cells.ensures.parts in
+    let same = c.truths_in-truths.ensures in
+    let nulls = c.in_ok-is_null-in-Masked.ensures ∙ ap (λ ts. map is_null3 (vals_of ts)) same in
+    let both = c.in_ok-hidden-in-Masked.ensures ∙ ap (λ ts. zip2 and3 (vals_of ts) (vals_of c.in_ok-known-in-Masked.known)) same in
+    let made = nulls_hidden c.args.c.now.ty c.in-Masked.column.value c.in-Masked.nulls.value c.in_ok-is_null-in-Masked.field-0 c.in_ok-known-in-Masked.known c.in_ok-hidden-in-Masked.hidden c.args.c.now.rows parts rows nulls c.in_ok-known-in-Masked.ensures both in
+    hidden_are_truths c.in_ok-hidden-in-Masked.hidden c.args.c.now.rows made
+
+pub returns-in_ok-hidden-in-Masked-clause-rows : goal.returns-in_ok-hidden-in-Masked-clause-rows
+returns-in_ok-hidden-in-Masked-clause-rows c =
+    let rows : zip_rows masked c.in-Masked.column.value.rows (vals_of c.in-Masked.nulls.value) ≡ c.args.c.now.rows = ap (cell_rows c.args.c.now.ty) (sym c.in-Masked.is) ∙ c.cells.ensures.rows in
+    let parts : AreMaskedOf c.args.c.now.ty c.in-Masked.column.value c.in-Masked.nulls.value = subst (ArePartsOf c.args.c.now.ty) c.in-Masked.is c.cells.ensures.parts in
+    let same = c.truths_in-truths.ensures in
+    let nulls = c.in_ok-is_null-in-Masked.ensures ∙ ap (λ ts. map is_null3 (vals_of ts)) same in
+    let both = c.in_ok-hidden-in-Masked.ensures ∙ ap (λ ts. zip2 and3 (vals_of ts) (vals_of c.in_ok-known-in-Masked.known)) same in
+    let made = nulls_hidden c.args.c.now.ty c.in-Masked.column.value c.in-Masked.nulls.value c.in_ok-is_null-in-Masked.field-0 c.in_ok-known-in-Masked.known c.in_ok-hidden-in-Masked.hidden c.args.c.now.rows parts rows nulls c.in_ok-known-in-Masked.ensures both in
+    if_ok_map _ _ c.of_truths-in-Masked.result (λ (x : Column) (h : x ≡ column (bool_ty NonNullable) (vals_of c.in_ok-hidden-in-Masked.hidden)). ap (λ (r : Column). r.rows) h ∙ made) c.of_truths-in-Masked.ensures

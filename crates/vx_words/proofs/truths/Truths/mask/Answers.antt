@@ -1,4 +1,4 @@
-use Rattle.std.proofs.Common.{◌≡◌, length, arith}
+use Rattle.std.proofs.Common.{arith}
 use Rattle.vx_words.proofs.HiddenLemmas.{hidden_tidy, hidden_truths}
 use Rattle.vx_words.proofs.truths.Truths.mask.Goals as goal
 
