@@ -11,7 +11,7 @@ use Rattle.vx_dtype.specs.TypeRules.{field_names, fields_of, with_nullability, n
 use Rattle.vx_dtype.specs.StructTypes.{field_types}
 use Rattle.vx_dtype.specs.Zipped.{zipped}
 use Rattle.vx_dtype.proofs.FieldsFrom.{length-field_types}
-use Rattle.vx_dtype.specs.Values.{Val, null_val, bool_val, int_val, text_val, list_val, struct_val, fault, valued, raw_struct}
+use Rattle.vx_dtype.specs.Values.{Val, null_val, bool_val, struct_val, valued, raw_struct}
 use Rattle.vx_dtype.specs.Logic.{is_null3}
 use Rattle.vx_dtype.specs.Fits.{fits, val_fits, members_fit}
 use Rattle.vx_dtype.specs.RawViews.{raw_view, raws_of}
@@ -29,7 +29,7 @@ use Rattle.vx_column.proofs.RowLemmas.{fits_at, seen_row, seen_rows_append, valu
 use Rattle.vx_column.proofs.StructLemmas.{struct_fits, struct_stands}
 use Rattle.vx_column.proofs.TruthLemmas.{truth_rows_fit}
 use Rattle.vx_column.proofs.NumberLemmas.{number_rows_fit}
-use Rattle.vx_column.proofs.MaskedLemmas.{masked_fit}
+use Rattle.vx_column.proofs.MaskedLemmas.{masked_fit, never_null, row_fits}
 
 -- a constant has its value at each row
 pub constant_row : (c : Column) (n i : ℕ) (v : Val) → replicate n v ≡ c.rows → i < length c.rows → v ≡ row_at c i
@@ -175,16 +175,6 @@ struct_stands_at c i cs n xs x h r w s e =
     (ap (fits (raw_view x)) (sym whole) ∙ fit, ap (valued (raw_view x)) (sym whole) ∙ value ∙ structs_row c (field_names (fields_of c.ty)) cs n i r w)
 
 -- the rows of a type that isn't nullable are never null
-never_null : (t : Ty) (v : Val) → is_nullable (nullability_of t) ≡ false → val_fits v t ≡ true → is_null3 v ≡ bool_val false
-unfolding val_fits
-never_null t null_val e h = absurd cc
-never_null t (bool_val b) e h = refl
-never_null t (int_val p i) e h = refl
-never_null t (text_val s) e h = refl
-never_null t (list_val xs) e h = refl
-never_null t (struct_val ms) e h = refl
-never_null t fault e h = absurd cc
-
 pub none_null : (t : Ty) (vs : List Val) → is_nullable (nullability_of t) ≡ false → rows_fit t vs ≡ true → replicate (length vs) (bool_val false) ≡ map is_null3 vs
 none_null t [] e h = refl
 none_null t (v ∷ vs) e h =
@@ -217,12 +207,7 @@ nullable_values c d xs e r =
     let rows : seen_rows d xs ≡ c.rows = ap (λ t. seen_rows t xs) e ∙ seen_rows_with c.ty Nullable xs ∙ r in
     λ j. column (e j) (rows j)
 
--- a row is of the type where all are, and a column's rows are of its type where those of all columns are
-row_fits : (t : Ty) (vs : List Val) (i : ℕ) → rows_fit t vs ≡ true → i < length vs → val_fits (get_or vs i null_val) t ≡ true
-row_fits t [] i e h = absurd (omega arith)
-row_fits t (v ∷ vs) zero e h = (both_of (val_fits v t) (rows_fit t vs) e).0
-row_fits t (v ∷ vs) (suc i) e h = row_fits t vs i (both_of (val_fits v t) (rows_fit t vs) e).1 (omega arith)
-
+-- a column's rows are of its type where those of all columns are
 pub column_fits : (cs : List Column) (k : ℕ) (d : Column) → all_rows_fit cs ≡ true → k < length cs → rows_fit (get_or cs k d).ty (get_or cs k d).rows ≡ true
 column_fits [] k d e h = absurd (omega arith)
 column_fits (c ∷ cs) zero d e h = (both_of (rows_fit c.ty c.rows) (all_rows_fit cs) e).0

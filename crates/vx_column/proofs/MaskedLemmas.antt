@@ -106,12 +106,12 @@ pub masked_own : (c d : Column) (ts : List (Option Bool)) (i : ℕ) (b : Bool) �
 masked_own c d ts i b h r w e k = masked_row c d ts i b h r w e ∙ ap (λ x. cond x null_val (row_at d i)) k
 
 -- the rows within are never null
-row_fits : (t : Ty) (vs : List Val) (i : ℕ) → rows_fit t vs ≡ true → i < length vs → val_fits (get_or vs i null_val) t ≡ true
+pub row_fits : (t : Ty) (vs : List Val) (i : ℕ) → rows_fit t vs ≡ true → i < length vs → val_fits (get_or vs i null_val) t ≡ true
 row_fits t [] i e h = absurd (omega arith)
 row_fits t (v ∷ vs) zero e h = (both_of (val_fits v t) (rows_fit t vs) e).0
 row_fits t (v ∷ vs) (suc i) e h = row_fits t vs i (both_of (val_fits v t) (rows_fit t vs) e).1 (omega arith)
 
-never_null : (t : Ty) (v : Val) → is_nullable (nullability_of t) ≡ false → val_fits v t ≡ true → is_null3 v ≡ bool_val false
+pub never_null : (t : Ty) (v : Val) → is_nullable (nullability_of t) ≡ false → val_fits v t ≡ true → is_null3 v ≡ bool_val false
 unfolding val_fits
 never_null t null_val e h = absurd cc
 never_null t (bool_val b) e h = refl
