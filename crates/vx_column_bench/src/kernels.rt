@@ -66,6 +66,17 @@ pub(crate) fn kept(alloc: Global, column: &ColumnRef, keep: &ColumnRef) -> Resul
     Ok(column.filter(alloc, keep)?)
 }
 
+/// The rows of a column, null where one of truths is true.
+pub(crate) fn masked(alloc: Global, column: &ColumnRef, nulls: &ColumnRef) -> Result<ColumnRef> {
+    if !is_truth(nulls.dtype()) {
+        bail!("no truths")
+    }
+    if column.len() != nulls.len() {
+        bail!("other rows")
+    }
+    Ok(column.mask(alloc, nulls)?)
+}
+
 /// Both of two columns of truths.
 pub(crate) fn both(alloc: Global, l: &ColumnRef, r: &ColumnRef) -> Result<ColumnRef> {
     if !is_truth(l.dtype()) {

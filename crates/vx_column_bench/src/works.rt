@@ -1,6 +1,6 @@
 // The kernels of columns by their names, with what they are called on.
 use crate::columns::{numbers, structs, truths};
-use crate::kernels::{above, both, constant, first, kept};
+use crate::kernels::{above, both, constant, first, kept, masked};
 use anyhow::{Result, bail};
 use std::alloc::Global;
 use vx_column::ColumnRef;
@@ -22,6 +22,8 @@ pub(crate) enum Work {
     Filter(ColumnRef, ColumnRef),
     /// The first field of structs.
     Field(ColumnRef),
+    /// The structs made null where truths are true.
+    Mask(ColumnRef, ColumnRef),
 }
 
 impl Work {
@@ -35,6 +37,8 @@ impl Work {
             "and_kleene" => Work::conjunction(alloc, rows),
             "filter" => Work::filter(alloc, rows),
             "field" => Ok(Work::Field(structs(alloc, rows)?)),
+            "mask" => Ok(Work::Mask(structs(alloc, rows)?, truths(alloc, rows, rows)?)),
+            "masked_field" => Work::masked_field(alloc, rows),
             _ => bail!("no such kernel"),
         }
     }
@@ -53,6 +57,13 @@ impl Work {
         Ok(Work::Filter(column, keep))
     }
 
+    /// The first field of so many structs, some of which are null.
+    fn masked_field(alloc: Global, rows: usize) -> Result<Work> {
+        let column = structs(alloc, rows)?;
+        let nulls = truths(alloc, rows, rows)?;
+        Ok(Work::Field(masked(alloc, &column, &nulls)?))
+    }
+
     /// What the kernel answers.
     pub(crate) fn answer(&self, alloc: Global) -> Result<ColumnRef> {
         match self {
@@ -63,6 +74,7 @@ impl Work {
             Work::AndKleene(left, right) => both(alloc, left, right),
             Work::Filter(column, keep) => kept(alloc, column, keep),
             Work::Field(column) => first(alloc, column),
+            Work::Mask(column, nulls) => masked(alloc, column, nulls),
         }
     }
 
