@@ -3,3 +3,4 @@ pub mod TestBits
 pub mod ComparisonLemmas
 pub mod RangeLemmas
 pub mod MaskLemmas
+mod KeptNumbers

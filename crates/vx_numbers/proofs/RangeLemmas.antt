@@ -7,9 +7,9 @@ use Rattle.std.specs.Prelude.{ℤ, zero, suc, replicate}
 use Rattle.std.specs.Simd.Lanes.{zip2}
 use Rattle.vx_dtype.specs.Fits.{in_range}
 use Rattle.vx_dtype.specs.declared.PType.{PType}
-use Rattle.vx_words.specs.Truths.{is_true, hidden_if}
+use Rattle.vx_words.specs.Truths.{is_true, hidden_if, kept_items}
 use Rattle.vx_words.proofs.BitLemmas.{and_false}
-use Rattle.vx_numbers.specs.Numbers.{NumberList, number_list, fits_ptype, all_in_range, on_both, total_in, if_in_range, kept_numbers}
+use Rattle.vx_numbers.specs.Numbers.{NumberList, number_list, fits_ptype, all_in_range, on_both, total_in, if_in_range}
 
 both_true : (x y : Bool) → (x && y) ≡ true → (x ≡ true) × (y ≡ true)
 both_true true y e = (refl, e)
@@ -25,12 +25,12 @@ masked_fits p n true e = refl
 masked_fits p n false e = e
 
 pub kept_in_range : (p : PType) (ns : List (Option ℤ)) (ks : List (Option Bool)) → all_in_range p ns ≡ true
-    → all_in_range p (kept_numbers ns ks) ≡ true
+    → all_in_range p (kept_items ns ks) ≡ true
 kept_in_range p [] ks e = refl
 kept_in_range p (n ∷ ns) [] e = refl
 kept_in_range p (n ∷ ns) (k ∷ ks) e =
     let fits = both_true (fits_ptype p n) (all_in_range p ns) e in
-    kept_first p (is_true k) n (kept_numbers ns ks) fits.0 (kept_in_range p ns ks fits.1)
+    kept_first p (is_true k) n (kept_items ns ks) fits.0 (kept_in_range p ns ks fits.1)
 
 pub masked_in_range : (p : PType) (ns : List (Option ℤ)) (ts : List (Option Bool)) → all_in_range p ns ≡ true
     → all_in_range p (zip2 hidden_if ns ts) ≡ true

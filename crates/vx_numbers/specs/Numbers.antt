@@ -1,5 +1,5 @@
 -- Lists of numbers of one integer type, null at some places.
-use Rattle.std.specs.Prelude.{ℤ, ◌-ℤ◌, ◌+ℤ◌, Bool, true, false, Option, Some, None, List, [], ◌∷◌, cond}
+use Rattle.std.specs.Prelude.{ℤ, ◌-ℤ◌, ◌+ℤ◌, Bool, true, false, Option, Some, None, List, cond}
 use Rattle.std.specs.List.{list_all}
 use Rattle.std.specs.Option.{option_map}
 use Rattle.std.specs.Ordering.{int_cmp}
@@ -8,7 +8,6 @@ use Rattle.vx_dtype.specs.declared.PType.{PType}
 use Rattle.vx_dtype.specs.Fits.{in_range}
 use Rattle.vx_dtype.specs.declared.CompareOperator.{CompareOperator}
 use Rattle.vx_dtype.specs.Order.{meets}
-use Rattle.vx_words.specs.Truths.{is_true}
 
 -- numbers of one integer type, null where there is none
 pub record NumberList : Type 0 where
@@ -61,9 +60,3 @@ if_in_range p ns = cond (all_in_range p ns) (Some ns) None
 abbrev pub null_test : Option ℤ → Option Bool
 null_test None = Some true
 null_test (Some i) = Some false
-
--- the numbers at the places where the other list is true
-abbrev pub kept_numbers : List (Option ℤ) → List (Option Bool) → List (Option ℤ)
-kept_numbers [] ks = []
-kept_numbers (n ∷ ns) [] = []
-kept_numbers (n ∷ ns) (k ∷ ks) = cond (is_true k) (n ∷ kept_numbers ns ks) (kept_numbers ns ks)

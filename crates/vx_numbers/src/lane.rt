@@ -2,8 +2,8 @@
 ghost use Rattle.std.specs.Prelude.{◌≡◌, ℕ, ◌+◌, ◌*◌, ◌<◌, ◌≤◌, ◌^◌, true, Option, Some, None, [], ◌∷◌, ◌++◌, length, map, replicate, slice_index_or, is_some, cond, IfOk, Decides};
 ghost use Rattle.std.specs.Option.{option_map};
 ghost use Rattle.std.specs.Simd.Lanes.{zip2};
-ghost use Rattle.vx_words.specs.Truths.{hidden_if};
-ghost use Rattle.vx_numbers.specs.Numbers.{all_in_range, fits_ptype, compared, null_test, kept_numbers, on_both, total_in, if_in_range};
+ghost use Rattle.vx_words.specs.Truths.{hidden_if, kept_items};
+ghost use Rattle.vx_numbers.specs.Numbers.{all_in_range, fits_ptype, compared, null_test, on_both, total_in, if_in_range};
 ghost use Rattle.vx_numbers.specs.NumbersEqual.{number_eq};
 ghost use Rattle.vx_numbers.specs.Lanes.{numbers_of, number_in, number_of, AreTidyNumbers};
 
@@ -142,19 +142,18 @@ impl<T: Width> Lane<T> {
     /// The numbers at the places where the other list is true, in order.
     pub(crate) fn filter(&self, alloc: Global, keep: &Truths) -> Mem<Lane<T>>
         requires { length keep.now ≡ length self.now }
-        ensures { IfOk result (λ lane. lane ≡ kept_numbers self.now keep.now) }
+        ensures { IfOk result (λ lane. lane ≡ kept_items self.now keep.now) }
     {
-        let (known, numbers) = self.parts();
-        let count = keep.true_count();
-        let mut valid = Vec::with_capacity(alloc, count.div_ceil(PLACES))?;
-        let mut values = Vec::with_capacity(alloc, count)?;
-        let mut from = 0;
-        'kept: while let Some(i) = keep.next_true(from) {
-            prove!(i < numbers.len());
-            push_place(&mut valid, &mut values, bit(known, i), numbers[i])?;
-            from = i + 1;
+        let (_, numbers) = self.parts();
+        let values = keep.kept(alloc, numbers)?;
+        let valid = repeated_bit(alloc, true, values.len())?;
+        let kept = Lane::of_values(alloc, valid, values)?;
+        let nulls = self.is_null(alloc)?;
+        if nulls.true_count() == 0 {
+            return Ok(kept);
         }
-        let lane = Lane::of_values(alloc, valid, values)?;
+        let hidden = nulls.filter(alloc, keep)?;
+        let lane = kept.mask(alloc, &hidden)?;
         Ok(lane)
     }
 
@@ -301,18 +300,8 @@ fn push<T: Width>(valid: &mut Vec<u64>, values: &mut Vec<T>, number: Option<T>) 
     ensures numbers { IfOk result (λ _. numbers_of valid.new.items (map T.value values.new.items)
         ≡ numbers_of valid.old.items (map T.value values.old.items) ++ option_map T.value number ∷ []) }
 {
-    push_place(valid, values, number.is_some(), value_of(number))
-}
-
-/// Adds a place after the last: this value where it is known, else null.
-fn push_place<T: Width>(valid: &mut Vec<u64>, values: &mut Vec<T>, known: bool, value: T) -> Mem<()>
-    requires { AreTidyNumbers valid.old.items (map T.value values.old.items) }
-    ensures tidy { IfOk result (λ _. AreTidyNumbers valid.new.items (map T.value values.new.items)) }
-    ensures numbers { IfOk result (λ _. numbers_of valid.new.items (map T.value values.new.items)
-        ≡ numbers_of valid.old.items (map T.value values.old.items) ++ number_of known (T.value value) ∷ []) }
-{
-    push_bit(valid, values.len(), known)?;
-    values.push(value)?;
+    push_bit(valid, values.len(), number.is_some())?;
+    values.push(value_of(number))?;
     Ok(())
 }
 

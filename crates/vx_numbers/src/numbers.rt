@@ -3,8 +3,8 @@ ghost use Rattle.std.specs.Prelude.{◌≡◌, ℕ, ◌<◌, true, Option, Some,
 ghost use Rattle.std.specs.Cmp.{partial_equiv_from_equiv};
 ghost use Rattle.std.specs.Option.{option_map};
 ghost use Rattle.std.specs.Simd.Lanes.{zip2};
-ghost use Rattle.vx_words.specs.Truths.{hidden_if};
-ghost use Rattle.vx_numbers.specs.Numbers.{number_list, all_in_range, fits_ptype, compared, null_test, kept_numbers, on_both, sums, differences, if_in_range};
+ghost use Rattle.vx_words.specs.Truths.{hidden_if, kept_items};
+ghost use Rattle.vx_numbers.specs.Numbers.{number_list, all_in_range, fits_ptype, compared, null_test, on_both, sums, differences, if_in_range};
 ghost use Rattle.vx_numbers.specs.NumbersEqual.{numbers_eq, numbers_eq_equiv};
 ghost use Rattle.vx_dtype.specs.TypeRules.{same_ptype};
 ghost use Rattle.vx_numbers.specs.LaneViews.{list_of};
@@ -206,7 +206,7 @@ impl Numbers {
     /// The numbers at the places where the other list is true, in order.
     pub fn filter(&self, alloc: Global, keep: &Truths) -> Mem<Numbers>
         requires { length keep.now ≡ length self.now.numbers }
-        ensures { IfOk result (λ list. list ≡ number_list self.now.ptype (kept_numbers self.now.numbers keep.now)) }
+        ensures { IfOk result (λ list. list ≡ number_list self.now.ptype (kept_items self.now.numbers keep.now)) }
     {
         let lanes = filter_lanes(alloc, &self.lanes, keep)?;
         Ok(Numbers { lanes })
@@ -382,7 +382,7 @@ fn cast_lane<T: Width>(alloc: Global, lane: &Lane<T>, target: PType) -> Mem<Opti
 fn filter_lanes(alloc: Global, lanes: &Lanes, keep: &Truths) -> Mem<Lanes>
     requires { length keep.now ≡ length (list_of lanes.now).numbers }
     ensures { IfOk result (λ kept. list_of kept
-        ≡ number_list (list_of lanes.now).ptype (kept_numbers (list_of lanes.now).numbers keep.now)) }
+        ≡ number_list (list_of lanes.now).ptype (kept_items (list_of lanes.now).numbers keep.now)) }
 {
     match lanes {
         Lanes::U8(lane) => Ok(Lanes::U8(lane.filter(alloc, keep)?)),

@@ -121,12 +121,12 @@ fn tests_for_null(rt: HostRuntime) {
 }
 
 /// Whether the numbers at the true places of a list are those of a plain loop.
-fn filters(alloc: Global, ptype: PType, len: usize) -> bool {
+fn filters(alloc: Global, rule: Rule, ptype: PType, len: usize) -> bool {
     filter_gives(
         alloc,
-        list(alloc, Rule::Left, ptype, len),
+        list(alloc, rule, ptype, len),
         flagged(alloc, keep(alloc, len)),
-        kept(alloc, ptype, len),
+        kept(alloc, rule, ptype, len),
     )
 }
 
@@ -135,7 +135,8 @@ fn kept_numbers(rt: HostRuntime) {
     let alloc = rt.alloc();
     for &ptype in &TYPES {
         for &len in &LENGTHS {
-            assert!(rt; filters(alloc, ptype, len), "at {len}");
+            assert!(rt; filters(alloc, Rule::Left, ptype, len), "at {len}");
+            assert!(rt; filters(alloc, Rule::Known, ptype, len), "at {len}");
         }
     }
 }

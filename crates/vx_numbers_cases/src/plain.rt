@@ -14,6 +14,8 @@ pub(crate) type Flags = Mem<Vec<Option<bool>>>;
 pub(crate) enum Rule {
     /// Distinct numbers at any 101 places in a row: from 1 to 101, or for a type with sign from -50 to 50. One of seven is null.
     Left,
+    /// The left numbers before some are made null: a number at each place.
+    Known,
     /// The left number less 1, the same, and with 1 more by turns. One of five is null.
     Right,
     /// The left number and the right one added.
@@ -80,6 +82,7 @@ fn at(rule: Rule, ptype: PType, i: usize) -> Option<i128> {
     let (l, r) = (left(ptype, i), right(ptype, i));
     match rule {
         Rule::Left => l,
+        Rule::Known => Some(spread(ptype, i)),
         Rule::Right => r,
         Rule::Sum => sum(l, r),
         Rule::Difference => difference(l, r),
@@ -144,12 +147,12 @@ pub(crate) fn keep(alloc: Global, len: usize) -> Flags {
     Ok(truths)
 }
 
-/// The left numbers at the places where those truths are true.
-pub(crate) fn kept(alloc: Global, ptype: PType, len: usize) -> Plain {
+/// The numbers at the places where those truths are true.
+pub(crate) fn kept(alloc: Global, rule: Rule, ptype: PType, len: usize) -> Plain {
     let mut numbers = Vec::new(alloc);
     for i in 0..len {
         if keep_at(i) == Some(true) {
-            numbers.push(left(ptype, i))?;
+            numbers.push(at(rule, ptype, i))?;
         }
     }
     Ok(numbers)

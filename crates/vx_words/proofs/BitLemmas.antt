@@ -1,7 +1,7 @@
 -- Single bits of lists of words.
-use Rattle.std.proofs.Common.{◌≡◌, ℕ, ◌+◌, ◌-◌, ◌*◌, ◌/◌, ◌%◌, ◌^◌, ◌<◌, ◌≤◌, List, [], ◌∷◌, ◌++◌, get_or, length, set, Bool, true, false, not, ◌&&◌, ◌||◌, eqb, nat_lt, refl, ◌∙◌, sym, ap, arith, w64, Fits, inl, inr, eq-eqb}
+use Rattle.std.proofs.Common.{◌≡◌, ℕ, ◌+◌, ◌-◌, ◌*◌, ◌/◌, ◌%◌, ◌^◌, ◌<◌, ◌≤◌, List, get_or, length, set, Bool, true, false, not, ◌&&◌, ◌||◌, eqb, nat_lt, refl, ◌∙◌, sym, ap, arith, w64, Fits, inl, inr, eq-eqb}
 use Rattle.std.proofs.lemmas.Bool.{cases_lt, cases_eq, lt-ltb, le-ltb, ne_eqb}
-use Rattle.std.proofs.lemmas.List.{get_or_past, get_or-set_same, get_or-set_other, get_or-replicate, length-replicate, get_or_append_left, get_or_at, length-append}
+use Rattle.std.proofs.lemmas.List.{get_or_past, get_or-set_same, get_or-set_other, get_or-replicate, length-replicate, length-set}
 use Rattle.std.proofs.lemmas.Nat.{one_shl}
 use Rattle.std.proofs.lemmas.Nat.Bits.{bit_at-zero, bit_at_set_same, bit_at_set_other, bit_at_ones, bit_at_ones_above}
 use Rattle.std.specs.Int.{bit_not}
@@ -111,25 +111,25 @@ bit_of-full ws m n j e size =
           bit_of_past (replicate m (2 ^ 64 - 1)) j (omega (arith, length-replicate m (2 ^ 64 - 1))) ∙ sym (le-ltb j n high)
     ]
 
-pub bit_of-full_more : (ws : List ℕ) (m r n j : ℕ) → ws ≡ replicate m (2 ^ 64 - 1) ++ (1 * 2 ^ r % 2 ^ 64 - 1) ∷ []
+pub bit_of-full_less : (ws : List ℕ) (m r n j : ℕ) → ws ≡ set (replicate (m + 1) (2 ^ 64 - 1)) m (1 * 2 ^ r % 2 ^ 64 - 1)
     → n ≡ m * 64 + r → r < 64 → bit_of ws j ≡ nat_lt j n
-bit_of-full_more ws m r n j e size small =
-    let full : List ℕ = replicate m (2 ^ 64 - 1) in
-    let long : length full ≡ m = length-replicate m (2 ^ 64 - 1) in
-    let all : List ℕ = full ++ (2 ^ r - 1) ∷ [] in
-    let total : length all ≡ m + 1 = omega (arith, length-append full ((2 ^ r - 1) ∷ [])) in
-    ap (λ x. bit_of x j) (e ∙ ap (λ x. full ++ (x - 1) ∷ []) (one_shl r 64 small)) ∙
+bit_of-full_less ws m r n j e size small =
+    let full : List ℕ = replicate (m + 1) (2 ^ 64 - 1) in
+    let all : List ℕ = set full m (2 ^ r - 1) in
+    let long : length full ≡ m + 1 = length-replicate (m + 1) (2 ^ 64 - 1) in
+    let total : length all ≡ m + 1 = length-set full m (2 ^ r - 1) ∙ long in
+    ap (λ x. bit_of x j) (e ∙ ap (λ x. set full m (x - 1)) (one_shl r 64 small)) ∙
     elim (cases_lt (j / 64) m) [
       | inl low ↦
-          ap (λ x. word_bit x (j % 64)) (get_or_append_left full ((2 ^ r - 1) ∷ []) 0 (j / 64) (omega arith))
-          ∙ full_at m (j / 64) (j % 64) low (omega arith)
+          ap (λ x. word_bit x (j % 64)) (get_or-set_other full m (j / 64) (2 ^ r - 1) 0 (λ e. absurd (omega arith)))
+          ∙ full_at (m + 1) (j / 64) (j % 64) (omega arith) (omega arith)
           ∙ sym (lt-ltb j n (omega arith))
       | inr high ↦
           elim (cases_eq (j / 64) m) [
             | inl last ↦
                 let here : word_bit (get_or all (j / 64) 0) (j % 64) ≡ nat_lt (j % 64) r =
                 ap (λ k. word_bit (get_or all k 0) (j % 64)) last
-                ∙ ap (λ x. word_bit x (j % 64)) (get_or_at full (2 ^ r - 1) [] 0 m long)
+                ∙ ap (λ x. word_bit x (j % 64)) (get_or-set_same full m (2 ^ r - 1) 0 (omega arith))
                 ∙ ones_word r (j % 64) in
                 elim (cases_lt (j % 64) r) [
                   | inl under ↦ here ∙ lt-ltb (j % 64) r under ∙ sym (lt-ltb j n (omega arith))

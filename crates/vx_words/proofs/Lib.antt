@@ -6,4 +6,5 @@ pub mod ListLemmas
 pub mod NextLemmas
 pub mod CountLemmas
 pub mod KeptLemmas
+mod LowestLemmas
 pub mod HiddenLemmas

@@ -10,13 +10,13 @@ use Rattle.vx_words.specs.Truths.{AreTidy, truths_of_words, is_true, true_at}
 use Rattle.vx_words.proofs.BitLemmas.{zero_bit}
 use Rattle.vx_words.proofs.TruthLemmas.{bare_of_tidy, length_seen, truth_seen, place_within}
 
-pos_of_not_zero : (n : ℕ) → (n ≡ 0 → ⊥) → 0 < n
+pub pos_of_not_zero : (n : ℕ) → (n ≡ 0 → ⊥) → 0 < n
 pos_of_not_zero n other = elim (cases_lt 0 n) [ inl some ↦ some | inr none ↦ absurd (other (omega arith)) ]
 
-set_bit_of : (x : ℕ) → x ≡ 1 → eqb x 1 ≡ true
+pub set_bit_of : (x : ℕ) → x ≡ 1 → eqb x 1 ≡ true
 set_bit_of x e = ap (λ y. eqb y 1) e
 
-clear_bit_of : (x : ℕ) → x ≡ 0 → eqb x 1 ≡ false
+pub clear_bit_of : (x : ℕ) → x ≡ 0 → eqb x 1 ≡ false
 clear_bit_of x e = ap (λ y. eqb y 1) e
 
 -- a word of 64 bits has none from 64 on
@@ -112,7 +112,7 @@ module _ (v b : List ℕ) (n : ℕ) (ts : List (Option Bool)) (seen : truths_of_
         | inr high ↦ ap is_true (get_or_past ts i None high) ∙ sym (bare_of_tidy v b n tidy i (tidy.past i (omega arith)))
       ]
 
-  true_within : (i : ℕ) → true_at ts i ≡ true → i < length ts
+  pub true_within : (i : ℕ) → true_at ts i ≡ true → i < length ts
   true_within i e =
       elim (cases_lt i (length ts)) [
         | inl low ↦ low

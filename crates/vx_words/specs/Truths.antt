@@ -36,8 +36,8 @@ true_at truths i = is_true (slice_index_or truths i None)
 abbrev pub hidden_if : {A : Type 0} → Option A → Option Bool → Option A
 hidden_if x t = cond (is_true t) None x
 
--- the truths at the places where the other list is true
-abbrev pub kept_truths : List (Option Bool) → List (Option Bool) → List (Option Bool)
-kept_truths [] ks = []
-kept_truths (t ∷ ts) [] = []
-kept_truths (t ∷ ts) (k ∷ ks) = cond (is_true k) (t ∷ kept_truths ts ks) (kept_truths ts ks)
+-- the items at the places where the list of truths is true
+abbrev pub kept_items : {X : Type 0} → List X → List (Option Bool) → List X
+kept_items [] ks = []
+kept_items (x ∷ xs) [] = []
+kept_items (x ∷ xs) (k ∷ ks) = cond (is_true k) (x ∷ kept_items xs ks) (kept_items xs ks)

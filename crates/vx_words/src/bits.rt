@@ -118,12 +118,12 @@ pub(crate) fn ones(alloc: Global, len: usize) -> Mem<Vec<u64>>
     ensures lengths { IfOk result (λ words. length words.items ≡ words_for len) }
     ensures bits { IfOk result (λ words. (j : ℕ) → bit_of words.items j ≡ nat_lt j len) }
 {
-    let mut words = full_words(alloc, len / PLACES)?;
+    let mut words = full_words(alloc, len.div_ceil(PLACES))?;
     let rest = len % PLACES;
     if rest == 0 {
         return Ok(words);
     }
-    words.push((1u64 << rest) - 1)?;
+    words[len / PLACES] = (1u64 << rest) - 1;
     Ok(words)
 }
 

@@ -4,10 +4,10 @@ ghost use Rattle.std.specs.Cmp.{partial_equiv_from_equiv};
 ghost use Rattle.std.specs.Simd.Lanes.{zip2};
 ghost use Rattle.vx_dtype.specs.Logic.{and3, or3, not3, is_null3};
 ghost use Rattle.vx_words.specs.Words.{truth_of_words, HaveSameBits, IsNextPlace};
-ghost use Rattle.vx_words.specs.Truths.{AreTidy, truths_of_words, vals_of, is_true, true_at, hidden_if, kept_truths};
+ghost use Rattle.vx_words.specs.Truths.{AreTidy, truths_of_words, vals_of, is_true, true_at, hidden_if, kept_items};
 ghost use Rattle.vx_words.specs.TruthsEqual.{truths_eq, truths_eq_equiv};
 
-use crate::bits::{bit, bit_count, next_bit, ones, push_bit, repeated_bit, without, zeros};
+use crate::bits::{PLACES, bit, bit_count, next_bit, ones, push_bit, repeated_bit, without, zeros};
 use crate::logic::{and_words, not_words, or_words};
 use std::alloc::{AllocError, Global};
 use std::marker::Model;
@@ -171,7 +171,7 @@ impl Truths {
     /// The truths at the places where the other list is true, in order.
     pub fn filter(&self, alloc: Global, keep: &Truths) -> Mem<Truths>
         requires { length keep.now ≡ length self.now }
-        ensures { IfOk result (λ truths. truths ≡ kept_truths self.now keep.now) }
+        ensures { IfOk result (λ truths. truths ≡ kept_items self.now keep.now) }
     {
         let mut valid = Vec::new(alloc);
         let mut values = Vec::new(alloc);
@@ -185,6 +185,24 @@ impl Truths {
             from = i + 1;
         }
         Ok(Truths::of_words(len, valid, values))
+    }
+
+    /// The items of a list, one for each truth, at the places where the truth is true, in order.
+    pub fn kept<T: Copy>(&self, alloc: Global, items: &[T]) -> Mem<Vec<T>>
+        requires { length items.now ≡ length self.now }
+        ensures { IfOk result (λ kept. kept.items ≡ kept_items items.now self.now) }
+    {
+        let (_, truths) = self.words();
+        let mut kept = Vec::with_capacity(alloc, self.true_count())?;
+        'words: for k in 0..truths.len() {
+            let mut word = truths[k];
+            'bits: while word != 0 {
+                let place = word.trailing_zeros();
+                kept.push(items[k * PLACES + place as usize])?;
+                word &= !(1u64 << place);
+            }
+        }
+        Ok(kept)
     }
 }
 

@@ -58,6 +58,15 @@ fn filter_answers(alloc: Global) -> Result<bool, Fail> {
     Ok(reads(&truths.filter(alloc, &keep)?, [None].as_slice()))
 }
 
+fn kept_answers(alloc: Global) -> Result<bool, Fail> {
+    let keep = sure(alloc)?;
+    if keep.len() != 1 {
+        return Ok(false);
+    }
+    let kept = keep.kept(alloc, [7u8].as_slice())?;
+    Ok(kept.as_slice() == [7].as_slice())
+}
+
 fn mask_answers(alloc: Global) -> Result<bool, Fail> {
     let truths = sure(alloc)?;
     let nulls = sure(alloc)?;
@@ -103,6 +112,7 @@ fn ample(rt: HostRuntime) -> Result<(), Fail> {
     assert!(rt; not_answers(alloc)?);
     assert!(rt; is_null_answers(alloc)?);
     assert!(rt; filter_answers(alloc)?);
+    assert!(rt; kept_answers(alloc)?);
     assert!(rt; mask_answers(alloc)?);
     assert!(rt; both_answers(alloc)?);
     assert!(rt; without_answers(alloc)?);

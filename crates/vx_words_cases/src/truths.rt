@@ -129,13 +129,14 @@ fn two_lists_are_right(
     }
     let l = Truths::from_options(alloc, left)?;
     let r = Truths::from_options(alloc, right)?;
-    if l.len() != r.len() {
+    if l.len() != r.len() || r.len() != left.len() {
         return Ok(false);
     }
     Ok(
         reads(&l.and(alloc, &r)?, both.as_slice())
             && reads(&l.or(alloc, &r)?, either.as_slice())
             && reads(&l.filter(alloc, &r)?, kept.as_slice())
+            && r.kept(alloc, left)?.as_slice() == kept.as_slice()
             && reads(&l.mask(alloc, &r)?, masked.as_slice()),
     )
 }

@@ -1,47 +1,49 @@
-use Rattle.std.proofs.Common.{◌≡◌, ◌<◌, ◌+◌, ◌++◌, [], ◌∷◌, List, Option, None, length, map, drop, get_or, refl, ◌∙◌, sym, ap, arith}
+use Rattle.std.proofs.Common.{◌≡◌, length, map, Some, ◌∙◌, sym, ap, arith}
 use Rattle.std.proofs.lemmas.List.{length-map}
-use Rattle.std.specs.Prelude.{ℤ}
-use Rattle.vx_words.proofs.KeptLemmas.{kept_step, kept_end}
-use Rattle.vx_numbers.specs.Numbers.{kept_numbers}
-use Rattle.vx_numbers.specs.Lanes.{number_of, numbers_of}
-use Rattle.vx_numbers.proofs.PlaceLemmas.{number_seen, length_seen, value_read}
+use Rattle.std.specs.Prelude.{count_by}
+use Rattle.std.specs.Simd.Lanes.{zip2}
+use Rattle.vx_words.specs.Truths.{is_true, hidden_if, kept_items}
+use Rattle.vx_numbers.specs.Numbers.{null_test}
+use Rattle.vx_numbers.proofs.KeptNumbers.{known_values, kept_length, kept_hidden, kept_known}
+use Rattle.vx_numbers.proofs.PlaceLemmas.{length_seen}
 use Rattle.vx_numbers.proofs.lane.Lane.filter.Goals as goal
 
-pub prove-unreachable-requires : goal.prove-unreachable-requires
-prove-unreachable-requires g c =
-    let past = c.if-prove.true in
-    let inside = c.in-Some.ensures.within in
+pub kept-requires : goal.kept-requires
+kept-requires g c =
     let long = length_seen _ _ _ c.parts.ensures.numbers in
     let mapped = length-map c.parts.result.1.now g.T.Width.value in
-    omega arith
+    omega (arith, c.requires)
 
-pub kept-preserved : goal.kept-preserved
-kept-preserved g c =
+pub returns-then-true_count-eq0 : goal.returns-then-true_count-eq0
+returns-then-true_count-eq0 g c =
     let f = g.T.Width.value in
-    let v = c.parts.result.0.now in
+    known_values f c.in_ok-valid.valid.items c.in_ok-values.values.items _ _ _ c.in_ok-valid.ensures.bits (c.len.ensures ∙ c.in_ok-values.values.ok.0)
+    c.in_ok-kept.ensures c.in_ok-values.ensures
+    ∙ kept_known f c.parts.result.0.now c.parts.result.1.now c.args.self.now c.args.keep.now c.parts.ensures.numbers
+    (ap (count_by is_true) (sym c.in_ok-nulls.ensures) ∙ sym c.true_count.ensures ∙ c.if-true_count-eq0.true)
+
+pub mask-requires : goal.mask-requires
+mask-requires g c =
+    let f = g.T.Width.value in
     let xs = c.parts.result.1.now in
     let ns = c.args.self.now in
     let ks = c.args.keep.now in
-    let i = c.in-Some.i in
-    let first = c.in-Some.ensures in
-    let inside = first.within in
-    let long = length_seen v (map f xs) ns c.parts.ensures.numbers in
-    let mapped = length-map xs f in
-    let low : i < length xs = omega arith in
-    let value = value_read f xs i c.index-numbers-i.result low c.index-numbers-i.is in
-    let made : List (Option ℤ) = numbers_of c.kept.valid.items (map f c.kept.values.items) in
-    let rest : List (Option ℤ) = kept_numbers (drop (i + 1) ns) (drop (i + 1) ks) in
-    let item : number_of c.bit.result (f c.index-numbers-i.result) ≡ get_or ns i None =
-    (λ k. number_of (c.bit.ensures k) (value k)) ∙ sym (number_seen v (map f xs) ns c.parts.ensures.numbers i (omega arith)) in (
-      omega arith,
-      c.in_ok-push_place.ensures.tidy,
-      ap (λ ms. ms ++ rest) c.in_ok-push_place.ensures.numbers
-          ∙ ap (λ n. (made ++ n ∷ []) ++ rest) item
-          ∙ kept_step None kept_numbers (λ ks. refl) (λ n ns k ks. refl) ns ks c.requires made c.kept.from i first c.kept.invariant.2,
-    )
+    let known =
+    known_values f c.in_ok-valid.valid.items c.in_ok-values.values.items _ _ _ c.in_ok-valid.ensures.bits (c.len.ensures ∙ c.in_ok-values.values.ok.0)
+    c.in_ok-kept.ensures c.in_ok-values.ensures in
+    let as_many : length (map null_test ns) ≡ length xs =
+    length-map ns null_test ∙ length_seen c.parts.result.0.now (map f xs) ns c.parts.ensures.numbers ∙ length-map xs f in
+    ap length (c.in_ok-hidden.ensures ∙ ap (λ ts. kept_items ts ks) c.in_ok-nulls.ensures)
+    ∙ kept_length (map null_test ns) xs ks as_many
+    ∙ sym (ap length known ∙ length-map (map f (kept_items xs ks)) Some ∙ length-map (kept_items xs ks) f)
 
 pub returns : goal.returns
 returns g c =
+    let f = g.T.Width.value in
+    let known =
+    known_values f c.in_ok-valid.valid.items c.in_ok-values.values.items _ _ _ c.in_ok-valid.ensures.bits (c.len.ensures ∙ c.in_ok-values.values.ok.0)
+    c.in_ok-kept.ensures c.in_ok-values.ensures in
+    let hidden = c.in_ok-hidden.ensures ∙ ap (λ ts. kept_items ts c.args.keep.now) c.in_ok-nulls.ensures in
     c.in_ok-lane.ensures
-    ∙ kept_end None kept_numbers (λ ks. refl) (λ n ns k ks. refl) c.args.self.now c.args.keep.now c.requires
-    (numbers_of c.kept.valid.items (map g.T.Width.value c.kept.values.items)) c.kept.from c.kept.invariant.0 c.in_default.ensures c.kept.invariant.2
+    ∙ (λ k. zip2 hidden_if (known k) (hidden k))
+    ∙ kept_hidden f c.parts.result.0.now c.parts.result.1.now c.args.self.now c.args.keep.now c.parts.ensures.numbers

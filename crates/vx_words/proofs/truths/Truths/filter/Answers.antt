@@ -1,5 +1,6 @@
-use Rattle.std.proofs.Common.{◌+◌, ◌++◌, [], ◌∷◌, List, Option, Bool, drop, None, refl, ◌∙◌, ap, arith}
-use Rattle.vx_words.specs.Truths.{truths_of_words, kept_truths}
+use Rattle.std.proofs.Common.{◌+◌, ◌++◌, List, Option, Bool, drop, None, ◌∙◌, sym, ap, arith}
+use Rattle.std.proofs.lemmas.List.{get_or_default}
+use Rattle.vx_words.specs.Truths.{truths_of_words, kept_items}
 use Rattle.vx_words.proofs.KeptLemmas.{kept_step, kept_end}
 use Rattle.vx_words.proofs.truths.Truths.filter.Goals as goal
 
@@ -30,17 +31,17 @@ kept-preserved c =
     let inside = first.within in
     let few = c.kept.invariant.0 in
     let made : List (Option Bool) = truths_of_words c.kept.valid.items c.kept.values.items c.kept.len in
-    let rest : List (Option Bool) = kept_truths (drop (c.in-Some.i + 1) c.args.self.now) (drop (c.in-Some.i + 1) c.args.keep.now) in (
+    let rest : List (Option Bool) = kept_items (drop (c.in-Some.i + 1) c.args.self.now) (drop (c.in-Some.i + 1) c.args.keep.now) in (
       omega arith,
       omega arith,
       c.in_ok-push_truth.ensures.tidy,
       ap (λ xs. xs ++ rest) c.in_ok-push_truth.ensures.truths
-          ∙ ap (λ t. (made ++ t ∷ []) ++ rest) c.truth_at.ensures
-          ∙ kept_step None kept_truths (λ ks. refl) (λ t ts k ks. refl) c.args.self.now c.args.keep.now c.requires made c.kept.from c.in-Some.i first c.kept.invariant.3,
+          ∙ kept_step c.args.self.now c.args.keep.now c.requires made c.kept.from c.in-Some.i c.truth_at.result first
+          (get_or_default c.args.self.now c.in-Some.i c.truth_at.result None (omega (arith, c.requires)) ∙ sym c.truth_at.ensures) c.kept.invariant.3,
     )
 
 pub returns : goal.returns
 returns c =
     c.of_words.ensures
-    ∙ kept_end None kept_truths (λ ks. refl) (λ t ts k ks. refl) c.args.self.now c.args.keep.now c.requires (truths_of_words c.kept.valid.items c.kept.values.items c.kept.len) c.kept.from
+    ∙ kept_end c.args.self.now c.args.keep.now c.requires (truths_of_words c.kept.valid.items c.kept.values.items c.kept.len) c.kept.from
     c.kept.invariant.1 c.in_default.ensures c.kept.invariant.3
