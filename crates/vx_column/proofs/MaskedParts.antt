@@ -14,7 +14,7 @@ use Rattle.vx_dtype.specs.Structs.{field_of, selected}
 use Rattle.vx_dtype.specs.Values.{Val, null_val, struct_val}
 use Rattle.vx_dtype.specs.Logic.{is_true_val, or3}
 use Rattle.vx_words.specs.Words.{truth_val}
-use Rattle.vx_words.specs.Truths.{is_true, vals_of, kept_truths}
+use Rattle.vx_words.specs.Truths.{is_true, vals_of, kept_items}
 use Rattle.vx_column.specs.Answers.{field_column, found_column}
 use Rattle.vx_column.specs.Columns.{Column, column, kept_rows, masked, zip_rows}
 use Rattle.vx_column.specs.StructColumns.{all_have_rows, found_fields, lengths_agree, made_struct, projected_column, row_members, struct_row, truths_number}
@@ -62,12 +62,12 @@ kept_masked (v ∷ vs) [] ks e = absurd (omega (arith, e))
 kept_masked (v ∷ vs) (m ∷ ms) [] e = refl
 kept_masked (v ∷ vs) (m ∷ ms) (k ∷ ks) e = kept_step (is_true_val k) v m (kept_rows vs ks) (kept_rows ms ks) _ (kept_masked vs ms ks (omega (arith, e)))
 
-pub kept_number : (vs : List Val) (ts ks : List (Option Bool)) → length ts ≡ length vs → length vs ≡ length (vals_of ks) → length (kept_truths ts ks) ≡ length (kept_rows vs (vals_of ks))
+pub kept_number : (vs : List Val) (ts ks : List (Option Bool)) → length ts ≡ length vs → length vs ≡ length (vals_of ks) → length (kept_items ts ks) ≡ length (kept_rows vs (vals_of ks))
 kept_number vs ts ks e k =
     let own : length (vals_of ts) ≡ length (vals_of ks) = length_vals ts ∙ e ∙ k in
-    sym (length_vals (kept_truths ts ks)) ∙ ap length (kept_truths_rows ts ks) ∙ length_kept (vals_of ts) (vals_of ks) own ∙ sym (length_kept vs (vals_of ks) k)
+    sym (length_vals (kept_items ts ks)) ∙ ap length (kept_truths_rows ts ks) ∙ length_kept (vals_of ts) (vals_of ks) own ∙ sym (length_kept vs (vals_of ks) k)
 
-pub kept_masked_column : (c d : Column) (ts ks us : List (Option Bool)) → AreMaskedOf c.ty d ts → zip_rows masked d.rows (vals_of ts) ≡ c.rows → us ≡ kept_truths ts ks → column (with_nullability d.ty Nullable) (zip_rows masked (kept_rows d.rows (vals_of ks)) (vals_of us)) ≡ kept_column (vals_of ks) c
+pub kept_masked_column : (c d : Column) (ts ks us : List (Option Bool)) → AreMaskedOf c.ty d ts → zip_rows masked d.rows (vals_of ts) ≡ c.rows → us ≡ kept_items ts ks → column (with_nullability d.ty Nullable) (zip_rows masked (kept_rows d.rows (vals_of ks)) (vals_of us)) ≡ kept_column (vals_of ks) c
 kept_masked_column c d ts ks us h r e =
     let truths : vals_of us ≡ kept_rows (vals_of ts) (vals_of ks) = ap vals_of e ∙ kept_truths_rows ts ks in
     let rows : zip_rows masked (kept_rows d.rows (vals_of ks)) (vals_of us) ≡ kept_rows c.rows (vals_of ks) =

@@ -15,8 +15,8 @@ use Rattle.vx_dtype.specs.Logic.{is_null3}
 use Rattle.vx_dtype.specs.RawViews.{raw_view}
 use Rattle.vx_dtype.specs.declared.values.ScalarValue.{ScalarValue}
 use Rattle.vx_words.specs.Words.{truth_val}
-use Rattle.vx_words.specs.Truths.{vals_of, is_true, hidden_if}
-use Rattle.vx_numbers.specs.Numbers.{NumberList, number_list, fits_ptype, all_in_range, null_test, kept_numbers}
+use Rattle.vx_words.specs.Truths.{vals_of, is_true, hidden_if, kept_items}
+use Rattle.vx_numbers.specs.Numbers.{NumberList, number_list, fits_ptype, all_in_range, null_test}
 use Rattle.vx_column.specs.RawParts.{raw_number}
 use Rattle.vx_column.specs.Columns.{Column, column, row_at, rows_fit, raws_fit, raw_rows, values_fit, seen, seen_rows, zip_rows, kept_rows, masked}
 use Rattle.vx_column.specs.Answers.{optional_raw}
@@ -156,28 +156,28 @@ vals_cond : (p : PType) (b : Bool) (i : Option ℤ) (is : List (Option ℤ)) →
 vals_cond p true i is = refl
 vals_cond p false i is = refl
 
-kept_numbers_rows : (p : PType) (ns : List (Option ℤ)) (ks : List (Option Bool)) → map (number_val p) (kept_numbers ns ks) ≡ kept_rows (map (number_val p) ns) (vals_of ks)
+kept_numbers_rows : (p : PType) (ns : List (Option ℤ)) (ks : List (Option Bool)) → map (number_val p) (kept_items ns ks) ≡ kept_rows (map (number_val p) ns) (vals_of ks)
 kept_numbers_rows p [] ks = refl
 kept_numbers_rows p (n ∷ ns) [] = refl
 kept_numbers_rows p (n ∷ ns) (k ∷ ks) =
-    vals_cond p (is_true k) n (kept_numbers ns ks) ∙ (λ j. cond (sym (is_true_of k) j) (number_val p n ∷ kept_numbers_rows p ns ks j) (kept_numbers_rows p ns ks j))
+    vals_cond p (is_true k) n (kept_items ns ks) ∙ (λ j. cond (sym (is_true_of k) j) (number_val p n ∷ kept_numbers_rows p ns ks j) (kept_numbers_rows p ns ks j))
 
 fit_cond : (p : PType) (n : Nullability) (b : Bool) (i : Option ℤ) (is : List (Option ℤ)) → number_fits p n i ≡ true → numbers_fit p n is ≡ true → numbers_fit p n (cond b (i ∷ is) is) ≡ true
 fit_cond p n true i is e h = of_both _ _ e h
 fit_cond p n false i is e h = h
 
-kept_numbers_fit : (p : PType) (n : Nullability) (ns : List (Option ℤ)) (ks : List (Option Bool)) → numbers_fit p n ns ≡ true → numbers_fit p n (kept_numbers ns ks) ≡ true
+kept_numbers_fit : (p : PType) (n : Nullability) (ns : List (Option ℤ)) (ks : List (Option Bool)) → numbers_fit p n ns ≡ true → numbers_fit p n (kept_items ns ks) ≡ true
 kept_numbers_fit p n [] ks e = refl
 kept_numbers_fit p n (i ∷ is) [] e = refl
 kept_numbers_fit p n (i ∷ is) (k ∷ ks) e =
     let both = both_of (number_fits p n i) (numbers_fit p n is) e in
-    fit_cond p n (is_true k) i (kept_numbers is ks) both.0 (kept_numbers_fit p n is ks both.1)
+    fit_cond p n (is_true k) i (kept_items is ks) both.0 (kept_numbers_fit p n is ks both.1)
 
-pub kept_numbers_of : (t d : Ty) (ns ms : NumberList) (ks : List (Option Bool)) → d ≡ t → AreNumbersOf t ns → ms ≡ number_list ns.ptype (kept_numbers ns.numbers ks) → AreNumbersOf d ms
+pub kept_numbers_of : (t d : Ty) (ns ms : NumberList) (ks : List (Option Bool)) → d ≡ t → AreNumbersOf t ns → ms ≡ number_list ns.ptype (kept_items ns.numbers ks) → AreNumbersOf d ms
 kept_numbers_of t d ns ms ks e h k =
-    numbers_are d ns.ptype (nullability_of t) (kept_numbers ns.numbers ks) ms (e ∙ h.kind) k (kept_numbers_fit ns.ptype (nullability_of t) ns.numbers ks h.fit)
+    numbers_are d ns.ptype (nullability_of t) (kept_items ns.numbers ks) ms (e ∙ h.kind) k (kept_numbers_fit ns.ptype (nullability_of t) ns.numbers ks h.fit)
 
-pub kept_numbers_column : (c : Column) (d : Ty) (ns ms : NumberList) (ks : List (Option Bool)) → d ≡ c.ty → numbers_vals ns ≡ c.rows → ms ≡ number_list ns.ptype (kept_numbers ns.numbers ks) → column d (numbers_vals ms) ≡ kept_column (vals_of ks) c
+pub kept_numbers_column : (c : Column) (d : Ty) (ns ms : NumberList) (ks : List (Option Bool)) → d ≡ c.ty → numbers_vals ns ≡ c.rows → ms ≡ number_list ns.ptype (kept_items ns.numbers ks) → column d (numbers_vals ms) ≡ kept_column (vals_of ks) c
 kept_numbers_column c d ns ms ks e r k =
     let rows : numbers_vals ms ≡ kept_rows c.rows (vals_of ks) = ap numbers_vals k ∙ kept_numbers_rows ns.ptype ns.numbers ks ∙ ap (λ vs. kept_rows vs (vals_of ks)) r in
     λ j. column (e j) (rows j)

@@ -15,7 +15,7 @@ use Rattle.vx_dtype.specs.Logic.{not3, is_null3, is_true_val}
 use Rattle.vx_dtype.specs.RawViews.{raw_view}
 use Rattle.vx_dtype.specs.declared.values.ScalarValue.{ScalarValue}
 use Rattle.vx_words.specs.Words.{truth_val}
-use Rattle.vx_words.specs.Truths.{vals_of, is_true, hidden_if, kept_truths}
+use Rattle.vx_words.specs.Truths.{vals_of, is_true, hidden_if, kept_items}
 use Rattle.vx_column.specs.RawParts.{raw_truth, truth_fits, is_raw_null}
 use Rattle.vx_column.specs.Columns.{Column, column, row_at, rows_fit, raws_fit, raw_rows, values_fit, seen, seen_rows, zip_rows, kept_rows, masked, true_count}
 use Rattle.vx_column.specs.Answers.{optional_raw}
@@ -223,22 +223,22 @@ vals_cond : (b : Bool) (t : Option Bool) (ts : List (Option Bool)) → vals_of (
 vals_cond true t ts = refl
 vals_cond false t ts = refl
 
-pub kept_truths_rows : (ts ks : List (Option Bool)) → vals_of (kept_truths ts ks) ≡ kept_rows (vals_of ts) (vals_of ks)
+pub kept_truths_rows : (ts ks : List (Option Bool)) → vals_of (kept_items ts ks) ≡ kept_rows (vals_of ts) (vals_of ks)
 kept_truths_rows [] ks = refl
 kept_truths_rows (t ∷ ts) [] = refl
 kept_truths_rows (t ∷ ts) (k ∷ ks) =
-    vals_cond (is_true k) t (kept_truths ts ks) ∙ (λ j. cond (sym (is_true_of k) j) (truth_val t ∷ kept_truths_rows ts ks j) (kept_truths_rows ts ks j))
+    vals_cond (is_true k) t (kept_items ts ks) ∙ (λ j. cond (sym (is_true_of k) j) (truth_val t ∷ kept_truths_rows ts ks j) (kept_truths_rows ts ks j))
 
 fit_cond : (n : Nullability) (b : Bool) (t : Option Bool) (ts : List (Option Bool)) → truth_fits n t ≡ true → truths_fit n ts ≡ true → truths_fit n (cond b (t ∷ ts) ts) ≡ true
 fit_cond n true t ts e h = of_both _ _ e h
 fit_cond n false t ts e h = h
 
-pub kept_truths_fit : (n : Nullability) (ts ks : List (Option Bool)) → truths_fit n ts ≡ true → truths_fit n (kept_truths ts ks) ≡ true
+pub kept_truths_fit : (n : Nullability) (ts ks : List (Option Bool)) → truths_fit n ts ≡ true → truths_fit n (kept_items ts ks) ≡ true
 kept_truths_fit n [] ks e = refl
 kept_truths_fit n (t ∷ ts) [] e = refl
 kept_truths_fit n (t ∷ ts) (k ∷ ks) e =
     let both = both_of (truth_fits n t) (truths_fit n ts) e in
-    fit_cond n (is_true k) t (kept_truths ts ks) both.0 (kept_truths_fit n ts ks both.1)
+    fit_cond n (is_true k) t (kept_items ts ks) both.0 (kept_truths_fit n ts ks both.1)
 
 -- what a loop over two columns has made of them with one row more
 pub zip_truths_step : (rule : Val → Val → Val) (l r : Column) (ts us : List (Option Bool)) (i : ℕ) (t : Option Bool) → i < length l.rows → length l.rows ≡ length r.rows → us ≡ ts ++ t ∷ [] → truth_val t ≡ rule (row_at l i) (row_at r i) → vals_of ts ≡ zip_rows rule (take i l.rows) (take i r.rows) → vals_of us ≡ zip_rows rule (take (i + 1) l.rows) (take (i + 1) r.rows)
@@ -298,13 +298,13 @@ zip_made_step rule w us vs ms ns i m h k e v before =
     rw (e, seen_rows_append w ms m, before, v) (sym more)
 
 -- truths that are kept are those of the type, and of the column of what is kept
-pub kept_truths_of : (t d : Ty) (ts ks us : List (Option Bool)) → d ≡ t → AreTruthsOf t ts → us ≡ kept_truths ts ks → AreTruthsOf d us
+pub kept_truths_of : (t d : Ty) (ts ks us : List (Option Bool)) → d ≡ t → AreTruthsOf t ts → us ≡ kept_items ts ks → AreTruthsOf d us
 kept_truths_of t d ts ks us e h k = record {
   kind = ap is_bool_ty e ∙ h.kind;
   fit = (λ j. truths_fit (nullability_of (e j)) (k j)) ∙ kept_truths_fit (nullability_of t) ts ks h.fit;
 }
 
-pub kept_truths_column : (c : Column) (d : Ty) (ts ks us : List (Option Bool)) → d ≡ c.ty → vals_of ts ≡ c.rows → us ≡ kept_truths ts ks → column d (vals_of us) ≡ kept_column (vals_of ks) c
+pub kept_truths_column : (c : Column) (d : Ty) (ts ks us : List (Option Bool)) → d ≡ c.ty → vals_of ts ≡ c.rows → us ≡ kept_items ts ks → column d (vals_of us) ≡ kept_column (vals_of ks) c
 kept_truths_column c d ts ks us e r k =
     let rows : vals_of us ≡ kept_rows c.rows (vals_of ks) = ap vals_of k ∙ kept_truths_rows ts ks ∙ ap (λ vs. kept_rows vs (vals_of ks)) r in
     λ j. column (e j) (rows j)

@@ -1,7 +1,9 @@
 // The parts that a column is kept in.
-ghost use Rattle.std.specs.Prelude.{◌≡◌};
+ghost use Rattle.std.specs.Prelude.{◌≡◌, ◌<◌, None, length, slice_index_or};
+ghost use Rattle.vx_words.specs.Truths.{is_true};
 
 use crate::columns::ColumnRef;
+use crate::logic::is_true;
 use std::rc::Rc;
 use vx_dtype::ScalarValue;
 use vx_numbers::Numbers;
@@ -67,4 +69,12 @@ pub(crate) fn column_in(column: &Rc<ColumnRef>) -> &ColumnRef
     ensures { result.now ≡ column.now.value }
 {
     column
+}
+
+/// Whether the truth of a row is true, by which a row is null.
+pub(crate) fn is_hidden(nulls: &Rc<Truths>, i: usize) -> bool
+    requires { i < length nulls.now.value }
+    ensures { result ≡ is_true (slice_index_or nulls.now.value i None) }
+{
+    is_true(truths_in(nulls).truth_at(i))
 }

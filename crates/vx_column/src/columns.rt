@@ -13,9 +13,9 @@ ghost use Rattle.vx_column.specs.Columns.{Column, column, row_at, rows_fit, valu
 ghost use Rattle.vx_column.specs.Cells.{cell_rows, numbers_vals, structs_of, AreFieldsOf, AreNumbersOf, ArePartsOf, AreTruthsOf, masks_apart};
 ghost use Rattle.vx_words.specs.Truths.{vals_of};
 
-use crate::cells::{Cells, numbers_in, truths_in, values_in};
+use crate::cells::{Cells, is_hidden, numbers_in, truths_in, values_in};
 use crate::errors::ColumnError;
-use crate::logic::{is_null_value, is_true, truths_of_values};
+use crate::logic::{is_null_value, truths_of_values};
 use crate::numbers::numbers_of_values;
 use crate::reading::made_at;
 use std::alloc::{AllocError, Global};
@@ -236,7 +236,7 @@ impl ColumnRef {
             Cells::Truths(truths) => truths_in(truths).truth_at(i).is_some(),
             Cells::Numbers(numbers) => numbers_in(numbers).number_at(i).is_some(),
             Cells::Columns { .. } => true,
-            Cells::Masked { nulls, .. } => !is_true(truths_in(nulls).truth_at(i)),
+            Cells::Masked { nulls, .. } => !is_hidden(nulls, i),
         }
     }
 

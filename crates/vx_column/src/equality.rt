@@ -13,10 +13,10 @@ ghost use Rattle.vx_column.specs.ColumnEqual.{column_eq, column_feed, val_feed};
 ghost use Rattle.vx_column.specs.ColumnEqualLaws.{column_eq_equiv, column_decides};
 ghost use Rattle.vx_column.specs.Cells.{HasFit, HasAt, SameAt, AreStructsOf, fields_feed, masks_apart};
 
-use crate::cells::{Cells, column_in, columns_in, numbers_in, truths_in, values_in};
+use crate::cells::{Cells, column_in, columns_in, is_hidden, numbers_in, truths_in, values_in};
 use crate::columns::ColumnRef;
 use crate::fields::parts_of;
-use crate::logic::{is_null_value, is_true, null, of_truth};
+use crate::logic::{is_null_value, null, of_truth};
 use crate::numbers::of_number;
 use std::hash::{Hash, Hasher};
 use vx_dtype::ScalarValue;
@@ -47,7 +47,7 @@ fn has_at(column: &ColumnRef, i: usize, value: &ScalarValue) -> bool
             None => false,
         },
         Cells::Masked { column, nulls } => {
-            if is_true(truths_in(nulls).truth_at(i)) {
+            if is_hidden(nulls, i) {
                 return is_null_value(value);
             }
             !is_null_value(value) && has_at(column_in(column), i, value)
@@ -94,7 +94,7 @@ fn same_at(left: &ColumnRef, right: &ColumnRef, i: usize) -> bool
         }
         Cells::Columns { fields, .. } => has_struct(right, left, columns_in(fields), i),
         Cells::Masked { column, nulls } => {
-            if is_true(truths_in(nulls).truth_at(i)) {
+            if is_hidden(nulls, i) {
                 return !right.is_valid(i);
             }
             has_inner(right, column_in(column), i)
@@ -157,7 +157,7 @@ fn has_inner(column: &ColumnRef, inner: &ColumnRef, i: usize) -> bool
         Cells::Masked {
             column: other,
             nulls,
-        } => { !is_true(truths_in(nulls).truth_at(i)) && same_at(inner, column_in(other), i) }
+        } => { !is_hidden(nulls, i) && same_at(inner, column_in(other), i) }
         _ => unreachable!(),
     }
 }
@@ -215,7 +215,7 @@ fn feed_at<H: Hasher>(column: &ColumnRef, i: usize, state: &mut H)
             feed_fields(columns_in(fields), i, state);
         }
         Cells::Masked { column, nulls } => {
-            if is_true(truths_in(nulls).truth_at(i)) {
+            if is_hidden(nulls, i) {
                 null().hash(state);
             } else {
                 feed_at(column_in(column), i, state);

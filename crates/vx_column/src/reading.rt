@@ -18,10 +18,10 @@ ghost use Rattle.vx_column.specs.Totals.{number_val};
 ghost use Rattle.vx_words.specs.Truths.{vals_of};
 ghost use Rattle.vx_words.specs.Words.{truth_val};
 
-use crate::cells::{Cells, column_in, columns_in, numbers_in, truths_in, values_in};
+use crate::cells::{Cells, column_in, columns_in, is_hidden, numbers_in, truths_in, values_in};
 use crate::columns::ColumnRef;
 use crate::likes::text_of;
-use crate::logic::{is_true, null, of_truth, truth_of};
+use crate::logic::{null, of_truth, truth_of};
 use crate::numbers::{number_of, of_number};
 use crate::structs::struct_of;
 use std::alloc::Global;
@@ -66,7 +66,7 @@ impl ColumnRef {
             Cells::Numbers(numbers) => RowValue::Made(of_number(numbers_in(numbers).number_at(i))),
             Cells::Columns { .. } => unreachable!(),
             Cells::Masked { column, nulls } => {
-                if is_true(truths_in(nulls).truth_at(i)) {
+                if is_hidden(nulls, i) {
                     return RowValue::Made(null());
                 }
                 RowValue::Kept(column_in(column).kept_at(i))
@@ -106,7 +106,7 @@ impl ColumnRef {
                 text_of(&values[i])
             }
             Cells::Masked { column, nulls } => {
-                if is_true(truths_in(nulls).truth_at(i)) {
+                if is_hidden(nulls, i) {
                     return None;
                 }
                 text_of(column_in(column).kept_at(i))
@@ -246,7 +246,7 @@ pub(crate) fn made_at(alloc: Global, column: &ColumnRef, i: usize) -> Mem<Scalar
         Cells::Numbers(numbers) => Ok(of_number(numbers_in(numbers).number_at(i))),
         Cells::Columns { fields, .. } => struct_of(alloc, row_of(alloc, columns_in(fields), i)?),
         Cells::Masked { column, nulls } => {
-            if is_true(truths_in(nulls).truth_at(i)) {
+            if is_hidden(nulls, i) {
                 return Ok(null());
             }
             made_at(alloc, column_in(column), i)

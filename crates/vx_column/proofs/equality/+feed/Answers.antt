@@ -78,20 +78,20 @@ feed_at-returns-in-Numbers g t c =
     let stands = number_stands c.args.column.now c.in-Numbers.numbers.value c.args.i c.number_at.result c.of_number.result parts rows read c.requires c.of_number.ensures.value c.of_number.ensures.fit in
     c.hash-in-Numbers.ensures ∙ ap (fold g.H.Hasher.write c.args.state.now) (kept_fed c.args.column.now c.args.i c.of_number.result stands.0 stands.1)
 
-pub feed_at-truth_at-requires-in-Masked : goal.feed_at-truth_at-requires-in-Masked
-feed_at-truth_at-requires-in-Masked g t c =
+pub feed_at-is_hidden-requires : goal.feed_at-is_hidden-requires
+feed_at-is_hidden-requires g t c =
     let rows : zip_rows masked c.in-Masked.column.value.rows (vals_of c.in-Masked.nulls.value) ≡ c.args.column.now.rows = ap (cell_rows c.args.column.now.ty) (sym c.in-Masked.is) ∙ c.cells.ensures.rows in
     let parts : AreMaskedOf c.args.column.now.ty c.in-Masked.column.value c.in-Masked.nulls.value = subst (ArePartsOf c.args.column.now.ty) c.in-Masked.is c.cells.ensures.parts in
-    omega (arith, masked_truths c.args.column.now c.in-Masked.column.value c.in-Masked.nulls.value parts rows, ap length c.truths_in-in-Masked.ensures, c.requires)
+    omega (arith, masked_truths c.args.column.now c.in-Masked.column.value c.in-Masked.nulls.value parts rows, c.requires)
 
-pub feed_at-returns-then-is_true : goal.feed_at-returns-then-is_true
-feed_at-returns-then-is_true g t c =
+pub feed_at-returns-then-is_hidden : goal.feed_at-returns-then-is_hidden
+feed_at-returns-then-is_hidden g t c =
     let rows : zip_rows masked c.in-Masked.column.value.rows (vals_of c.in-Masked.nulls.value) ≡ c.args.column.now.rows = ap (cell_rows c.args.column.now.ty) (sym c.in-Masked.is) ∙ c.cells.ensures.rows in
     let parts : AreMaskedOf c.args.column.now.ty c.in-Masked.column.value c.in-Masked.nulls.value = subst (ArePartsOf c.args.column.now.ty) c.in-Masked.is c.cells.ensures.parts in
-    let told : c.is_true.result ≡ is_true (get_or c.in-Masked.nulls.value c.args.i None) = c.is_true.ensures ∙ ap is_true c.truth_at-in-Masked.ensures ∙ ap (λ ts. is_true (get_or ts c.args.i None)) c.truths_in-in-Masked.ensures in
-    let null = masked_null c.args.column.now c.in-Masked.column.value c.in-Masked.nulls.value c.args.i _ parts rows c.requires told c.if-is_true.true in
+    let told : c.is_hidden.result ≡ is_true (get_or c.in-Masked.nulls.value c.args.i None) = c.is_hidden.ensures in
+    let null = masked_null c.args.column.now c.in-Masked.column.value c.in-Masked.nulls.value c.args.i _ parts rows c.requires told c.if-is_hidden.true in
     let fit = c.null.ensures.fit c.args.column.now.ty (masked_nullable c.args.column.now.ty c.in-Masked.column.value c.in-Masked.nulls.value parts) in
-    c.hash-then-is_true.ensures ∙ ap (fold g.H.Hasher.write c.args.state.now) (kept_fed c.args.column.now c.args.i c.null.result fit (c.null.ensures.value c.args.column.now.ty ∙ sym null))
+    c.hash-then-is_hidden.ensures ∙ ap (fold g.H.Hasher.write c.args.state.now) (kept_fed c.args.column.now c.args.i c.null.result fit (c.null.ensures.value c.args.column.now.ty ∙ sym null))
 
 pub feed_at-feed_at-requires : goal.feed_at-feed_at-requires
 feed_at-feed_at-requires g t c κs inside =
@@ -102,10 +102,10 @@ feed_at-feed_at-requires g t c κs inside =
     let row : c.args.i < length c.column_in.result.now.rows = subst (λ (d : Column). c.args.i < length d.rows) (sym same) (omega (arith, masked_length c.args.column.now c.in-Masked.column.value c.in-Masked.nulls.value parts rows, c.requires)) in
     (omega (arith, below, c.decreases), search (rules, row))
 
-pub feed_at-returns-else-is_true : goal.feed_at-returns-else-is_true
-feed_at-returns-else-is_true g t c =
+pub feed_at-returns-else-is_hidden : goal.feed_at-returns-else-is_hidden
+feed_at-returns-else-is_hidden g t c =
     let rows : zip_rows masked c.in-Masked.column.value.rows (vals_of c.in-Masked.nulls.value) ≡ c.args.column.now.rows = ap (cell_rows c.args.column.now.ty) (sym c.in-Masked.is) ∙ c.cells.ensures.rows in
     let parts : AreMaskedOf c.args.column.now.ty c.in-Masked.column.value c.in-Masked.nulls.value = subst (ArePartsOf c.args.column.now.ty) c.in-Masked.is c.cells.ensures.parts in
-    let told : c.is_true.result ≡ is_true (get_or c.in-Masked.nulls.value c.args.i None) = c.is_true.ensures ∙ ap is_true c.truth_at-in-Masked.ensures ∙ ap (λ ts. is_true (get_or ts c.args.i None)) c.truths_in-in-Masked.ensures in
-    let own = masked_own c.args.column.now c.in-Masked.column.value c.in-Masked.nulls.value c.args.i _ parts rows c.requires told c.if-is_true.false in
+    let told : c.is_hidden.result ≡ is_true (get_or c.in-Masked.nulls.value c.args.i None) = c.is_hidden.ensures in
+    let own = masked_own c.args.column.now c.in-Masked.column.value c.in-Masked.nulls.value c.args.i _ parts rows c.requires told c.if-is_hidden.false in
     c.feed_at.ensures ∙ ap (λ v. fold g.H.Hasher.write c.args.state.now (val_feed v)) (ap (λ (d : Column). row_at d c.args.i) c.column_in.ensures ∙ sym own)

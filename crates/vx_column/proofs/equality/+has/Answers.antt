@@ -118,18 +118,18 @@ has_at-returns-in-Numbers t c =
     let same : Decides c.eq-in-Numbers.result (raw_view c.of_number-own.result ≡ raw_view c.args.value.now) = rw c.eq-in-Numbers.ensures (raw_decides (raw_view c.of_number-own.result) (raw_view c.args.value.now)) in
     has_kept c.args.column.now c.args.i c.of_number-own.result c.args.value.now _ stands.0 c.requires.fit stands.1 same
 
-pub has_at-truth_at-requires-in-Masked : goal.has_at-truth_at-requires-in-Masked
-has_at-truth_at-requires-in-Masked t c =
+pub has_at-is_hidden-requires : goal.has_at-is_hidden-requires
+has_at-is_hidden-requires t c =
     let rows : zip_rows masked c.in-Masked.column.value.rows (vals_of c.in-Masked.nulls.value) ≡ c.args.column.now.rows = ap (cell_rows c.args.column.now.ty) (sym c.in-Masked.is) ∙ c.cells.ensures.rows in
     let parts : AreMaskedOf c.args.column.now.ty c.in-Masked.column.value c.in-Masked.nulls.value = subst (ArePartsOf c.args.column.now.ty) c.in-Masked.is c.cells.ensures.parts in
-    omega (arith, masked_truths c.args.column.now c.in-Masked.column.value c.in-Masked.nulls.value parts rows, ap length c.truths_in-in-Masked.ensures, c.requires.row)
+    omega (arith, masked_truths c.args.column.now c.in-Masked.column.value c.in-Masked.nulls.value parts rows, c.requires.row)
 
-pub has_at-returns-then-is_true : goal.has_at-returns-then-is_true
-has_at-returns-then-is_true t c =
+pub has_at-returns-then-is_hidden : goal.has_at-returns-then-is_hidden
+has_at-returns-then-is_hidden t c =
     let rows : zip_rows masked c.in-Masked.column.value.rows (vals_of c.in-Masked.nulls.value) ≡ c.args.column.now.rows = ap (cell_rows c.args.column.now.ty) (sym c.in-Masked.is) ∙ c.cells.ensures.rows in
     let parts : AreMaskedOf c.args.column.now.ty c.in-Masked.column.value c.in-Masked.nulls.value = subst (ArePartsOf c.args.column.now.ty) c.in-Masked.is c.cells.ensures.parts in
-    let told : c.is_true.result ≡ is_true (get_or c.in-Masked.nulls.value c.args.i None) = c.is_true.ensures ∙ ap is_true c.truth_at-in-Masked.ensures ∙ ap (λ ts. is_true (get_or ts c.args.i None)) c.truths_in-in-Masked.ensures in
-    has_null c.args.column.now c.args.i c.args.value.now _ c.requires.fit (masked_null c.args.column.now c.in-Masked.column.value c.in-Masked.nulls.value c.args.i _ parts rows c.requires.row told c.if-is_true.true) c.is_null_value.ensures
+    let told : c.is_hidden.result ≡ is_true (get_or c.in-Masked.nulls.value c.args.i None) = c.is_hidden.ensures in
+    has_null c.args.column.now c.args.i c.args.value.now _ c.requires.fit (masked_null c.args.column.now c.in-Masked.column.value c.in-Masked.nulls.value c.args.i _ parts rows c.requires.row told c.if-is_hidden.true) c.is_null_value.ensures
 
 pub has_at-has_at-requires : goal.has_at-has_at-requires
 has_at-has_at-requires t c =
@@ -149,14 +149,14 @@ pub has_at-returns-then-not-is_null_value : goal.has_at-returns-then-not-is_null
 has_at-returns-then-not-is_null_value t c =
     let rows : zip_rows masked c.in-Masked.column.value.rows (vals_of c.in-Masked.nulls.value) ≡ c.args.column.now.rows = ap (cell_rows c.args.column.now.ty) (sym c.in-Masked.is) ∙ c.cells.ensures.rows in
     let parts : AreMaskedOf c.args.column.now.ty c.in-Masked.column.value c.in-Masked.nulls.value = subst (ArePartsOf c.args.column.now.ty) c.in-Masked.is c.cells.ensures.parts in
-    let told : c.is_true.result ≡ is_true (get_or c.in-Masked.nulls.value c.args.i None) = c.is_true.ensures ∙ ap is_true c.truth_at-in-Masked.ensures ∙ ap (λ ts. is_true (get_or ts c.args.i None)) c.truths_in-in-Masked.ensures in
-    has_within c.args.column.now c.in-Masked.column.value c.args.i c.args.value.now _ parts.whole (masked_own c.args.column.now c.in-Masked.column.value c.in-Masked.nulls.value c.args.i _ parts rows c.requires.row told c.if-is_true.false) (subst (λ (d : Column). Decides c.has_at.result (HasAt c.args.i d c.args.value.now)) c.column_in.ensures c.has_at.ensures)
+    let told : c.is_hidden.result ≡ is_true (get_or c.in-Masked.nulls.value c.args.i None) = c.is_hidden.ensures in
+    has_within c.args.column.now c.in-Masked.column.value c.args.i c.args.value.now _ parts.whole (masked_own c.args.column.now c.in-Masked.column.value c.in-Masked.nulls.value c.args.i _ parts rows c.requires.row told c.if-is_hidden.false) (subst (λ (d : Column). Decides c.has_at.result (HasAt c.args.i d c.args.value.now)) c.column_in.ensures c.has_at.ensures)
 
 pub has_at-returns-else-not-is_null_value : goal.has_at-returns-else-not-is_null_value
 has_at-returns-else-not-is_null_value t c =
     let rows : zip_rows masked c.in-Masked.column.value.rows (vals_of c.in-Masked.nulls.value) ≡ c.args.column.now.rows = ap (cell_rows c.args.column.now.ty) (sym c.in-Masked.is) ∙ c.cells.ensures.rows in
     let parts : AreMaskedOf c.args.column.now.ty c.in-Masked.column.value c.in-Masked.nulls.value = subst (ArePartsOf c.args.column.now.ty) c.in-Masked.is c.cells.ensures.parts in
-    let told : c.is_true.result ≡ is_true (get_or c.in-Masked.nulls.value c.args.i None) = c.is_true.ensures ∙ ap is_true c.truth_at-in-Masked.ensures ∙ ap (λ ts. is_true (get_or ts c.args.i None)) c.truths_in-in-Masked.ensures in
+    let told : c.is_hidden.result ≡ is_true (get_or c.in-Masked.nulls.value c.args.i None) = c.is_hidden.ensures in
     let within : c.args.i < length c.in-Masked.column.value.rows = omega (arith, masked_length c.args.column.now c.in-Masked.column.value c.in-Masked.nulls.value parts rows, c.requires.row) in
-    let own = masked_own c.args.column.now c.in-Masked.column.value c.in-Masked.nulls.value c.args.i _ parts rows c.requires.row told c.if-is_true.false in
+    let own = masked_own c.args.column.now c.in-Masked.column.value c.in-Masked.nulls.value c.args.i _ parts rows c.requires.row told c.if-is_hidden.false in
     has_no_null c.args.column.now c.in-Masked.column.value c.args.i c.args.value.now _ parts.apart parts.fit within own c.requires.fit c.is_null_value-in-Masked.ensures c.if-not-is_null_value.false

@@ -67,18 +67,18 @@ same_at-has_struct-requires t c =
     let kept = subst (AreStructsOf c.args.left.now) (sym c.columns_in.ensures) (kept_structs_of c.args.left.now c.in-Columns.fields.value.items c.in-Columns.len parts rows) in
     (omega (arith, below, c.decreases), (c.requires.types, (c.requires.right, (c.requires.left, kept))))
 
-pub same_at-truth_at-requires-in-Masked : goal.same_at-truth_at-requires-in-Masked
-same_at-truth_at-requires-in-Masked t c =
+pub same_at-is_hidden-requires : goal.same_at-is_hidden-requires
+same_at-is_hidden-requires t c =
     let rows : zip_rows masked c.in-Masked.column.value.rows (vals_of c.in-Masked.nulls.value) ≡ c.args.left.now.rows = ap (cell_rows c.args.left.now.ty) (sym c.in-Masked.is) ∙ c.cells.ensures.rows in
     let parts : AreMaskedOf c.args.left.now.ty c.in-Masked.column.value c.in-Masked.nulls.value = subst (ArePartsOf c.args.left.now.ty) c.in-Masked.is c.cells.ensures.parts in
-    omega (arith, masked_truths c.args.left.now c.in-Masked.column.value c.in-Masked.nulls.value parts rows, ap length c.truths_in-in-Masked.ensures, c.requires.left)
+    omega (arith, masked_truths c.args.left.now c.in-Masked.column.value c.in-Masked.nulls.value parts rows, c.requires.left)
 
-pub same_at-returns-then-is_true : goal.same_at-returns-then-is_true
-same_at-returns-then-is_true t c =
+pub same_at-returns-then-is_hidden : goal.same_at-returns-then-is_hidden
+same_at-returns-then-is_hidden t c =
     let rows : zip_rows masked c.in-Masked.column.value.rows (vals_of c.in-Masked.nulls.value) ≡ c.args.left.now.rows = ap (cell_rows c.args.left.now.ty) (sym c.in-Masked.is) ∙ c.cells.ensures.rows in
     let parts : AreMaskedOf c.args.left.now.ty c.in-Masked.column.value c.in-Masked.nulls.value = subst (ArePartsOf c.args.left.now.ty) c.in-Masked.is c.cells.ensures.parts in
-    let told : c.is_true.result ≡ is_true (get_or c.in-Masked.nulls.value c.args.i None) = c.is_true.ensures ∙ ap is_true c.truth_at-in-Masked.ensures ∙ ap (λ ts. is_true (get_or ts c.args.i None)) c.truths_in-in-Masked.ensures in
-    same_null c.args.left.now c.args.right.now c.args.i _ (masked_null c.args.left.now c.in-Masked.column.value c.in-Masked.nulls.value c.args.i _ parts rows c.requires.left told c.if-is_true.true) c.is_valid.ensures
+    let told : c.is_hidden.result ≡ is_true (get_or c.in-Masked.nulls.value c.args.i None) = c.is_hidden.ensures in
+    same_null c.args.left.now c.args.right.now c.args.i _ (masked_null c.args.left.now c.in-Masked.column.value c.in-Masked.nulls.value c.args.i _ parts rows c.requires.left told c.if-is_hidden.true) c.is_valid.ensures
 
 pub same_at-has_inner-requires : goal.same_at-has_inner-requires
 same_at-has_inner-requires t c =
@@ -100,12 +100,12 @@ same_at-has_inner-requires t c =
       ),
     )
 
-pub same_at-returns-else-is_true : goal.same_at-returns-else-is_true
-same_at-returns-else-is_true t c =
+pub same_at-returns-else-is_hidden : goal.same_at-returns-else-is_hidden
+same_at-returns-else-is_hidden t c =
     let rows : zip_rows masked c.in-Masked.column.value.rows (vals_of c.in-Masked.nulls.value) ≡ c.args.left.now.rows = ap (cell_rows c.args.left.now.ty) (sym c.in-Masked.is) ∙ c.cells.ensures.rows in
     let parts : AreMaskedOf c.args.left.now.ty c.in-Masked.column.value c.in-Masked.nulls.value = subst (ArePartsOf c.args.left.now.ty) c.in-Masked.is c.cells.ensures.parts in
-    let told : c.is_true.result ≡ is_true (get_or c.in-Masked.nulls.value c.args.i None) = c.is_true.ensures ∙ ap is_true c.truth_at-in-Masked.ensures ∙ ap (λ ts. is_true (get_or ts c.args.i None)) c.truths_in-in-Masked.ensures in
-    same_within c.args.left.now c.in-Masked.column.value c.args.right.now c.args.i _ (masked_own c.args.left.now c.in-Masked.column.value c.in-Masked.nulls.value c.args.i _ parts rows c.requires.left told c.if-is_true.false) (subst (λ (d : Column). Decides c.has_inner.result (SameAt c.args.i d c.args.right.now)) c.column_in.ensures c.has_inner.ensures)
+    let told : c.is_hidden.result ≡ is_true (get_or c.in-Masked.nulls.value c.args.i None) = c.is_hidden.ensures in
+    same_within c.args.left.now c.in-Masked.column.value c.args.right.now c.args.i _ (masked_own c.args.left.now c.in-Masked.column.value c.in-Masked.nulls.value c.args.i _ parts rows c.requires.left told c.if-is_hidden.false) (subst (λ (d : Column). Decides c.has_inner.result (SameAt c.args.i d c.args.right.now)) c.column_in.ensures c.has_inner.ensures)
 
 pub has_struct-has_at-requires-in-Rows-clause-fit : goal.has_struct-has_at-requires-in-Rows-clause-fit
 has_struct-has_at-requires-in-Rows-clause-fit t c =
@@ -206,11 +206,11 @@ has_inner-returns-else-not-is_null_value t c =
     let null = null_kept c.args.column.now c.args.i c.in-Constant.value _ fit (constant_row c.args.column.now _ _ _ rows c.requires.column) c.is_null_value.ensures c.if-not-is_null_value.false in
     within_no_null c.args.column.now c.args.inner.now c.args.i _ c.requires.apart c.requires.fit c.requires.inner null c.if-not-is_null_value.false
 
-pub has_inner-truth_at-requires : goal.has_inner-truth_at-requires
-has_inner-truth_at-requires t c =
+pub has_inner-is_hidden-requires : goal.has_inner-is_hidden-requires
+has_inner-is_hidden-requires t c =
     let rows : zip_rows masked c.in-Masked.other.value.rows (vals_of c.in-Masked.nulls.value) ≡ c.args.column.now.rows = ap (cell_rows c.args.column.now.ty) (sym c.in-Masked.is) ∙ c.cells.ensures.rows in
     let parts : AreMaskedOf c.args.column.now.ty c.in-Masked.other.value c.in-Masked.nulls.value = subst (ArePartsOf c.args.column.now.ty) c.in-Masked.is c.cells.ensures.parts in
-    omega (arith, masked_truths c.args.column.now c.in-Masked.other.value c.in-Masked.nulls.value parts rows, ap length c.truths_in.ensures, c.requires.column)
+    omega (arith, masked_truths c.args.column.now c.in-Masked.other.value c.in-Masked.nulls.value parts rows, c.requires.column)
 
 pub has_inner-same_at-requires : goal.has_inner-same_at-requires
 has_inner-same_at-requires t c =
@@ -223,18 +223,18 @@ has_inner-same_at-requires t c =
       (types ∙ ap (λ (d : Column). d.ty) (sym same), (c.requires.inner, subst (λ (d : Column). c.args.i < length d.rows) (sym same) within)),
     )
 
-pub has_inner-returns-then-not-is_true : goal.has_inner-returns-then-not-is_true
-has_inner-returns-then-not-is_true t c =
+pub has_inner-returns-then-not-is_hidden : goal.has_inner-returns-then-not-is_hidden
+has_inner-returns-then-not-is_hidden t c =
     let rows : zip_rows masked c.in-Masked.other.value.rows (vals_of c.in-Masked.nulls.value) ≡ c.args.column.now.rows = ap (cell_rows c.args.column.now.ty) (sym c.in-Masked.is) ∙ c.cells.ensures.rows in
     let parts : AreMaskedOf c.args.column.now.ty c.in-Masked.other.value c.in-Masked.nulls.value = subst (ArePartsOf c.args.column.now.ty) c.in-Masked.is c.cells.ensures.parts in
-    let told : c.is_true.result ≡ is_true (get_or c.in-Masked.nulls.value c.args.i None) = c.is_true.ensures ∙ ap is_true c.truth_at.ensures ∙ ap (λ ts. is_true (get_or ts c.args.i None)) c.truths_in.ensures in
-    let own = masked_own c.args.column.now c.in-Masked.other.value c.in-Masked.nulls.value c.args.i _ parts rows c.requires.column told c.if-not-is_true.true in
+    let told : c.is_hidden.result ≡ is_true (get_or c.in-Masked.nulls.value c.args.i None) = c.is_hidden.ensures in
+    let own = masked_own c.args.column.now c.in-Masked.other.value c.in-Masked.nulls.value c.args.i _ parts rows c.requires.column told c.if-not-is_hidden.true in
     within_same c.args.column.now c.in-Masked.other.value c.args.inner.now c.args.i _ own (subst (λ (d : Column). Decides c.same_at.result (SameAt c.args.i c.args.inner.now d)) c.column_in.ensures c.same_at.ensures)
 
-pub has_inner-returns-else-not-is_true : goal.has_inner-returns-else-not-is_true
-has_inner-returns-else-not-is_true t c =
+pub has_inner-returns-else-not-is_hidden : goal.has_inner-returns-else-not-is_hidden
+has_inner-returns-else-not-is_hidden t c =
     let rows : zip_rows masked c.in-Masked.other.value.rows (vals_of c.in-Masked.nulls.value) ≡ c.args.column.now.rows = ap (cell_rows c.args.column.now.ty) (sym c.in-Masked.is) ∙ c.cells.ensures.rows in
     let parts : AreMaskedOf c.args.column.now.ty c.in-Masked.other.value c.in-Masked.nulls.value = subst (ArePartsOf c.args.column.now.ty) c.in-Masked.is c.cells.ensures.parts in
-    let told : c.is_true.result ≡ is_true (get_or c.in-Masked.nulls.value c.args.i None) = c.is_true.ensures ∙ ap is_true c.truth_at.ensures ∙ ap (λ ts. is_true (get_or ts c.args.i None)) c.truths_in.ensures in
-    let null = masked_null c.args.column.now c.in-Masked.other.value c.in-Masked.nulls.value c.args.i _ parts rows c.requires.column told c.if-not-is_true.false in
-    within_no_null c.args.column.now c.args.inner.now c.args.i _ c.requires.apart c.requires.fit c.requires.inner null c.if-not-is_true.false
+    let told : c.is_hidden.result ≡ is_true (get_or c.in-Masked.nulls.value c.args.i None) = c.is_hidden.ensures in
+    let null = masked_null c.args.column.now c.in-Masked.other.value c.in-Masked.nulls.value c.args.i _ parts rows c.requires.column told c.if-not-is_hidden.false in
+    within_no_null c.args.column.now c.args.inner.now c.args.i _ c.requires.apart c.requires.fit c.requires.inner null c.if-not-is_hidden.false

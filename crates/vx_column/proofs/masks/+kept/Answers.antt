@@ -7,7 +7,7 @@ use Rattle.vx_dtype.specs.TypeRules.{field_names, fields_of, with_nullability}
 use Rattle.vx_column.specs.TypeSizes.{size_of}
 use Rattle.vx_column.specs.Sizes.{size_masked}
 use Rattle.vx_dtype.specs.TypeViews.{type_view}
-use Rattle.vx_words.specs.Truths.{vals_of, kept_truths}
+use Rattle.vx_words.specs.Truths.{vals_of, kept_items}
 use Rattle.vx_column.specs.Columns.{Column, column, masked, seen, seen_rows, zip_rows}
 use Rattle.vx_column.specs.Cells.{cell_rows, structs_of, AreFieldsOf, AreMaskedOf, ArePartsOf, AreTruthsOf, kept_column}
 use Rattle.vx_column.proofs.StructLemmas.{if_ok_map}
@@ -16,7 +16,7 @@ use Rattle.vx_column.proofs.KeptLemmas.{kept_constant, kept_values, kept_structu
 use Rattle.vx_column.proofs.TruthLemmas.{true_count_of, kept_truths_of, kept_truths_column, length_vals}
 use Rattle.vx_column.proofs.MaskedLemmas.{masked_length, masked_truths}
 use Rattle.vx_column.proofs.MaskedParts.{kept_number, kept_masked_column}
-use Rattle.vx_numbers.specs.Numbers.{NumberList, number_list, kept_numbers}
+use Rattle.vx_numbers.specs.Numbers.{NumberList, number_list}
 use Rattle.vx_column.specs.Cells.{AreNumbersOf, numbers_vals}
 use Rattle.vx_column.proofs.NumberLemmas.{kept_numbers_of, kept_numbers_column}
 use Rattle.vx_column.proofs.masks.+kept.Goals as goal
@@ -77,28 +77,28 @@ pub kept_of-of_truths-requires : goal.kept_of-of_truths-requires
 kept_of-of_truths-requires t c =
     let parts : AreTruthsOf c.args.column.now.ty c.in-Truths.truths.value = subst (ArePartsOf c.args.column.now.ty) c.in-Truths.is c.cells.ensures.parts in
     let type : type_view c.in_ok-dtype.dtype ≡ c.args.column.now.ty = c.in_ok-dtype.ensures.cases ∙ c.dtype.ensures.shown in
-    let kept = c.in_ok-kept-in-Truths.ensures ∙ ap (λ ts. kept_truths ts c.args.keep.now) c.truths_in.ensures in
+    let kept = c.in_ok-kept-in-Truths.ensures ∙ ap (λ ts. kept_items ts c.args.keep.now) c.truths_in.ensures in
     kept_truths_of c.args.column.now.ty _ c.in-Truths.truths.value c.args.keep.now _ type parts kept
 
 pub kept_of-returns-in_ok-kept-in-Truths : goal.kept_of-returns-in_ok-kept-in-Truths
 kept_of-returns-in_ok-kept-in-Truths t c =
     let rows : vals_of c.in-Truths.truths.value ≡ c.args.column.now.rows = ap (cell_rows c.args.column.now.ty) (sym c.in-Truths.is) ∙ c.cells.ensures.rows in
     let type : type_view c.in_ok-dtype.dtype ≡ c.args.column.now.ty = c.in_ok-dtype.ensures.cases ∙ c.dtype.ensures.shown in
-    let kept = c.in_ok-kept-in-Truths.ensures ∙ ap (λ ts. kept_truths ts c.args.keep.now) c.truths_in.ensures in
+    let kept = c.in_ok-kept-in-Truths.ensures ∙ ap (λ ts. kept_items ts c.args.keep.now) c.truths_in.ensures in
     if_ok_map _ _ c.of_truths.result (λ (x : Column) (h : x ≡ column (type_view c.in_ok-dtype.dtype) (vals_of c.in_ok-kept-in-Truths.kept)). h ∙ kept_truths_column c.args.column.now (type_view c.in_ok-dtype.dtype) c.in-Truths.truths.value c.args.keep.now c.in_ok-kept-in-Truths.kept type rows kept) c.of_truths.ensures
 
 pub kept_of-of_numbers-requires : goal.kept_of-of_numbers-requires
 kept_of-of_numbers-requires t c =
     let parts : AreNumbersOf c.args.column.now.ty c.in-Numbers.numbers.value = subst (ArePartsOf c.args.column.now.ty) c.in-Numbers.is c.cells.ensures.parts in
     let type : type_view c.in_ok-dtype.dtype ≡ c.args.column.now.ty = c.in_ok-dtype.ensures.cases ∙ c.dtype.ensures.shown in
-    let kept = c.in_ok-kept-in-Numbers.ensures ∙ ap (λ (ns : NumberList). number_list ns.ptype (kept_numbers ns.numbers c.args.keep.now)) c.numbers_in.ensures in
+    let kept = c.in_ok-kept-in-Numbers.ensures ∙ ap (λ (ns : NumberList). number_list ns.ptype (kept_items ns.numbers c.args.keep.now)) c.numbers_in.ensures in
     kept_numbers_of c.args.column.now.ty _ c.in-Numbers.numbers.value _ c.args.keep.now type parts kept
 
 pub kept_of-returns-in_ok-kept-in-Numbers : goal.kept_of-returns-in_ok-kept-in-Numbers
 kept_of-returns-in_ok-kept-in-Numbers t c =
     let rows : numbers_vals c.in-Numbers.numbers.value ≡ c.args.column.now.rows = ap (cell_rows c.args.column.now.ty) (sym c.in-Numbers.is) ∙ c.cells.ensures.rows in
     let type : type_view c.in_ok-dtype.dtype ≡ c.args.column.now.ty = c.in_ok-dtype.ensures.cases ∙ c.dtype.ensures.shown in
-    let kept = c.in_ok-kept-in-Numbers.ensures ∙ ap (λ (ns : NumberList). number_list ns.ptype (kept_numbers ns.numbers c.args.keep.now)) c.numbers_in.ensures in
+    let kept = c.in_ok-kept-in-Numbers.ensures ∙ ap (λ (ns : NumberList). number_list ns.ptype (kept_items ns.numbers c.args.keep.now)) c.numbers_in.ensures in
     if_ok_map _ _ c.of_numbers.result (λ (x : Column) (h : x ≡ column (type_view c.in_ok-dtype.dtype) (numbers_vals c.in_ok-kept-in-Numbers.kept)). h ∙ kept_numbers_column c.args.column.now (type_view c.in_ok-dtype.dtype) c.in-Numbers.numbers.value c.in_ok-kept-in-Numbers.kept c.args.keep.now type rows kept) c.of_numbers.ensures
 
 pub kept_of-kept_of-requires : goal.kept_of-kept_of-requires
@@ -120,7 +120,7 @@ kept_of-of_masked-requires-clause-lengths t c =
     let rows : zip_rows masked c.in-Masked.column.value.rows (vals_of c.in-Masked.nulls.value) ≡ c.args.column.now.rows = ap (cell_rows c.args.column.now.ty) (sym c.in-Masked.is) ∙ c.cells.ensures.rows in
     let parts : AreMaskedOf c.args.column.now.ty c.in-Masked.column.value c.in-Masked.nulls.value = subst (ArePartsOf c.args.column.now.ty) c.in-Masked.is c.cells.ensures.parts in
     let kept : c.in_ok-kept-in-Masked.kept ≡ kept_column (vals_of c.args.keep.now) c.in-Masked.column.value = c.in_ok-kept-in-Masked.ensures ∙ ap (kept_column (vals_of c.args.keep.now)) c.column_in.ensures in
-    let nulls : c.in_ok-new-in-Masked.field-0.value ≡ kept_truths c.in-Masked.nulls.value c.args.keep.now = c.in_ok-new-in-Masked.ensures.ok ∙ c.in_ok-nulls-in-Masked.ensures ∙ ap (λ ts. kept_truths ts c.args.keep.now) c.truths_in-in-Masked.ensures in
+    let nulls : c.in_ok-new-in-Masked.field-0.value ≡ kept_items c.in-Masked.nulls.value c.args.keep.now = c.in_ok-new-in-Masked.ensures.ok ∙ c.in_ok-nulls-in-Masked.ensures ∙ ap (λ ts. kept_items ts c.args.keep.now) c.truths_in-in-Masked.ensures in
     let lengths = masked_length c.args.column.now c.in-Masked.column.value c.in-Masked.nulls.value parts rows ∙ c.requires in
     ap length nulls ∙ kept_number c.in-Masked.column.value.rows c.in-Masked.nulls.value c.args.keep.now parts.lengths lengths ∙ ap (λ (d : Column). length d.rows) (sym kept) ∙ ap (λ (d : Column). length d.rows) (sym c.kept.view_is)
 
@@ -129,7 +129,7 @@ kept_of-returns-in_ok-new-in-Masked t c =
     let rows : zip_rows masked c.in-Masked.column.value.rows (vals_of c.in-Masked.nulls.value) ≡ c.args.column.now.rows = ap (cell_rows c.args.column.now.ty) (sym c.in-Masked.is) ∙ c.cells.ensures.rows in
     let parts : AreMaskedOf c.args.column.now.ty c.in-Masked.column.value c.in-Masked.nulls.value = subst (ArePartsOf c.args.column.now.ty) c.in-Masked.is c.cells.ensures.parts in
     let kept : c.in_ok-kept-in-Masked.kept ≡ kept_column (vals_of c.args.keep.now) c.in-Masked.column.value = c.in_ok-kept-in-Masked.ensures ∙ ap (kept_column (vals_of c.args.keep.now)) c.column_in.ensures in
-    let nulls : c.in_ok-new-in-Masked.field-0.value ≡ kept_truths c.in-Masked.nulls.value c.args.keep.now = c.in_ok-new-in-Masked.ensures.ok ∙ c.in_ok-nulls-in-Masked.ensures ∙ ap (λ ts. kept_truths ts c.args.keep.now) c.truths_in-in-Masked.ensures in
+    let nulls : c.in_ok-new-in-Masked.field-0.value ≡ kept_items c.in-Masked.nulls.value c.args.keep.now = c.in_ok-new-in-Masked.ensures.ok ∙ c.in_ok-nulls-in-Masked.ensures ∙ ap (λ ts. kept_items ts c.args.keep.now) c.truths_in-in-Masked.ensures in
     let told = kept_masked_column c.args.column.now c.in-Masked.column.value c.in-Masked.nulls.value c.args.keep.now _ parts rows nulls in
     let within : column (type_view c.kept.inside.dtype) (cell_rows (type_view c.kept.inside.dtype) c.kept.inside.cells) ≡ kept_column (vals_of c.args.keep.now) c.in-Masked.column.value = c.kept.view_is ∙ kept in
     let here = λ (d : Column). column (with_nullability d.ty Nullable) (zip_rows masked d.rows (vals_of c.in_ok-new-in-Masked.field-0.value)) in

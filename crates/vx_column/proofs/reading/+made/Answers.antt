@@ -10,7 +10,7 @@ use Rattle.vx_column.specs.StructColumns.{StandsAt}
 use Rattle.vx_column.specs.Cells.{cell_rows, structs_of, AreFieldsOf, AreMaskedOf, ArePartsOf, AreTruthsOf}
 use Rattle.vx_column.proofs.StructLemmas.{all_rows_at, all_zip_more, if_ok_map}
 use Rattle.vx_column.proofs.CellLemmas.{deepest, deepest_lt, size_le-deepest, structs_length, values_row, values_fit_at, clone_stands, struct_stands_at}
-use Rattle.vx_words.specs.Truths.{is_true, vals_of}
+use Rattle.vx_words.specs.Truths.{vals_of}
 use Rattle.vx_column.proofs.TruthLemmas.{truth_stands}
 use Rattle.vx_column.specs.Cells.{AreNumbersOf, numbers_vals}
 use Rattle.vx_column.proofs.NumberLemmas.{number_stands}
@@ -69,19 +69,19 @@ made_at-returns-in-Numbers t c =
     let read = c.number_at.ensures ∙ ap (λ (ns : NumberList). get_or ns.numbers c.args.i None) c.numbers_in.ensures in
     number_stands c.args.column.now c.in-Numbers.numbers.value c.args.i c.number_at.result c.of_number.result parts rows read c.requires c.of_number.ensures.value c.of_number.ensures.fit
 
-pub made_at-truth_at-requires-in-Masked : goal.made_at-truth_at-requires-in-Masked
-made_at-truth_at-requires-in-Masked t c =
+pub made_at-is_hidden-requires : goal.made_at-is_hidden-requires
+made_at-is_hidden-requires t c =
     let rows : zip_rows masked c.in-Masked.column.value.rows (vals_of c.in-Masked.nulls.value) ≡ c.args.column.now.rows = ap (cell_rows c.args.column.now.ty) (sym c.in-Masked.is) ∙ c.cells.ensures.rows in
     let parts : AreMaskedOf c.args.column.now.ty c.in-Masked.column.value c.in-Masked.nulls.value = subst (ArePartsOf c.args.column.now.ty) c.in-Masked.is c.cells.ensures.parts in
-    omega (arith, masked_truths c.args.column.now c.in-Masked.column.value c.in-Masked.nulls.value parts rows, ap length c.truths_in-in-Masked.ensures, c.requires)
+    omega (arith, masked_truths c.args.column.now c.in-Masked.column.value c.in-Masked.nulls.value parts rows, c.requires)
 
-pub made_at-returns-then-is_true : goal.made_at-returns-then-is_true
-made_at-returns-then-is_true t c =
+pub made_at-returns-then-is_hidden : goal.made_at-returns-then-is_hidden
+made_at-returns-then-is_hidden t c =
     let rows : zip_rows masked c.in-Masked.column.value.rows (vals_of c.in-Masked.nulls.value) ≡ c.args.column.now.rows = ap (cell_rows c.args.column.now.ty) (sym c.in-Masked.is) ∙ c.cells.ensures.rows in
     let parts : AreMaskedOf c.args.column.now.ty c.in-Masked.column.value c.in-Masked.nulls.value = subst (ArePartsOf c.args.column.now.ty) c.in-Masked.is c.cells.ensures.parts in
-    let null = c.is_true.ensures ∙ ap is_true c.truth_at-in-Masked.ensures ∙ ap (λ ts. is_true (get_or ts c.args.i None)) c.truths_in-in-Masked.ensures in (
+    let null = c.is_hidden.ensures in (
       c.null.ensures.fit c.args.column.now.ty (masked_nullable c.args.column.now.ty c.in-Masked.column.value c.in-Masked.nulls.value parts),
-      c.null.ensures.value c.args.column.now.ty ∙ sym (masked_null c.args.column.now c.in-Masked.column.value c.in-Masked.nulls.value c.args.i _ parts rows c.requires null c.if-is_true.true),
+      c.null.ensures.value c.args.column.now.ty ∙ sym (masked_null c.args.column.now c.in-Masked.column.value c.in-Masked.nulls.value c.args.i _ parts rows c.requires null c.if-is_hidden.true),
     )
 
 pub made_at-made_at-requires : goal.made_at-made_at-requires
@@ -93,10 +93,10 @@ made_at-made_at-requires t c =
       omega (arith, masked_length c.args.column.now c.in-Masked.column.value c.in-Masked.nulls.value parts rows, ap (λ (d : Column). length d.rows) c.column_in.ensures, c.requires),
     )
 
-pub made_at-returns-else-is_true : goal.made_at-returns-else-is_true
-made_at-returns-else-is_true t c =
+pub made_at-returns-else-is_hidden : goal.made_at-returns-else-is_hidden
+made_at-returns-else-is_hidden t c =
     let rows : zip_rows masked c.in-Masked.column.value.rows (vals_of c.in-Masked.nulls.value) ≡ c.args.column.now.rows = ap (cell_rows c.args.column.now.ty) (sym c.in-Masked.is) ∙ c.cells.ensures.rows in
     let parts : AreMaskedOf c.args.column.now.ty c.in-Masked.column.value c.in-Masked.nulls.value = subst (ArePartsOf c.args.column.now.ty) c.in-Masked.is c.cells.ensures.parts in
-    let null = c.is_true.ensures ∙ ap is_true c.truth_at-in-Masked.ensures ∙ ap (λ ts. is_true (get_or ts c.args.i None)) c.truths_in-in-Masked.ensures in
-    let own = masked_own c.args.column.now c.in-Masked.column.value c.in-Masked.nulls.value c.args.i _ parts rows c.requires null c.if-is_true.false in
+    let null = c.is_hidden.ensures in
+    let own = masked_own c.args.column.now c.in-Masked.column.value c.in-Masked.nulls.value c.args.i _ parts rows c.requires null c.if-is_hidden.false in
     if_ok_map _ _ c.made_at.result (λ (x : ScalarValue) (h : StandsAt c.args.i c.column_in.result.now x). inner_stands c.args.column.now c.in-Masked.column.value c.in-Masked.nulls.value c.args.i x parts own (subst (λ (d : Column). StandsAt c.args.i d x) c.column_in.ensures h)) c.made_at.ensures

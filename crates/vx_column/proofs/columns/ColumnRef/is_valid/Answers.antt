@@ -1,4 +1,4 @@
-use Rattle.std.proofs.Common.{◌≡◌, None, true, ap, sym, ◌∙◌, subst, get_or, length, arith}
+use Rattle.std.proofs.Common.{◌≡◌, None, true, ap, sym, ◌∙◌, subst, get_or, arith}
 use Rattle.std.proofs.Math.ListN.{replicate}
 use Rattle.vx_dtype.specs.TypeRules.{field_names, fields_of}
 use Rattle.vx_dtype.specs.Logic.{is_null3}
@@ -6,7 +6,7 @@ use Rattle.vx_dtype.specs.Fits.{fits}
 use Rattle.vx_dtype.specs.RawViews.{raw_view}
 use Rattle.vx_column.specs.Columns.{seen, seen_rows, values_fit, masked, zip_rows}
 use Rattle.vx_column.specs.Cells.{cell_rows, structs_of, AreMaskedOf, ArePartsOf}
-use Rattle.vx_words.specs.Truths.{is_true, vals_of}
+use Rattle.vx_words.specs.Truths.{vals_of}
 use Rattle.vx_column.proofs.CellLemmas.{constant_row, values_row, values_fit_at, structs_row, valid_kept}
 use Rattle.vx_numbers.specs.Numbers.{NumberList}
 use Rattle.vx_column.specs.Cells.{numbers_vals}
@@ -39,15 +39,15 @@ returns-in-Numbers c =
     let read = c.number_at.ensures ∙ ap (λ (ns : NumberList). get_or ns.numbers c.args.i None) c.numbers_in.ensures in
     number_valid c.args.self.now c.in-Numbers.numbers.value c.args.i c.number_at.result _ rows read c.is_some-in-Numbers.ensures
 
-pub truth_at-requires-in-Masked : goal.truth_at-requires-in-Masked
-truth_at-requires-in-Masked c =
+pub is_hidden-requires : goal.is_hidden-requires
+is_hidden-requires c =
     let rows : zip_rows masked c.in-Masked.column.value.rows (vals_of c.in-Masked.nulls.value) ≡ c.args.self.now.rows = ap (cell_rows c.args.self.now.ty) (sym c.in-Masked.is) ∙ c.cells.ensures.rows in
     let parts : AreMaskedOf c.args.self.now.ty c.in-Masked.column.value c.in-Masked.nulls.value = subst (ArePartsOf c.args.self.now.ty) c.in-Masked.is c.cells.ensures.parts in
-    omega (arith, masked_truths c.args.self.now c.in-Masked.column.value c.in-Masked.nulls.value parts rows, ap length c.truths_in-in-Masked.ensures, c.requires)
+    omega (arith, masked_truths c.args.self.now c.in-Masked.column.value c.in-Masked.nulls.value parts rows, c.requires)
 
 pub returns-in-Masked : goal.returns-in-Masked
 returns-in-Masked c =
     let rows : zip_rows masked c.in-Masked.column.value.rows (vals_of c.in-Masked.nulls.value) ≡ c.args.self.now.rows = ap (cell_rows c.args.self.now.ty) (sym c.in-Masked.is) ∙ c.cells.ensures.rows in
     let parts : AreMaskedOf c.args.self.now.ty c.in-Masked.column.value c.in-Masked.nulls.value = subst (ArePartsOf c.args.self.now.ty) c.in-Masked.is c.cells.ensures.parts in
-    let null = c.is_true.ensures ∙ ap is_true c.truth_at-in-Masked.ensures ∙ ap (λ ts. is_true (get_or ts c.args.i None)) c.truths_in-in-Masked.ensures in
+    let null = c.is_hidden.ensures in
     masked_valid c.args.self.now c.in-Masked.column.value c.in-Masked.nulls.value c.args.i _ parts rows c.requires null

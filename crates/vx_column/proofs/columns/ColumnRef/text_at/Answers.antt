@@ -1,10 +1,10 @@
-use Rattle.std.proofs.Common.{None, ◌≡◌, true, ap, sym, ◌∙◌, subst, get_or, length, arith}
+use Rattle.std.proofs.Common.{◌≡◌, true, ap, sym, ◌∙◌, subst, get_or, length, arith}
 use Rattle.vx_dtype.specs.TypeRules.{nullability_of}
 use Rattle.vx_dtype.specs.Fits.{fits}
 use Rattle.vx_dtype.specs.RawViews.{raw_view}
 use Rattle.vx_column.specs.Columns.{Column, row_at, seen, seen_rows, values_fit, masked, zip_rows}
 use Rattle.vx_column.specs.Cells.{cell_rows, AreMaskedOf, ArePartsOf}
-use Rattle.vx_words.specs.Truths.{is_true, vals_of}
+use Rattle.vx_words.specs.Truths.{vals_of}
 use Rattle.vx_column.proofs.CellLemmas.{values_row, values_fit_at}
 use Rattle.vx_column.proofs.PatternLemmas.{text_is}
 use Rattle.vx_column.proofs.MaskedLemmas.{masked_truths, masked_length, masked_null, masked_own, inner_fits, inner_seen}
@@ -28,11 +28,11 @@ returns-in-Rows-clause-fit c =
     let own : fits (raw_view c.index-values-i.result) c.args.self.now.ty ≡ true = values_fit_at c.args.self.now c.in-Rows.rows.value.items c.args.i _ rows fit c.requires.row read in
     c.text_of-in-Rows.ensures.fit (nullability_of c.args.self.now.ty) (ap (fits (raw_view c.index-values-i.result)) (sym is) ∙ own)
 
-pub truth_at-requires : goal.truth_at-requires
-truth_at-requires c =
+pub is_hidden-requires : goal.is_hidden-requires
+is_hidden-requires c =
     let rows : zip_rows masked c.in-Masked.column.value.rows (vals_of c.in-Masked.nulls.value) ≡ c.args.self.now.rows = ap (cell_rows c.args.self.now.ty) (sym c.in-Masked.is) ∙ c.cells.ensures.rows in
     let parts : AreMaskedOf c.args.self.now.ty c.in-Masked.column.value c.in-Masked.nulls.value = subst (ArePartsOf c.args.self.now.ty) c.in-Masked.is c.cells.ensures.parts in
-    omega (arith, masked_truths c.args.self.now c.in-Masked.column.value c.in-Masked.nulls.value parts rows, ap length c.truths_in.ensures, c.requires.row)
+    omega (arith, masked_truths c.args.self.now c.in-Masked.column.value c.in-Masked.nulls.value parts rows, c.requires.row)
 
 pub kept_at-requires-clause-row : goal.kept_at-requires-clause-row
 kept_at-requires-clause-row c =
@@ -40,20 +40,20 @@ kept_at-requires-clause-row c =
     let parts : AreMaskedOf c.args.self.now.ty c.in-Masked.column.value c.in-Masked.nulls.value = subst (ArePartsOf c.args.self.now.ty) c.in-Masked.is c.cells.ensures.parts in
     omega (arith, masked_length c.args.self.now c.in-Masked.column.value c.in-Masked.nulls.value parts rows, ap (λ (d : Column). length d.rows) c.column_in.ensures, c.requires.row)
 
-pub returns-then-is_true-clause-value : goal.returns-then-is_true-clause-value
-returns-then-is_true-clause-value c =
+pub returns-then-is_hidden-clause-value : goal.returns-then-is_hidden-clause-value
+returns-then-is_hidden-clause-value c =
     let rows : zip_rows masked c.in-Masked.column.value.rows (vals_of c.in-Masked.nulls.value) ≡ c.args.self.now.rows = ap (cell_rows c.args.self.now.ty) (sym c.in-Masked.is) ∙ c.cells.ensures.rows in
     let parts : AreMaskedOf c.args.self.now.ty c.in-Masked.column.value c.in-Masked.nulls.value = subst (ArePartsOf c.args.self.now.ty) c.in-Masked.is c.cells.ensures.parts in
-    let null = c.is_true.ensures ∙ ap is_true c.truth_at.ensures ∙ ap (λ ts. is_true (get_or ts c.args.i None)) c.truths_in.ensures in
-    sym (masked_null c.args.self.now c.in-Masked.column.value c.in-Masked.nulls.value c.args.i _ parts rows c.requires.row null c.if-is_true.true)
+    let null = c.is_hidden.ensures in
+    sym (masked_null c.args.self.now c.in-Masked.column.value c.in-Masked.nulls.value c.args.i _ parts rows c.requires.row null c.if-is_hidden.true)
 
-pub returns-else-is_true-clause-value : goal.returns-else-is_true-clause-value
-returns-else-is_true-clause-value c =
+pub returns-else-is_hidden-clause-value : goal.returns-else-is_hidden-clause-value
+returns-else-is_hidden-clause-value c =
     let rows : zip_rows masked c.in-Masked.column.value.rows (vals_of c.in-Masked.nulls.value) ≡ c.args.self.now.rows = ap (cell_rows c.args.self.now.ty) (sym c.in-Masked.is) ∙ c.cells.ensures.rows in
     let parts : AreMaskedOf c.args.self.now.ty c.in-Masked.column.value c.in-Masked.nulls.value = subst (ArePartsOf c.args.self.now.ty) c.in-Masked.is c.cells.ensures.parts in
-    let null = c.is_true.ensures ∙ ap is_true c.truth_at.ensures ∙ ap (λ ts. is_true (get_or ts c.args.i None)) c.truths_in.ensures in
+    let null = c.is_hidden.ensures in
     let own : seen c.in-Masked.column.value.ty c.kept_at.result.now ≡ row_at c.in-Masked.column.value c.args.i = subst (λ (d : Column). seen d.ty c.kept_at.result.now ≡ row_at d c.args.i) c.column_in.ensures c.kept_at.ensures.value in
     let fit = inner_fits c.args.self.now.ty c.in-Masked.column.value c.in-Masked.nulls.value _ parts (ap (λ (d : Column). fits (raw_view c.kept_at.result.now) d.ty) (sym c.column_in.ensures) ∙ c.kept_at.ensures.fit) in
     let is = text_is c.args.self.now.ty c.requires.text in
     sym (c.text_of-in-Masked.ensures.value (nullability_of c.args.self.now.ty) (ap (fits (raw_view c.kept_at.result.now)) (sym is) ∙ fit)) ∙ ap (λ t. seen t c.kept_at.result.now) (sym is)
-    ∙ inner_seen c.args.self.now.ty c.in-Masked.column.value c.in-Masked.nulls.value _ parts ∙ own ∙ sym (masked_own c.args.self.now c.in-Masked.column.value c.in-Masked.nulls.value c.args.i _ parts rows c.requires.row null c.if-is_true.false)
+    ∙ inner_seen c.args.self.now.ty c.in-Masked.column.value c.in-Masked.nulls.value _ parts ∙ own ∙ sym (masked_own c.args.self.now c.in-Masked.column.value c.in-Masked.nulls.value c.args.i _ parts rows c.requires.row null c.if-is_hidden.false)

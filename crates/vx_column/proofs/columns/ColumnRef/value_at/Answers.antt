@@ -4,7 +4,7 @@ use Rattle.vx_dtype.specs.RawViews.{raw_view}
 use Rattle.vx_column.specs.Columns.{Column, row_at, seen, seen_rows, values_fit, masked, zip_rows}
 use Rattle.vx_column.specs.Cells.{cell_rows, AreMaskedOf, ArePartsOf, AreTruthsOf}
 use Rattle.vx_column.proofs.CellLemmas.{values_row, values_fit_at}
-use Rattle.vx_words.specs.Truths.{is_true, vals_of}
+use Rattle.vx_words.specs.Truths.{vals_of}
 use Rattle.vx_column.proofs.TruthLemmas.{truth_stands}
 use Rattle.vx_column.specs.Cells.{AreNumbersOf, numbers_vals}
 use Rattle.vx_column.proofs.NumberLemmas.{number_stands}
@@ -46,11 +46,11 @@ returns-in-Numbers-clause-fit c =
     let read = c.number_at.ensures ∙ ap (λ (ns : NumberList). get_or ns.numbers c.args.i None) c.numbers_in.ensures in
     (number_stands c.args.self.now c.in-Numbers.numbers.value c.args.i c.number_at.result c.of_number.result parts rows read c.requires.row c.of_number.ensures.value c.of_number.ensures.fit).0
 
-pub truth_at-requires-in-Masked : goal.truth_at-requires-in-Masked
-truth_at-requires-in-Masked c =
+pub is_hidden-requires : goal.is_hidden-requires
+is_hidden-requires c =
     let rows : zip_rows masked c.in-Masked.column.value.rows (vals_of c.in-Masked.nulls.value) ≡ c.args.self.now.rows = ap (cell_rows c.args.self.now.ty) (sym c.in-Masked.is) ∙ c.cells.ensures.rows in
     let parts : AreMaskedOf c.args.self.now.ty c.in-Masked.column.value c.in-Masked.nulls.value = subst (ArePartsOf c.args.self.now.ty) c.in-Masked.is c.cells.ensures.parts in
-    omega (arith, masked_truths c.args.self.now c.in-Masked.column.value c.in-Masked.nulls.value parts rows, ap length c.truths_in-in-Masked.ensures, c.requires.row)
+    omega (arith, masked_truths c.args.self.now c.in-Masked.column.value c.in-Masked.nulls.value parts rows, c.requires.row)
 
 pub kept_at-requires-clause-row : goal.kept_at-requires-clause-row
 kept_at-requires-clause-row c =
@@ -58,22 +58,22 @@ kept_at-requires-clause-row c =
     let parts : AreMaskedOf c.args.self.now.ty c.in-Masked.column.value c.in-Masked.nulls.value = subst (ArePartsOf c.args.self.now.ty) c.in-Masked.is c.cells.ensures.parts in
     omega (arith, masked_length c.args.self.now c.in-Masked.column.value c.in-Masked.nulls.value parts rows, ap (λ (d : Column). length d.rows) c.column_in.ensures, c.requires.row)
 
-pub returns-then-is_true-clause-value : goal.returns-then-is_true-clause-value
-returns-then-is_true-clause-value c =
+pub returns-then-is_hidden-clause-value : goal.returns-then-is_hidden-clause-value
+returns-then-is_hidden-clause-value c =
     let rows : zip_rows masked c.in-Masked.column.value.rows (vals_of c.in-Masked.nulls.value) ≡ c.args.self.now.rows = ap (cell_rows c.args.self.now.ty) (sym c.in-Masked.is) ∙ c.cells.ensures.rows in
     let parts : AreMaskedOf c.args.self.now.ty c.in-Masked.column.value c.in-Masked.nulls.value = subst (ArePartsOf c.args.self.now.ty) c.in-Masked.is c.cells.ensures.parts in
-    let null = c.is_true.ensures ∙ ap is_true c.truth_at-in-Masked.ensures ∙ ap (λ ts. is_true (get_or ts c.args.i None)) c.truths_in-in-Masked.ensures in
-    c.null.ensures.value c.args.self.now.ty ∙ sym (masked_null c.args.self.now c.in-Masked.column.value c.in-Masked.nulls.value c.args.i _ parts rows c.requires.row null c.if-is_true.true)
+    let null = c.is_hidden.ensures in
+    c.null.ensures.value c.args.self.now.ty ∙ sym (masked_null c.args.self.now c.in-Masked.column.value c.in-Masked.nulls.value c.args.i _ parts rows c.requires.row null c.if-is_hidden.true)
 
-pub returns-else-is_true-clause-value : goal.returns-else-is_true-clause-value
-returns-else-is_true-clause-value c =
+pub returns-else-is_hidden-clause-value : goal.returns-else-is_hidden-clause-value
+returns-else-is_hidden-clause-value c =
     let rows : zip_rows masked c.in-Masked.column.value.rows (vals_of c.in-Masked.nulls.value) ≡ c.args.self.now.rows = ap (cell_rows c.args.self.now.ty) (sym c.in-Masked.is) ∙ c.cells.ensures.rows in
     let parts : AreMaskedOf c.args.self.now.ty c.in-Masked.column.value c.in-Masked.nulls.value = subst (ArePartsOf c.args.self.now.ty) c.in-Masked.is c.cells.ensures.parts in
-    let null = c.is_true.ensures ∙ ap is_true c.truth_at-in-Masked.ensures ∙ ap (λ ts. is_true (get_or ts c.args.i None)) c.truths_in-in-Masked.ensures in
+    let null = c.is_hidden.ensures in
     let own : seen c.in-Masked.column.value.ty c.kept_at.result.now ≡ row_at c.in-Masked.column.value c.args.i = subst (λ (d : Column). seen d.ty c.kept_at.result.now ≡ row_at d c.args.i) c.column_in.ensures c.kept_at.ensures.value in
-    inner_seen c.args.self.now.ty c.in-Masked.column.value c.in-Masked.nulls.value _ parts ∙ own ∙ sym (masked_own c.args.self.now c.in-Masked.column.value c.in-Masked.nulls.value c.args.i _ parts rows c.requires.row null c.if-is_true.false)
+    inner_seen c.args.self.now.ty c.in-Masked.column.value c.in-Masked.nulls.value _ parts ∙ own ∙ sym (masked_own c.args.self.now c.in-Masked.column.value c.in-Masked.nulls.value c.args.i _ parts rows c.requires.row null c.if-is_hidden.false)
 
-pub returns-else-is_true-clause-fit : goal.returns-else-is_true-clause-fit
-returns-else-is_true-clause-fit c =
+pub returns-else-is_hidden-clause-fit : goal.returns-else-is_hidden-clause-fit
+returns-else-is_hidden-clause-fit c =
     let parts : AreMaskedOf c.args.self.now.ty c.in-Masked.column.value c.in-Masked.nulls.value = subst (ArePartsOf c.args.self.now.ty) c.in-Masked.is c.cells.ensures.parts in
     inner_fits c.args.self.now.ty c.in-Masked.column.value c.in-Masked.nulls.value _ parts (ap (λ (d : Column). fits (raw_view c.kept_at.result.now) d.ty) (sym c.column_in.ensures) ∙ c.kept_at.ensures.fit)
