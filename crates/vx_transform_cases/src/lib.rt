@@ -2,8 +2,8 @@
 #![tactic(auto)]
 
 #[cfg(test)]
-mod removing;
+mod ample;
+#[cfg(test)]
+mod replacing;
 #[cfg(test)]
 mod samples;
-#[cfg(test)]
-mod simplifying;
