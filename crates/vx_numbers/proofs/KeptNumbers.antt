@@ -1,6 +1,6 @@
 -- What is kept of numbers: what is kept of their values, null at the kept places of nulls.
 use Rattle.std.proofs.Common.{◌≡◌, ℕ, List, [], ◌∷◌, length, map, Bool, true, false, ◌&&◌, nat_lt, cond, Option, Some, None, refl, ◌∙◌, sym, ap, arith}
-use Rattle.std.proofs.lemmas.Bool.{lt-ltb, le-ltb}
+use Rattle.std.proofs.lemmas.Bool.{lt-ltb}
 use Rattle.std.proofs.lemmas.List.{get_or-map, length-map}
 use Rattle.std.proofs.lemmas.List.FromFn.{fill_by_all}
 use Rattle.std.proofs.lemmas.List.Sums.{sum_by-cons}
@@ -9,62 +9,14 @@ use Rattle.std.specs.List.{range_with_len}
 use Rattle.std.specs.Prelude.{ℤ, pos, count_by}
 use Rattle.std.specs.Simd.Lanes.{zip2}
 use Rattle.vx_words.specs.Words.{bit_of}
-use Rattle.vx_words.specs.Truths.{words_for, is_true, hidden_if, kept_items}
+use Rattle.vx_words.specs.Truths.{is_true, hidden_if, kept_items}
+use Rattle.vx_words.proofs.KeptLemmas.{kept_map, kept_zip}
 use Rattle.vx_numbers.specs.Numbers.{null_test}
-use Rattle.vx_numbers.specs.Lanes.{value_at, number_in, number_of, numbers_of, AreTidyNumbers}
+use Rattle.vx_numbers.specs.Lanes.{value_at, number_in, number_of, numbers_of}
 use Rattle.vx_numbers.proofs.PlaceLemmas.{length_seen}
-
--- ---- what is kept, item by item
-module _ {X Y : Type 0} (f : X → Y) where
-  chosen_map : (b : Bool) (x : X) (xs : List X) → cond b (f x ∷ map f xs) (map f xs) ≡ map f (cond b (x ∷ xs) xs)
-  chosen_map false x xs = refl
-  chosen_map true x xs = refl
-
-  pub kept_map : (xs : List X) (ks : List (Option Bool)) → kept_items (map f xs) ks ≡ map f (kept_items xs ks)
-  kept_map [] ks = refl
-  kept_map (x ∷ xs) [] = refl
-  kept_map (x ∷ xs) (k ∷ ks) =
-      ap (λ ys. cond (is_true k) (f x ∷ ys) ys) (kept_map xs ks) ∙ chosen_map (is_true k) x (kept_items xs ks)
-
-module _ {X Y Z : Type 0} (f : X → Y → Z) where
-  chosen_zip : (b : Bool) (x : X) (y : Y) (xs : List X) (ys : List Y)
-      → cond b (f x y ∷ zip2 f xs ys) (zip2 f xs ys) ≡ zip2 f (cond b (x ∷ xs) xs) (cond b (y ∷ ys) ys)
-  chosen_zip false x y xs ys = refl
-  chosen_zip true x y xs ys = refl
-
-  pub kept_zip : (xs : List X) (ys : List Y) (ks : List (Option Bool)) → length xs ≡ length ys
-      → kept_items (zip2 f xs ys) ks ≡ zip2 f (kept_items xs ks) (kept_items ys ks)
-  kept_zip [] [] ks h = refl
-  kept_zip [] (y ∷ ys) ks h = absurd (omega arith)
-  kept_zip (x ∷ xs) [] ks h = absurd (omega arith)
-  kept_zip (x ∷ xs) (y ∷ ys) [] h = refl
-  kept_zip (x ∷ xs) (y ∷ ys) (k ∷ ks) h =
-      ap (λ zs. cond (is_true k) (f x y ∷ zs) zs) (kept_zip xs ys ks (omega arith))
-      ∙ chosen_zip (is_true k) x y (kept_items xs ks) (kept_items ys ks)
-
-module _ {X Y : Type 0} where
-  chosen_length : (b : Bool) (x : X) (y : Y) (xs : List X) (ys : List Y) → length xs ≡ length ys
-      → length (cond b (x ∷ xs) xs) ≡ length (cond b (y ∷ ys) ys)
-  chosen_length false x y xs ys h = h
-  chosen_length true x y xs ys h = omega arith
-
-  pub kept_length : (xs : List X) (ys : List Y) (ks : List (Option Bool)) → length xs ≡ length ys
-      → length (kept_items xs ks) ≡ length (kept_items ys ks)
-  kept_length [] [] ks h = refl
-  kept_length [] (y ∷ ys) ks h = absurd (omega arith)
-  kept_length (x ∷ xs) [] ks h = absurd (omega arith)
-  kept_length (x ∷ xs) (y ∷ ys) [] h = refl
-  kept_length (x ∷ xs) (y ∷ ys) (k ∷ ks) h =
-      chosen_length (is_true k) x y (kept_items xs ks) (kept_items ys ks) (kept_length xs ys ks (omega arith))
 
 -- ---- numbers none of which is null
 module _ (v : List ℕ) (zs : List ℤ) (bits : (j : ℕ) → bit_of v j ≡ (true && nat_lt j (length zs))) where
-  pub known_tidy : length v ≡ words_for (length zs) → AreTidyNumbers v zs
-  known_tidy p = record {
-    valid_length = p;
-    past = λ i h. bits i ∙ le-ltb i (length zs) h;
-  }
-
   pub known_numbers : numbers_of v zs ≡ map Some zs
   known_numbers =
       sym (fill_by_all (number_in v zs) (map Some zs) (length zs) None (length-map zs Some)

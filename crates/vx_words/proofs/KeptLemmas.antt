@@ -1,8 +1,13 @@
 -- What is kept of a list, by the places at which the list of truths is true.
-use Rattle.std.proofs.Common.{◌≡◌, ℕ, suc, zero, ◌+◌, ◌-◌, ◌<◌, ◌≤◌, List, [], ◌∷◌, ◌++◌, get_or, length, drop, Bool, true, false, cond, Option, refl, ◌∙◌, sym, ap, arith}
+use Rattle.std.proofs.Common.{◌≡◌, ℕ, suc, zero, ◌+◌, ◌-◌, ◌<◌, ◌≤◌, List, [], ◌∷◌, ◌++◌, get_or, length, map, drop, Bool, true, false, cond, Option, refl, ◌∙◌, sym, ap, arith}
 use Rattle.std.proofs.lemmas.List.{drop_all, append_assoc, append-nil}
+use Rattle.std.specs.Simd.Lanes.{zip2}
 use Rattle.vx_words.specs.Words.{IsFirstPlace}
-use Rattle.vx_words.specs.Truths.{true_at, kept_items}
+use Rattle.vx_words.specs.Truths.{is_true, true_at, kept_items}
+
+-- what is kept from a place on
+abbrev pub kept_from : {X : Type 0} → List X → List (Option Bool) → ℕ → List X
+kept_from xs ks i = kept_items (drop i xs) (drop i ks)
 
 kept_none : {X : Type 0} (xs : List X) → kept_items xs [] ≡ []
 kept_none [] = refl
@@ -56,24 +61,63 @@ pub kept_nothing : {X : Type 0} (xs : List X) (ks : List (Option Bool)) (i : ℕ
 kept_nothing xs ks i h = ap (kept_items (drop i xs)) (drop_all i ks h) ∙ kept_none (drop i xs)
 
 module _ {X : Type 0} (xs : List X) (ks : List (Option Bool)) (long : length ks ≡ length xs) where
-  -- what is kept from a place on
-  abbrev kept_from : ℕ → List X
-  kept_from i = kept_items (drop i xs) (drop i ks)
-
   -- one item more that is kept
   pub kept_step : (made : List X) (from i : ℕ) (x : X) → IsFirstPlace (true_at ks) (length ks) from i → get_or xs i x ≡ x
-      → made ++ kept_from from ≡ kept_items xs ks → (made ++ x ∷ []) ++ kept_from (i + 1) ≡ kept_items xs ks
+      → made ++ kept_from xs ks from ≡ kept_items xs ks → (made ++ x ∷ []) ++ kept_from xs ks (i + 1) ≡ kept_items xs ks
   kept_step made from i x first there so_far =
       let inside = first.within in
-      append_assoc made (x ∷ []) (kept_from (i + 1))
+      append_assoc made (x ∷ []) (kept_from xs ks (i + 1))
       ∙ ap (λ rest. made ++ rest)
       (sym (kept_past xs ks from i first.from_there first.none_before ∙ kept_here xs ks i x (omega arith) first.holds there))
       ∙ so_far
 
   -- no item more that is kept
   pub kept_end : (made : List X) (from : ℕ) → from ≤ length ks → ((p : ℕ) → from ≤ p → p < length ks → true_at ks p ≡ false)
-      → made ++ kept_from from ≡ kept_items xs ks → made ≡ kept_items xs ks
+      → made ++ kept_from xs ks from ≡ kept_items xs ks → made ≡ kept_items xs ks
   kept_end made from h none so_far =
       sym (append-nil made)
       ∙ ap (λ rest. made ++ rest) (sym (kept_past xs ks from (length ks) h none ∙ kept_nothing xs ks (length ks) (omega arith)))
       ∙ so_far
+
+-- ---- what is kept of a list that a function makes
+module _ {X Y : Type 0} (f : X → Y) where
+  chosen_map : (b : Bool) (x : X) (xs : List X) → cond b (f x ∷ map f xs) (map f xs) ≡ map f (cond b (x ∷ xs) xs)
+  chosen_map false x xs = refl
+  chosen_map true x xs = refl
+
+  pub kept_map : (xs : List X) (ks : List (Option Bool)) → kept_items (map f xs) ks ≡ map f (kept_items xs ks)
+  kept_map [] ks = refl
+  kept_map (x ∷ xs) [] = refl
+  kept_map (x ∷ xs) (k ∷ ks) =
+      ap (λ ys. cond (is_true k) (f x ∷ ys) ys) (kept_map xs ks) ∙ chosen_map (is_true k) x (kept_items xs ks)
+
+module _ {X Y Z : Type 0} (f : X → Y → Z) where
+  chosen_zip : (b : Bool) (x : X) (y : Y) (xs : List X) (ys : List Y)
+      → cond b (f x y ∷ zip2 f xs ys) (zip2 f xs ys) ≡ zip2 f (cond b (x ∷ xs) xs) (cond b (y ∷ ys) ys)
+  chosen_zip false x y xs ys = refl
+  chosen_zip true x y xs ys = refl
+
+  pub kept_zip : (xs : List X) (ys : List Y) (ks : List (Option Bool)) → length xs ≡ length ys
+      → kept_items (zip2 f xs ys) ks ≡ zip2 f (kept_items xs ks) (kept_items ys ks)
+  kept_zip [] [] ks h = refl
+  kept_zip [] (y ∷ ys) ks h = absurd (omega arith)
+  kept_zip (x ∷ xs) [] ks h = absurd (omega arith)
+  kept_zip (x ∷ xs) (y ∷ ys) [] h = refl
+  kept_zip (x ∷ xs) (y ∷ ys) (k ∷ ks) h =
+      ap (λ zs. cond (is_true k) (f x y ∷ zs) zs) (kept_zip xs ys ks (omega arith))
+      ∙ chosen_zip (is_true k) x y (kept_items xs ks) (kept_items ys ks)
+
+module _ {X Y : Type 0} where
+  chosen_length : (b : Bool) (x : X) (y : Y) (xs : List X) (ys : List Y) → length xs ≡ length ys
+      → length (cond b (x ∷ xs) xs) ≡ length (cond b (y ∷ ys) ys)
+  chosen_length false x y xs ys h = h
+  chosen_length true x y xs ys h = omega arith
+
+  pub kept_length : (xs : List X) (ys : List Y) (ks : List (Option Bool)) → length xs ≡ length ys
+      → length (kept_items xs ks) ≡ length (kept_items ys ks)
+  kept_length [] [] ks h = refl
+  kept_length [] (y ∷ ys) ks h = absurd (omega arith)
+  kept_length (x ∷ xs) [] ks h = absurd (omega arith)
+  kept_length (x ∷ xs) (y ∷ ys) [] h = refl
+  kept_length (x ∷ xs) (y ∷ ys) (k ∷ ks) h =
+      chosen_length (is_true k) x y (kept_items xs ks) (kept_items ys ks) (kept_length xs ys ks (omega arith))

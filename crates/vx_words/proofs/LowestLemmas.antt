@@ -1,5 +1,5 @@
 -- The bits of a word from its lowest on, one after the other, and what is kept by them.
-use Rattle.std.proofs.Common.{◌≡◌, ℕ, ◌+◌, ◌-◌, ◌*◌, ◌%◌, ◌^◌, ◌<◌, ◌≤◌, List, ◌∷◌, get_or, length, drop, Bool, true, false, eqb, Option, ◌∙◌, sym, ap, arith, inl, inr, w64}
+use Rattle.std.proofs.Common.{◌≡◌, ℕ, ◌+◌, ◌-◌, ◌*◌, ◌%◌, ◌^◌, ◌<◌, ◌≤◌, List, ◌∷◌, get_or, length, Bool, true, false, eqb, Option, ◌∙◌, sym, ap, arith, inl, inr, w64}
 use Rattle.std.proofs.lemmas.Bool.{cases_lt, cases_eq}
 use Rattle.std.proofs.lemmas.Nat.{trailing_le, and_le_l}
 use Rattle.std.proofs.lemmas.Nat.Bits.{bit_at-trailing_zeros, bit_at_clear_same, bit_at_clear_other}
@@ -7,9 +7,9 @@ use Rattle.std.specs.Int.{bit_not, trailing_zeros}
 use Rattle.std.specs.Int.Count.{trailing_of_zero}
 use Rattle.std.specs.Prelude.{bit_and}
 use Rattle.vx_words.specs.Words.{word_bit, bit_of}
-use Rattle.vx_words.specs.Truths.{true_at, kept_items}
+use Rattle.vx_words.specs.Truths.{true_at}
 use Rattle.vx_words.proofs.BitLemmas.{zero_bit}
-use Rattle.vx_words.proofs.KeptLemmas.{kept_past, kept_here}
+use Rattle.vx_words.proofs.KeptLemmas.{kept_from, kept_past, kept_here}
 use Rattle.vx_words.proofs.NextLemmas.{pos_of_not_zero, set_bit_of, clear_bit_of, at_word}
 
 -- the place of the lowest bit that is set, 64 where none is
@@ -68,10 +68,6 @@ module _ (word : ℕ) (fits : word < 2 ^ 64) (other : word ≡ 0 → ⊥) where
       ]
 
 module _ {X : Type 0} (xs : List X) (ks : List (Option Bool)) (b : List ℕ) (k : ℕ) (seen : (i : ℕ) → true_at ks i ≡ bit_of b i) where
-  -- what is kept from a place on
-  abbrev kept_from : ℕ → List X
-  kept_from i = kept_items (drop i xs) (drop i ks)
-
   -- the word has the bits of the k-th from its lowest on
   abbrev IsRest : ℕ → Type 0
   IsRest word = (j : ℕ) → lowest word ≤ j → j < 64 → word_bit word j ≡ word_bit (get_or b k 0) j
@@ -82,7 +78,7 @@ module _ {X : Type 0} (xs : List X) (ks : List (Option Bool)) (b : List ℕ) (k 
       ∙ at_word b k (p - 64 * k) p (omega arith) (omega arith)
       ∙ sym (rest (p - 64 * k) (omega arith) (omega arith))
 
-  pub kept_first : (word : ℕ) → word ≡ get_or b k 0 → word < 2 ^ 64 → kept_from (64 * k) ≡ kept_from (64 * k + lowest word)
+  pub kept_first : (word : ℕ) → word ≡ get_or b k 0 → word < 2 ^ 64 → kept_from xs ks (64 * k) ≡ kept_from xs ks (64 * k + lowest word)
   kept_first word e fits =
       let most = trailing_le 64 word in
       kept_past xs ks (64 * k) (64 * k + lowest word) (omega arith)
@@ -92,7 +88,7 @@ module _ {X : Type 0} (xs : List X) (ks : List (Option Bool)) (b : List ℕ) (k 
       ∙ ap (λ w. word_bit w (p - 64 * k)) (sym e)
       ∙ none_below word (p - 64 * k) fits (omega arith))
 
-  pub kept_last : (word : ℕ) → IsRest word → word ≡ 0 → kept_from (64 * k + lowest word) ≡ kept_from (64 * (k + 1))
+  pub kept_last : (word : ℕ) → IsRest word → word ≡ 0 → kept_from xs ks (64 * k + lowest word) ≡ kept_from xs ks (64 * (k + 1))
   kept_last word rest e =
       let most = trailing_le 64 word in
       kept_past xs ks (64 * k + lowest word) (64 * (k + 1)) (omega arith)
@@ -112,7 +108,7 @@ module _ {X : Type 0} (xs : List X) (ks : List (Option Bool)) (b : List ℕ) (k 
         rest_above word fits other j small (omega arith) ∙ rest j (omega arith) small
 
     pub kept_next : (x : X) → 64 * k + lowest word < length xs → get_or xs (64 * k + lowest word) x ≡ x
-        → kept_from (64 * k + lowest word) ≡ x ∷ kept_from (64 * k + lowest (without_lowest word))
+        → kept_from xs ks (64 * k + lowest word) ≡ x ∷ kept_from xs ks (64 * k + lowest (without_lowest word))
     kept_next x h there =
         let later = rest_later word fits other in
         let most = trailing_le 64 (without_lowest word) in

@@ -4,7 +4,8 @@ use Rattle.std.specs.Prelude.{count_by}
 use Rattle.std.specs.Simd.Lanes.{zip2}
 use Rattle.vx_words.specs.Truths.{is_true, hidden_if, kept_items}
 use Rattle.vx_numbers.specs.Numbers.{null_test}
-use Rattle.vx_numbers.proofs.KeptNumbers.{known_values, kept_length, kept_hidden, kept_known}
+use Rattle.vx_words.proofs.KeptLemmas.{kept_length}
+use Rattle.vx_numbers.proofs.KeptNumbers.{known_values, kept_hidden, kept_known}
 use Rattle.vx_numbers.proofs.PlaceLemmas.{length_seen}
 use Rattle.vx_numbers.proofs.lane.Lane.filter.Goals as goal
 
