@@ -2,4 +2,8 @@
 #![tactic(auto)]
 
 #[cfg(test)]
+mod annotating;
+#[cfg(test)]
 mod partition;
+#[cfg(test)]
+mod samples;

@@ -1,119 +1,69 @@
 //! Splits of predicates over two columns.
-ghost use Rattle.std.specs.Prelude.{◌≡◌, length, IfOk};
-
+use crate::samples::{columns, name, x_above, y_equal};
 use std::alloc::Global;
 use std::test::Fail;
-use vx_dtype::{DType, FieldName, FieldNames, Mem, Nullability, PType, StructFields};
+use vx_dtype::{DType, FieldName, Mem, Nullability};
 use vx_expr::ExprRef;
-use vx_partition::{
-    PartitionedExpr, annotate_scope_access, immediate_scope_access, immediate_scope_accesses,
-    partition,
-};
-
-/// The name of these characters.
-fn name(alloc: Global, text: &str) -> Mem<FieldName> {
-    FieldName::new(alloc, text)
-}
-
-/// The names `x` and `y`.
-fn column_names(alloc: Global) -> Mem<FieldNames>
-    ensures { IfOk result (λ names. length names ≡ 2) }
-{
-    let mut names = Vec::new(alloc);
-    names.push(name(alloc, "x")?)?;
-    names.push(name(alloc, "y")?)?;
-    FieldNames::new(alloc, names)
-}
-
-/// The columns `x` and `y`, both numbers of 32 bits without null.
-fn columns(alloc: Global) -> Mem<StructFields> {
-    let names = column_names(alloc)?;
-    let mut types = Vec::new(alloc);
-    types.push(DType::Primitive(PType::I32, Nullability::NonNullable))?;
-    types.push(DType::Primitive(PType::I32, Nullability::NonNullable))?;
-    StructFields::new(alloc, names, types)
-}
-
-/// `$.x > 10`.
-fn x_above(alloc: Global) -> Mem<ExprRef> {
-    vx_build::gt(
-        alloc,
-        vx_build::col(alloc, name(alloc, "x")?)?,
-        vx_build::lit(alloc, 10i32)?,
-    )
-}
-
-/// `$.y = 1`.
-fn y_equal(alloc: Global) -> Mem<ExprRef> {
-    vx_build::eq(
-        alloc,
-        vx_build::col(alloc, name(alloc, "y")?)?,
-        vx_build::lit(alloc, 1i32)?,
-    )
-}
-
-/// An expression split by the columns that it touches.
-fn split(alloc: Global, expr: ExprRef) -> Result<PartitionedExpr<FieldName>, Fail> {
-    let fields = columns(alloc)?;
-    let scope = DType::Struct(fields.clone()?, Nullability::NonNullable);
-    Ok(partition(alloc, expr, &scope, &annotate_scope_access(&fields))?)
-}
-
-/// A part's place in the root: its field of the field of its column.
-fn place(alloc: Global, part: &str, column: &str) -> Mem<ExprRef> {
-    vx_build::get_item(
-        alloc,
-        name(alloc, part)?,
-        vx_build::col(alloc, name(alloc, column)?)?,
-    )
-}
-
-/// One part as a pack.
-fn packed(alloc: Global, part: &str, expr: ExprRef) -> Mem<ExprRef> {
-    let mut elements = Vec::new(alloc);
-    elements.push((name(alloc, part)?, expr))?;
-    vx_build::pack(alloc, elements, Nullability::NonNullable)
-}
+use vx_partition::{PartitionedExpr, annotate_scope_access, partition};
 
 /// `$.x > 10 and $.y = 1`.
 fn both(alloc: Global) -> Mem<ExprRef> {
-    vx_build::and(alloc, x_above(alloc)?, y_equal(alloc)?)
+    let x = x_above(alloc)?;
+    vx_build::and(alloc, x, y_equal(alloc)?)
+}
+
+/// The type of rows of both columns.
+fn scope(alloc: Global) -> Mem<DType> {
+    let fields = columns(alloc)?;
+    Ok(DType::Struct(fields, Nullability::NonNullable))
+}
+
+/// `$.x > 10 and $.y = 1` split by the columns that it touches.
+fn split(alloc: Global) -> Result<PartitionedExpr<FieldName>, Fail> {
+    let fields = columns(alloc)?;
+    let annotate = annotate_scope_access(&fields);
+    Ok(partition(alloc, both(alloc)?, &scope(alloc)?, &annotate)?)
 }
 
 /// Whether the partition of a column is this expression alone.
-fn is_partition(
-    alloc: Global,
-    made: &PartitionedExpr<FieldName>,
-    column: &str,
-    wanted: &ExprRef,
-) -> Mem<bool> {
-    match made.find_partition(&name(alloc, column)?) {
+fn is_partition(alloc: Global, column: &str, wanted: &ExprRef) -> Result<bool, Fail> {
+    let column = name(alloc, column)?;
+    let made = split(alloc)?;
+    match made.find_partition(&column) {
         Some(found) => Ok(found == wanted),
         None => Ok(false),
     }
 }
 
-#[test]
-fn finds_partitions_by_column(rt: HostRuntime) -> Result<(), Fail> {
-    let alloc = rt.alloc();
-    let made = split(alloc, both(alloc)?)?;
-    let x = packed(alloc, "x_0", x_above(alloc)?)?;
-    assert!(rt; is_partition(alloc, &made, "x", &x)?);
-    let y = packed(alloc, "y_0", y_equal(alloc)?)?;
-    assert!(rt; is_partition(alloc, &made, "y", &y)?);
-    assert!(rt; made.find_partition(&name(alloc, "z")?).is_none());
-    Ok(())
+/// One part as a pack.
+fn packed(alloc: Global, part: &str, expr: ExprRef) -> Mem<ExprRef> {
+    let elements = vec![in alloc; (name(alloc, part)?, expr)]?;
+    vx_build::pack(alloc, elements, Nullability::NonNullable)
+}
+
+/// Whether the partition of `x` is `$.x > 10`, packed.
+fn finds_x(alloc: Global) -> Result<bool, Fail> {
+    let wanted = packed(alloc, "x_0", x_above(alloc)?)?;
+    is_partition(alloc, "x", &wanted)
+}
+
+/// Whether the partition of `y` is `$.y = 1`, packed.
+fn finds_y(alloc: Global) -> Result<bool, Fail> {
+    let wanted = packed(alloc, "y_0", y_equal(alloc)?)?;
+    is_partition(alloc, "y", &wanted)
+}
+
+/// Whether `z` has a partition.
+fn finds_z(alloc: Global) -> Result<bool, Fail> {
+    let column = name(alloc, "z")?;
+    Ok(split(alloc)?.find_partition(&column).is_some())
 }
 
 #[test]
-fn ample(rt: HostRuntime) -> Result<(), Fail> {
+fn finds_partitions_by_column(rt: HostRuntime) -> Result<(), Fail> {
     let alloc = rt.alloc();
-    let fields = columns(alloc)?;
-    let above = x_above(alloc)?;
-    assert!(rt; immediate_scope_access(alloc, &above, &fields)?.len() == 1);
-    let row = vx_build::root(alloc)?;
-    assert!(rt; immediate_scope_access(alloc, &row, &fields)?.len() == 2);
-    let found = immediate_scope_accesses(alloc, &above, &fields)?;
-    assert!(rt; found.contains(&above) && !found.contains(&row));
+    assert!(rt; finds_x(alloc)?);
+    assert!(rt; finds_y(alloc)?);
+    assert!(rt; !finds_z(alloc)?);
     Ok(())
 }
