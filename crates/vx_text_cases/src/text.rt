@@ -6,6 +6,7 @@ use vx_dtype::{CompareOperator, DType, FieldName, Mem, Nullability};
 use vx_expr::{DisplayAs, DynamicComparisonExpr, ExprRef, RootExpr};
 use vx_text::{TextError, read_query, write_query};
 
+/// The field of this name of the row.
 fn column(alloc: Global, name: &str) -> Mem<ExprRef> {
     col(alloc, FieldName::new(alloc, name)?)
 }
@@ -15,15 +16,42 @@ fn filter(alloc: Global) -> Mem<ExprRef> {
     gt(alloc, column(alloc, "x")?, lit(alloc, 10i32)?)
 }
 
+/// Whether `x > 10i32` is read as the filter.
+fn read_query_answers(alloc: Global) -> Result<bool, Fail> {
+    let read = read_query(alloc, "x > 10i32")?;
+    Ok(read == filter(alloc)?)
+}
+
+/// Whether the filter is written as its text.
+fn write_query_answers(alloc: Global) -> Result<bool, Fail> {
+    let written = write_query(alloc, &filter(alloc)?)?;
+    Ok(written.as_str() == "($.x > 10i32)")
+}
+
 #[test]
 fn ample(rt: HostRuntime) -> Result<(), Fail> {
     let alloc = rt.alloc();
-    let wanted = filter(alloc)?;
-    let read = read_query(alloc, "x > 10i32")?;
-    assert!(rt; read == wanted, "read_query");
-    let written = write_query(alloc, &wanted)?;
-    assert_eq!(rt; written.as_str(), "($.x > 10i32)");
+    assert!(rt; read_query_answers(alloc)?, "read_query");
+    assert!(rt; write_query_answers(alloc)?, "write_query");
     Ok(())
+}
+
+/// Whether a query is read as the expression whose compact text is this one.
+fn is_read_as(alloc: Global, query: &str, text: &str) -> Result<bool, Fail> {
+    let read = read_query(alloc, query)?;
+    Ok(read.compact(alloc)?.as_str() == text)
+}
+
+/// `((not ($.a = $.b)) or $.c)`
+fn not_equal_or_c(alloc: Global) -> Mem<ExprRef> {
+    let equal = eq(alloc, column(alloc, "a")?, column(alloc, "b")?)?;
+    or(alloc, not(alloc, equal)?, column(alloc, "c")?)
+}
+
+/// Whether `not` binds looser than a comparison, and closer than `or`.
+fn not_binds_by_level(alloc: Global) -> Result<bool, Fail> {
+    let read = read_query(alloc, "not a = b or c")?;
+    Ok(read == not_equal_or_c(alloc)?)
 }
 
 #[test]
@@ -40,25 +68,43 @@ fn operators_bind_by_level(rt: HostRuntime) -> Result<(), Fail> {
         ("a = b and c", "(($.a = $.b) and $.c)"),
         ("a - b.c", "($.a - $.b.c)"),
     ];
-    for (query, wanted) in &table {
-        let read = read_query(alloc, *query)?;
-        assert_eq!(rt; read.compact(alloc)?.as_str(), *wanted);
+    for (query, text) in &table {
+        assert!(rt; is_read_as(alloc, *query, *text)?, "{query}");
     }
-    let equal = eq(alloc, column(alloc, "a")?, column(alloc, "b")?)?;
-    let wanted = or(alloc, not(alloc, equal)?, column(alloc, "c")?)?;
-    let read = read_query(alloc, "not a = b or c")?;
-    assert!(rt; read == wanted, "not binds looser than a comparison");
+    assert!(rt;
+        not_binds_by_level(alloc)?,
+        "not binds looser than a comparison"
+    );
     Ok(())
+}
+
+/// Whether reading a query refuses with this error.
+fn is_refused(alloc: Global, query: &str, wanted: TextError) -> bool {
+    match read_query(alloc, query) {
+        Ok(_) => false,
+        Err(error) => error == wanted,
+    }
+}
+
+/// A query of 4,097 tokens.
+fn long_query(alloc: Global) -> Mem<String> {
+    let mut query = String::new(alloc);
+    for _ in 0..4096 {
+        query.push_str("not ")?;
+    }
+    query.push_str("a")?;
+    Ok(query)
+}
+
+/// Whether a query of more than 4,096 tokens is refused.
+fn long_query_is_refused(alloc: Global) -> Mem<bool> {
+    let query = long_query(alloc)?;
+    Ok(is_refused(alloc, query.as_str(), TextError::TooManyTokens))
 }
 
 #[test]
 fn refusals(rt: HostRuntime) -> Result<(), Fail> {
     let alloc = rt.alloc();
-    let mut long = String::new(alloc);
-    for _ in 0..4096 {
-        long.push_str("not ")?;
-    }
-    long.push_str("a")?;
     let table = [
         ("a # b", TextError::BadToken),
         ("'a", TextError::BadToken),
@@ -68,33 +114,50 @@ fn refusals(rt: HostRuntime) -> Result<(), Fail> {
         ("is_null(a, b)", TextError::BadQuery),
         ("300u8", TextError::BadValue),
         ("lit(bool, null)", TextError::BadValue),
-        (long.as_str(), TextError::TooManyTokens),
     ];
     for (query, wanted) in &table {
-        match read_query(alloc, *query) {
-            Ok(_) => assert!(rt; false, "{query} is read"),
-            Err(error) => assert_eq!(rt; error, *wanted),
-        }
+        assert!(rt; is_refused(alloc, *query, *wanted), "{query}");
     }
+    assert!(rt; long_query_is_refused(alloc)?);
     Ok(())
+}
+
+/// `not` of a dynamic comparison.
+fn not_dynamic(alloc: Global) -> Mem<ExprRef> {
+    let dynamic = DynamicComparisonExpr::new_expr(
+        alloc,
+        RootExpr::new_expr(alloc)?,
+        CompareOperator::Gt,
+        0,
+        DType::Bool(Nullability::NonNullable),
+        true,
+    )?;
+    not(alloc, dynamic)
+}
+
+/// Whether a dynamic comparison below `not` isn't written.
+fn dynamic_is_refused(alloc: Global) -> Mem<bool> {
+    let expr = not_dynamic(alloc)?;
+    Ok(matches!(write_query(alloc, &expr), Err(TextError::NotWritable)))
 }
 
 #[test]
 fn dynamic_comparisons_have_no_text(rt: HostRuntime) -> Result<(), Fail> {
     let alloc = rt.alloc();
-    let operand = RootExpr::new_expr(alloc)?;
-    let dtype = DType::Bool(Nullability::NonNullable);
-    let dynamic = DynamicComparisonExpr::new_expr(
-        alloc,
-        operand,
-        CompareOperator::Gt,
-        0,
-        dtype,
-        true,
-    )?;
-    let below = not(alloc, dynamic)?;
-    assert!(rt; matches!(write_query(alloc, &below), Err(TextError::NotWritable)));
+    assert!(rt; dynamic_is_refused(alloc)?);
     Ok(())
+}
+
+/// Whether the expression of a query is written as this text.
+fn is_written_as(alloc: Global, query: &str, text: &str) -> Result<bool, Fail> {
+    let read = read_query(alloc, query)?;
+    Ok(write_query(alloc, &read)?.as_str() == text)
+}
+
+/// Whether two texts are read as one expression.
+fn are_read_alike(alloc: Global, query: &str, text: &str) -> Result<bool, Fail> {
+    let read = read_query(alloc, query)?;
+    Ok(read_query(alloc, text)? == read)
 }
 
 #[test]
@@ -119,12 +182,9 @@ fn written_texts_are_read_back(rt: HostRuntime) -> Result<(), Fail> {
         ("cast(a, u8?){b, c}", "cast($.a, u8?){b, c}"),
         ("$~{\"\"}", "$~{\"\"}"),
     ];
-    for (query, wanted) in &table {
-        let read = read_query(alloc, *query)?;
-        let written = write_query(alloc, &read)?;
-        assert_eq!(rt; written.as_str(), *wanted);
-        let again = read_query(alloc, written.as_str())?;
-        assert!(rt; again == read, "{query}");
+    for (query, text) in &table {
+        assert!(rt; is_written_as(alloc, *query, *text)?, "{query}");
+        assert!(rt; are_read_alike(alloc, *query, *text)?, "{text}");
     }
     Ok(())
 }
