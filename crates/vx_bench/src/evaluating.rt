@@ -8,35 +8,52 @@ use std::alloc::Global;
 use std::time::Instant;
 use vx_column::ColumnRef;
 use vx_dtype::StrictComparison::{NonStrict, Strict};
-use vx_dtype::{BetweenOptions, CompareOperator};
+use vx_dtype::{BetweenOptions, CompareOperator, FieldNames, Mem};
 use vx_eval::{ExprEval, Scope};
 use vx_expr::ExprRef;
+use vx_request::ScanRequest;
 
 /// Times the filter and the projection over the rows of the first block, whose columns are one of i64 and one of texts, and the column
 /// calls of `(($.x + 1i64) > 10i64) and ($.y = "a")` and of `(10i64 <= $.x < 50i64)`.
-pub(crate) fn time(rt: &HostRuntime, request: &Opened) -> Result<()> {
-    let Some([x, y]) = request.blocks.first().map(|block| block.as_slice()) else {
-        bail!("not two columns")
-    };
-    let scope = Scope::new(rows(rt.alloc(), request, x, y)?);
+pub(crate) fn time(rt: &HostRuntime, opened: &Opened) -> Result<()> {
+    let scope = Scope::new(first_rows(rt.alloc(), &opened.request)?);
     for _ in 0..ROUNDS {
-        time_evaluation(rt, "sum", &request.filter, &scope)?;
-        time_sum(rt, scope.root())?;
-        time_evaluation(rt, "range", &request.projection, &scope)?;
-        time_range(rt, scope.root())?;
-        time_item(rt, scope.root())?;
+        time_round(rt, opened, &scope)?;
     }
     Ok(())
 }
 
+/// Times each call once.
+fn time_round(rt: &HostRuntime, opened: &Opened, scope: &Scope) -> Result<()> {
+    time_evaluation(rt, "sum", &opened.filter, scope)?;
+    time_sum(rt, scope.root())?;
+    time_evaluation(rt, "range", &opened.projection, scope)?;
+    time_range(rt, scope.root())?;
+    time_item(rt, scope.root())
+}
+
 /// The rows of the first block.
-fn rows(alloc: Global, request: &Opened, x: &ColumnRef, y: &ColumnRef) -> Result<ColumnRef> {
+fn first_rows(alloc: Global, request: &ScanRequest) -> Result<ColumnRef> {
+    let Some([x, y]) = request.blocks.first().map(|block| block.as_slice()) else {
+        bail!("not two columns")
+    };
     let names = fields(&request.zones)?.names().clone()?;
-    let columns = vec![in alloc; x.clone()?, y.clone()?]?;
+    rows(alloc, names, x, y)
+}
+
+/// The rows of two columns with these names.
+fn rows(alloc: Global, names: FieldNames, x: &ColumnRef, y: &ColumnRef) -> Result<ColumnRef> {
+    let columns = pair(alloc, x, y)?;
     match ColumnRef::struct_(alloc, names, columns, x.len(), None) {
         Ok(rows) => Ok(rows),
         Err(_) => bail!("no rows"),
     }
+}
+
+/// Two columns as a list.
+fn pair(alloc: Global, x: &ColumnRef, y: &ColumnRef) -> Mem<Vec<ColumnRef>> {
+    let x = x.clone()?;
+    Ok(vec![in alloc; x, y.clone()?]?)
 }
 
 /// Times an expression over rows.
@@ -55,23 +72,26 @@ fn time_sum(rt: &HostRuntime, rows: &ColumnRef) -> Result<()> {
 
 /// `(($.x + 1i64) > 10i64) and ($.y = "a")`
 fn sum(alloc: Global, rows: &ColumnRef) -> Result<ColumnRef> {
-    both(alloc, x_is_above(alloc, rows)?, y_is_a(alloc, rows)?)
+    let x = x_is_above(alloc, rows)?;
+    both(alloc, &x, &y_is_a(alloc, rows)?)
 }
 
 /// `(($.x + 1i64) > 10i64)`
 fn x_is_above(alloc: Global, rows: &ColumnRef) -> Result<ColumnRef> {
-    let sums = added(alloc, item(alloc, rows, "x")?, Number(1))?;
-    compared(alloc, sums, CompareOperator::Gt, Number(10))
+    let sums = next_x(alloc, rows)?;
+    compared(alloc, &sums, CompareOperator::Gt, Number(10))
+}
+
+/// `($.x + 1i64)`
+fn next_x(alloc: Global, rows: &ColumnRef) -> Result<ColumnRef> {
+    let x = item(alloc, rows, "x")?;
+    added(alloc, &x, Number(1))
 }
 
 /// `($.y = "a")`
 fn y_is_a(alloc: Global, rows: &ColumnRef) -> Result<ColumnRef> {
-    compared(
-        alloc,
-        item(alloc, rows, "y")?,
-        CompareOperator::Eq,
-        Text("a"),
-    )
+    let y = item(alloc, rows, "y")?;
+    compared(alloc, &y, CompareOperator::Eq, Text("a"))
 }
 
 /// Times the column calls of the second expression.
@@ -87,13 +107,8 @@ fn range(alloc: Global, rows: &ColumnRef) -> Result<ColumnRef> {
         lower_strict: NonStrict,
         upper_strict: Strict,
     };
-    ranged(
-        alloc,
-        item(alloc, rows, "x")?,
-        Number(10),
-        Number(50),
-        options,
-    )
+    let x = item(alloc, rows, "x")?;
+    ranged(alloc, &x, Number(10), Number(50), options)
 }
 
 /// Times the taking of a column out of the rows, once.

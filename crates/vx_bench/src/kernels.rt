@@ -1,4 +1,4 @@
-// Calls on columns, their conditions tested. Each takes its columns, so that a caller holds few at a time.
+// Calls on columns, their conditions tested.
 ghost use Rattle.std.specs.Prelude.{◌≡◌, true, length, IfOk};
 ghost use Rattle.vx_dtype.specs.TypeRules.{alike, is_bool_ty};
 
@@ -50,11 +50,11 @@ fn beside(alloc: Global, constant: Constant, column: &ColumnRef) -> Result<Colum
 }
 
 /// The sums of a column's integers and a constant.
-pub(crate) fn added(alloc: Global, column: ColumnRef, constant: Constant) -> Result<ColumnRef> {
+pub(crate) fn added(alloc: Global, column: &ColumnRef, constant: Constant) -> Result<ColumnRef> {
     if !column.dtype().is_primitive() {
         bail!("no integers")
     }
-    match checked_add(alloc, &column, &beside(alloc, constant, &column)?) {
+    match checked_add(alloc, column, &beside(alloc, constant, column)?) {
         Ok(sums) => Ok(sums),
         Err(_) => bail!("no sums"),
     }
@@ -63,20 +63,20 @@ pub(crate) fn added(alloc: Global, column: ColumnRef, constant: Constant) -> Res
 /// How a column's values compare with a constant.
 pub(crate) fn compared(
     alloc: Global,
-    column: ColumnRef,
+    column: &ColumnRef,
     operator: CompareOperator,
     constant: Constant,
 ) -> Result<ColumnRef> {
     if !is_plain(column.dtype()) {
         bail!("no plain values")
     }
-    Ok(compare(alloc, &column, &beside(alloc, constant, &column)?, operator)?)
+    Ok(compare(alloc, column, &beside(alloc, constant, column)?, operator)?)
 }
 
 /// Whether a column's values lie between two constants.
 pub(crate) fn ranged(
     alloc: Global,
-    column: ColumnRef,
+    column: &ColumnRef,
     lower: Constant,
     upper: Constant,
     options: BetweenOptions,
@@ -84,9 +84,9 @@ pub(crate) fn ranged(
     if !is_plain(column.dtype()) {
         bail!("no plain values")
     }
-    let lower = beside(alloc, lower, &column)?;
-    let upper = beside(alloc, upper, &column)?;
-    Ok(between(alloc, &column, &lower, &upper, options)?)
+    let lower = beside(alloc, lower, column)?;
+    let upper = beside(alloc, upper, column)?;
+    Ok(between(alloc, column, &lower, &upper, options)?)
 }
 
 /// Whether two columns have truths at as many rows.
@@ -108,15 +108,15 @@ fn are_truths(l: &ColumnRef, r: &ColumnRef) -> Result<()>
 }
 
 /// Both of two columns of truths.
-pub(crate) fn both(alloc: Global, l: ColumnRef, r: ColumnRef) -> Result<ColumnRef> {
-    are_truths(&l, &r)?;
-    Ok(and_kleene(alloc, &l, &r)?)
+pub(crate) fn both(alloc: Global, l: &ColumnRef, r: &ColumnRef) -> Result<ColumnRef> {
+    are_truths(l, r)?;
+    Ok(and_kleene(alloc, l, r)?)
 }
 
 /// One of two columns of truths.
-pub(crate) fn either(alloc: Global, l: ColumnRef, r: ColumnRef) -> Result<ColumnRef> {
-    are_truths(&l, &r)?;
-    Ok(or_kleene(alloc, &l, &r)?)
+pub(crate) fn either(alloc: Global, l: &ColumnRef, r: &ColumnRef) -> Result<ColumnRef> {
+    are_truths(l, r)?;
+    Ok(or_kleene(alloc, l, r)?)
 }
 
 /// The values of a column where one of truths is true.

@@ -12,22 +12,32 @@ mod timing;
 mod types;
 
 use anyhow::Result;
-use opening::open;
+use opening::{Opened, open};
 use std::{env, fs};
 
 fn main(rt: HostRuntime) -> Result<()> {
     let mut words = env::args(&rt)?.skip(1);
     let (Some(what), Some(file)) = (words.next(), words.next()) else {
-        println!(rt; "usage: vx_bench evaluate|prune|rewrite|scan REQUEST")?;
-        return Ok(());
+        return print_usage(&rt);
     };
-    let request = fs::read(&rt, file.as_str())?;
-    time(&rt, what.as_str(), request.as_slice())
+    let opened = read(&rt, file.as_str())?;
+    time(&rt, what.as_str(), opened)
+}
+
+/// Prints how the program is called.
+fn print_usage(rt: &HostRuntime) -> Result<()> {
+    println!(rt; "usage: vx_bench evaluate|prune|rewrite|scan REQUEST")?;
+    Ok(())
+}
+
+/// What the request of a file holds.
+fn read(rt: &HostRuntime, file: &str) -> Result<Opened> {
+    let request = fs::read(rt, file)?;
+    open(rt.alloc(), request.as_slice())
 }
 
 /// Times what a word names, over the table of a request.
-fn time(rt: &HostRuntime, what: &str, request: &[u8]) -> Result<()> {
-    let opened = open(rt.alloc(), request)?;
+fn time(rt: &HostRuntime, what: &str, opened: Opened) -> Result<()> {
     match what {
         "evaluate" => evaluating::time(rt, &opened),
         "prune" => pruning::time(rt, &opened),

@@ -1,18 +1,16 @@
 // What a request holds: a table and two expressions.
 use anyhow::{Result, bail};
 use std::alloc::Global;
-use vx_column::ColumnRef;
 use vx_dtype::{DType, StructFields};
 use vx_expr::ExprRef;
-use vx_request::decode_request;
+use vx_request::{ScanRequest, decode_request};
 use vx_wire::{ExprRegistry, ExprRegistryExt, deserialize_expr_proto, read_tree};
 use vx_zones::ZoneMap;
 
-/// The table of a request, and its two expressions.
+/// A request, and its two expressions.
 #[derive(Drop)]
 pub(crate) struct Opened {
-    pub(crate) zones: ZoneMap,
-    pub(crate) blocks: Vec<Vec<ColumnRef>>,
+    pub(crate) request: ScanRequest,
     pub(crate) filter: ExprRef,
     pub(crate) projection: ExprRef,
 }
@@ -22,11 +20,15 @@ pub(crate) fn open(alloc: Global, bytes: &[u8]) -> Result<Opened> {
     let Ok(request) = decode_request(alloc, bytes) else {
         bail!("no request")
     };
+    with_expressions(alloc, request)
+}
+
+/// A request with the expressions that its bytes spell.
+fn with_expressions(alloc: Global, request: ScanRequest) -> Result<Opened> {
     let filter = expression(alloc, request.filter.as_slice())?;
     let projection = expression(alloc, request.projection.as_slice())?;
     Ok(Opened {
-        zones: request.zones,
-        blocks: request.blocks,
+        request,
         filter,
         projection,
     })

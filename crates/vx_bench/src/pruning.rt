@@ -1,5 +1,5 @@
 // Pruning of many blocks beside the column calls that it needs.
-ghost use Rattle.std.specs.Prelude.{◌≡◌, Ok};
+ghost use Rattle.std.specs.Prelude.{◌≡◌, ◌<◌, ◌^◌, Ok, length};
 ghost use Rattle.vx_dtype.specs.TypeViews.{type_view};
 ghost use Rattle.vx_semantics.specs.Tables.{row_type};
 ghost use Rattle.vx_semantics.specs.Typing.{typed_of};
@@ -23,10 +23,19 @@ const COPIES: u32 = 1000;
 
 /// Times the filter's pruning of the blocks, whose statistics are the bounds of `x` and those of `y`, and the column calls of
 /// `(10i64 < $.x < 20i64) and ($.y = "a")`.
-pub(crate) fn time(rt: &HostRuntime, request: &Opened) -> Result<()> {
-    let zones = many(rt.alloc(), &request.zones)?;
-    let dtype = request.filter.typed(rt.alloc(), zones.dtype())?;
-    time_typed(rt, &zones, &request.filter, &dtype)
+pub(crate) fn time(rt: &HostRuntime, opened: &Opened) -> Result<()> {
+    let zones = many(rt.alloc(), &opened.request.zones)?;
+    for _ in 0..ROUNDS {
+        time_filter(rt, &zones, &opened.filter)?;
+        time_calls(rt, &zones)?;
+    }
+    Ok(())
+}
+
+/// Times the pruning by a filter.
+fn time_filter(rt: &HostRuntime, zones: &ZoneMap, filter: &ExprRef) -> Result<()> {
+    let dtype = filter.typed(rt.alloc(), zones.dtype())?;
+    time_typed(rt, zones, filter, &dtype)
 }
 
 /// The same for a filter of this type.
@@ -36,13 +45,9 @@ fn time_typed(rt: &HostRuntime, zones: &ZoneMap, filter: &ExprRef, dtype: &DType
     if !slots_fit(&[], filter) {
         bail!("slots")
     }
-    for _ in 0..ROUNDS {
-        let start = Instant::now(rt)?;
-        let _flags = ruled_out(rt.alloc(), zones, filter, &[])?;
-        print_since(rt, "prune", &start)?;
-        time_calls(rt, zones)?;
-    }
-    Ok(())
+    let start = Instant::now(rt)?;
+    let _flags = ruled_out(rt.alloc(), zones, filter, &[])?;
+    print_since(rt, "prune", &start)
 }
 
 /// The zones of as many blocks as those of the request stand for.
@@ -51,8 +56,16 @@ fn many(alloc: Global, zones: &ZoneMap) -> Result<ZoneMap> {
     if lengths.len() > 16_777_216 {
         bail!("too many blocks")
     }
+    zones_of(alloc, zones, lengths)
+}
+
+/// The zones of blocks of these lengths, the statistics of others again and again.
+fn zones_of(alloc: Global, zones: &ZoneMap, lengths: Vec<u32>) -> Result<ZoneMap>
+    requires { length lengths.items < 2 ^ 32 }
+{
+    let columns = fields(zones)?.clone()?;
     let stats = many_stats(alloc, zones.stats())?;
-    match ZoneMap::try_new(alloc, fields(zones)?.clone()?, lengths, stats) {
+    match ZoneMap::try_new(alloc, columns, lengths, stats) {
         Ok(zones) => Ok(zones),
         Err(_) => bail!("no zones"),
     }
@@ -71,13 +84,19 @@ fn many_lengths(alloc: Global, lengths: &[u32]) -> Mem<Vec<u32>> {
 fn many_stats(alloc: Global, stats: &[ZoneStat]) -> Mem<Vec<ZoneStat>> {
     let mut made = Vec::new(alloc);
     for stat in stats {
-        made.push(ZoneStat {
-            path: stat.path.clone()?,
-            stat: stat.stat,
-            values: many_values(alloc, stat.values.as_slice())?,
-        })?;
+        made.push(many_of(alloc, stat)?)?;
     }
     Ok(made)
+}
+
+/// A statistic, its values again and again.
+fn many_of(alloc: Global, stat: &ZoneStat) -> Mem<ZoneStat> {
+    let path = stat.path.clone()?;
+    Ok(ZoneStat {
+        path,
+        stat: stat.stat,
+        values: many_values(alloc, stat.values.as_slice())?,
+    })
 }
 
 /// The values of a statistic, again and again.
@@ -103,20 +122,22 @@ fn outside(alloc: Global, zones: &ZoneMap) -> Result<ColumnRef> {
     let [x_min, x_max, y_min, y_max] = zones.stats() else {
         bail!("not four statistics")
     };
-    let below = bound(alloc, x_max, CompareOperator::Lte, Number(10))?;
-    let above = bound(alloc, x_min, CompareOperator::Gte, Number(20))?;
-    let x = either(alloc, below, above)?;
-    either(alloc, x, other_text(alloc, y_min, y_max)?)
+    let x = other_number(alloc, x_min, x_max)?;
+    either(alloc, &x, &other_text(alloc, y_min, y_max)?)
+}
+
+/// Where `x` isn't between 10 and 20.
+fn other_number(alloc: Global, least: &ZoneStat, greatest: &ZoneStat) -> Result<ColumnRef> {
+    let below = bound(alloc, greatest, CompareOperator::Lte, Number(10))?;
+    let above = bound(alloc, least, CompareOperator::Gte, Number(20))?;
+    either(alloc, &below, &above)
 }
 
 /// Where `y` isn't `a`.
 fn other_text(alloc: Global, least: &ZoneStat, greatest: &ZoneStat) -> Result<ColumnRef> {
     let above = bound(alloc, least, CompareOperator::Gt, Text("a"))?;
-    either(
-        alloc,
-        above,
-        bound(alloc, greatest, CompareOperator::Lt, Text("a"))?,
-    )
+    let below = bound(alloc, greatest, CompareOperator::Lt, Text("a"))?;
+    either(alloc, &above, &below)
 }
 
 /// How a statistic compares with a constant.
@@ -126,7 +147,8 @@ fn bound(
     operator: CompareOperator,
     constant: Constant,
 ) -> Result<ColumnRef> {
-    compared(alloc, column_of(alloc, stat)?, operator, constant)
+    let column = column_of(alloc, stat)?;
+    compared(alloc, &column, operator, constant)
 }
 
 /// The values of a statistic as a column.
@@ -135,8 +157,8 @@ fn column_of(alloc: Global, stat: &ZoneStat) -> Result<ColumnRef> {
     let Some(first) = scalars.first() else {
         bail!("no blocks")
     };
-    let values = values_of(alloc, scalars)?;
-    match ColumnRef::from_values(alloc, first.dtype().clone()?, values.as_slice()) {
+    let dtype = first.dtype().clone()?;
+    match ColumnRef::from_values(alloc, dtype, values_of(alloc, scalars)?.as_slice()) {
         Ok(column) => Ok(column),
         Err(_) => bail!("no column"),
     }

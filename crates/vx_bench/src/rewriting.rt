@@ -10,18 +10,27 @@ use vx_transform::simplify_typed;
 use vx_zones::ZoneMap;
 
 /// Times the filter's simplifying and its split into parts, and prints how long the texts of the filter and of the simplified one are.
-pub(crate) fn time(rt: &HostRuntime, request: &Opened) -> Result<()> {
-    let scope = request.zones.dtype();
-    print_length(rt, "given", &request.filter)?;
+pub(crate) fn time(rt: &HostRuntime, opened: &Opened) -> Result<()> {
+    print_length(rt, "given", &opened.filter)?;
     for _ in 0..ROUNDS {
-        let filter = request.filter.clone()?;
-        let start = Instant::now(rt)?;
-        let simple = simplify_typed(rt.alloc(), filter, scope)?;
-        print_since(rt, "simplify", &start)?;
-        print_length(rt, "simplified", &simple)?;
-        time_split(rt, simple, &request.zones)?;
+        time_round(rt, &opened.filter, &opened.request.zones)?;
     }
     Ok(())
+}
+
+/// Times each call once.
+fn time_round(rt: &HostRuntime, filter: &ExprRef, zones: &ZoneMap) -> Result<()> {
+    let simple = time_simplifying(rt, filter.clone()?, zones.dtype())?;
+    print_length(rt, "simplified", &simple)?;
+    time_split(rt, simple, zones)
+}
+
+/// Times the simplifying of an expression over a scope of this type, and answers the result.
+fn time_simplifying(rt: &HostRuntime, filter: ExprRef, scope: &DType) -> Result<ExprRef> {
+    let start = Instant::now(rt)?;
+    let simple = simplify_typed(rt.alloc(), filter, scope)?;
+    print_since(rt, "simplify", &start)?;
+    Ok(simple)
 }
 
 /// Times the split of an expression by the columns that it touches.

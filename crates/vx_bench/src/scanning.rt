@@ -7,27 +7,44 @@ use anyhow::{Result, bail};
 use std::alloc::Global;
 use std::time::Instant;
 use vx_column::ColumnRef;
-use vx_dtype::{CompareOperator, Mem};
+use vx_dtype::{CompareOperator, Mem, ScalarValue};
 use vx_expr::ExprRef;
+use vx_request::ScanRequest;
 use vx_scan::{MemoryStore, scan_exprs};
 
 /// Times the scan of the table, whose first column is one of i64, and the column calls of `$.x` where `($.x > 10i64)` over it.
-pub(crate) fn time(rt: &HostRuntime, request: Opened) -> Result<()> {
+pub(crate) fn time(rt: &HostRuntime, opened: Opened) -> Result<()> {
     let Opened {
-        zones,
-        blocks,
+        request,
         filter,
         projection,
-    } = request;
-    let columns = first_columns(rt.alloc(), blocks.as_slice())?;
-    let Ok(mut store) = MemoryStore::try_new(rt.alloc(), zones, blocks, Vec::new(rt.alloc())) else {
-        bail!("no table")
-    };
+    } = opened;
+    time_request(rt, &filter, &projection, request)
+}
+
+/// The same for a filter and a projection over the table of a request.
+fn time_request(
+    rt: &HostRuntime,
+    filter: &ExprRef,
+    projection: &ExprRef,
+    request: ScanRequest,
+) -> Result<()> {
+    let columns = first_columns(rt.alloc(), request.blocks.as_slice())?;
+    let mut store = store_of(rt.alloc(), request)?;
     for _ in 0..ROUNDS {
-        time_scan(rt, &filter, &projection, &mut store)?;
+        time_scan(rt, filter, projection, &mut store)?;
         time_calls(rt, columns.as_slice())?;
     }
     Ok(())
+}
+
+/// The table of a request.
+fn store_of(alloc: Global, request: ScanRequest) -> Result<MemoryStore> {
+    let ScanRequest { zones, blocks, .. } = request;
+    match MemoryStore::try_new(alloc, zones, blocks, Vec::new(alloc)) {
+        Ok(store) => Ok(store),
+        Err(_) => bail!("no table"),
+    }
 }
 
 /// The first column of each block.
@@ -60,13 +77,18 @@ fn time_calls(rt: &HostRuntime, columns: &[ColumnRef]) -> Result<()> {
     let start = Instant::now(rt)?;
     let mut rows = Vec::new(rt.alloc());
     for column in columns {
-        above_ten(rt.alloc(), column)?.append_to(rt.alloc(), &mut rows)?;
+        append_above_ten(rt.alloc(), column, &mut rows)?;
     }
     print_since(rt, "scan_calls", &start)
 }
 
+/// Puts the numbers of a column that are above 10 behind a list.
+fn append_above_ten(alloc: Global, column: &ColumnRef, rows: &mut Vec<ScalarValue>) -> Result<()> {
+    Ok(above_ten(alloc, column)?.append_to(alloc, rows)?)
+}
+
 /// The numbers of a column that are above 10.
 fn above_ten(alloc: Global, column: &ColumnRef) -> Result<ColumnRef> {
-    let above = compared(alloc, column.clone()?, CompareOperator::Gt, Number(10))?;
+    let above = compared(alloc, column, CompareOperator::Gt, Number(10))?;
     kept(alloc, column, &above)
 }
