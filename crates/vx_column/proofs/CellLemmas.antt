@@ -5,7 +5,6 @@ use Rattle.std.proofs.Math.ListN.{replicate}
 use Rattle.std.proofs.lemmas.List.{get_or-replicate, length-replicate, take_more}
 use Rattle.std.proofs.lemmas.List.FromFn.{length-map-range_with_len, get_or-map-range_with_len}
 use Rattle.vx_dtype.specs.Types.{Bytes, Ty, bool_ty, int_ty, text_ty, list_ty, struct_ty, Fields, no_fields, field}
-use Rattle.vx_dtype.specs.declared.Nullability.{Nullability}
 use Rattle.vx_dtype.specs.declared.Nullability.TheVariants.{NonNullable, Nullable}
 use Rattle.vx_dtype.specs.TypeRules.{field_names, fields_of, with_nullability, nullability_of, is_nullable, is_plain, alike, is_bool_ty, is_text_ty, depth_of, depth_below}
 use Rattle.vx_dtype.specs.StructTypes.{field_types}
@@ -138,10 +137,6 @@ values_fit_nullable t (x ∷ xs) e =
     let h = both_of (fits (raw_view x) t) (values_fit t xs) e in
     of_both _ _ (fits_nullable (raw_view x) t h.0) (values_fit_nullable t xs h.1)
 
-pub seen_rows_with : (t : Ty) (n : Nullability) (xs : List ScalarValue) → seen_rows (with_nullability t n) xs ≡ seen_rows t xs
-seen_rows_with t n [] = refl
-seen_rows_with t n (x ∷ xs) = λ i. valued_with_nullability (raw_view x) t n i ∷ seen_rows_with t n xs i
-
 -- one row more
 pub made_more : (c : Column) (ms ns : List ScalarValue) (i : ℕ) (m : ScalarValue) → i < length c.rows → StandsAt i c m → ns ≡ ms ++ m ∷ [] → (values_fit c.ty ms ≡ true) × (seen_rows c.ty ms ≡ take i c.rows) → (values_fit c.ty ns ≡ true) × (seen_rows c.ty ns ≡ take (i + 1) c.rows)
 made_more c ms ns i m h s e before =
@@ -201,11 +196,6 @@ pub nullable_constant : (c : Column) (d : Ty) (n : ℕ) (x y : ScalarValue) → 
 nullable_constant c d n x y e v r =
     let value : seen d y ≡ seen c.ty x = (λ j. valued (v j) (e j)) ∙ valued_with_nullability (raw_view x) c.ty Nullable in
     λ j. column (e j) ((ap (replicate n) value ∙ r) j)
-
-pub nullable_values : (c : Column) (d : Ty) (xs : List ScalarValue) → d ≡ with_nullability c.ty Nullable → seen_rows c.ty xs ≡ c.rows → column d (seen_rows d xs) ≡ column (with_nullability c.ty Nullable) c.rows
-nullable_values c d xs e r =
-    let rows : seen_rows d xs ≡ c.rows = ap (λ t. seen_rows t xs) e ∙ seen_rows_with c.ty Nullable xs ∙ r in
-    λ j. column (e j) (rows j)
 
 -- a column's rows are of its type where those of all columns are
 pub column_fits : (cs : List Column) (k : ℕ) (d : Column) → all_rows_fit cs ≡ true → k < length cs → rows_fit (get_or cs k d).ty (get_or cs k d).rows ≡ true

@@ -25,3 +25,6 @@ mod KeptPlaces
 mod MaskedLemmas
 mod SameMasked
 mod MaskedParts
+mod SplitLemmas
+mod NullLemmas
+mod FillerLemmas

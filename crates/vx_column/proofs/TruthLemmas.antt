@@ -16,7 +16,7 @@ use Rattle.vx_dtype.specs.RawViews.{raw_view}
 use Rattle.vx_dtype.specs.declared.values.ScalarValue.{ScalarValue}
 use Rattle.vx_words.specs.Words.{truth_val}
 use Rattle.vx_words.specs.Truths.{vals_of, is_true, hidden_if, kept_items}
-use Rattle.vx_column.specs.RawParts.{raw_truth, truth_fits, is_raw_null}
+use Rattle.vx_column.specs.RawParts.{raw_truth, truth_fits}
 use Rattle.vx_column.specs.Columns.{Column, column, row_at, rows_fit, raws_fit, raw_rows, values_fit, seen, seen_rows, zip_rows, kept_rows, masked, true_count}
 use Rattle.vx_column.specs.Answers.{optional_raw}
 use Rattle.vx_column.specs.Cells.{truths_fit, AreTruthsOf, kept_column}
@@ -24,7 +24,7 @@ use Rattle.vx_column.specs.StructColumns.{StandsAt}
 use Rattle.vx_column.specs.declared.logic.Connective.{Connective}
 use Rattle.vx_column.specs.declared.logic.Connective.TheVariants.{And, Or}
 use Rattle.vx_column.specs.Connectives.{connected3}
-use Rattle.vx_column.proofs.FitLemmas.{both_of, of_both, is_null3_valued}
+use Rattle.vx_column.proofs.FitLemmas.{both_of, of_both}
 use Rattle.vx_column.proofs.OrderLemmas.{nullable_left, nullable_right}
 use Rattle.vx_column.proofs.TrueCounts.{true_count-cons}
 use Rattle.vx_column.proofs.RowLemmas.{seen_rows_append, zip_rows_suc, zip_rows_repeated}
@@ -172,16 +172,6 @@ null_fit n (l ∷ ls) (t ∷ ts) e =
     let rest : vals_of ts ≡ map is_null3 (vals_of ls) = cc in
     of_both _ _ (null_truth_fits n l t here) (null_fit n ls ts rest)
 
-pub nulls_seen : (t : Ty) (xs : List ScalarValue) → values_fit t xs ≡ true → vals_of (map (λ x. Some (is_raw_null (raw_view x))) xs) ≡ map is_null3 (seen_rows t xs)
-nulls_seen t [] e = refl
-nulls_seen t (x ∷ xs) e =
-    let both = both_of (fits (raw_view x) t) (values_fit t xs) e in
-    λ j. sym (is_null3_valued (raw_view x) t both.0) j ∷ nulls_seen t xs both.1 j
-
-pub nulls_fit : (n : Nullability) (xs : List ScalarValue) → truths_fit n (map (λ x. Some (is_raw_null (raw_view x))) xs) ≡ true
-nulls_fit n [] = refl
-nulls_fit n (x ∷ xs) = nulls_fit n xs
-
 -- a nullable type has every truth
 pub truths_fit_nullable : (ts : List (Option Bool)) → truths_fit Nullable ts ≡ true
 truths_fit_nullable [] = refl
@@ -308,10 +298,6 @@ pub kept_truths_column : (c : Column) (d : Ty) (ts ks us : List (Option Bool)) �
 kept_truths_column c d ts ks us e r k =
     let rows : vals_of us ≡ kept_rows c.rows (vals_of ks) = ap vals_of k ∙ kept_truths_rows ts ks ∙ ap (λ vs. kept_rows vs (vals_of ks)) r in
     λ j. column (e j) (rows j)
-
--- tests for null are truths of a boolean type that isn't nullable
-pub tests_are_truths : (xs : List ScalarValue) → AreTruthsOf (bool_ty NonNullable) (map (λ x. Some (is_raw_null (raw_view x))) xs)
-tests_are_truths xs = record { kind = refl; fit = nulls_fit NonNullable xs }
 
 pub nulls_of_truths : (ls ts : List (Option Bool)) → vals_of ts ≡ map is_null3 (vals_of ls) → AreTruthsOf (bool_ty NonNullable) ts
 nulls_of_truths ls ts e = record { kind = refl; fit = null_fit NonNullable ls ts e }

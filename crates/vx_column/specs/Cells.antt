@@ -68,9 +68,16 @@ abbrev pub numbers_fit : PType → Nullability → List (Option ℤ) → Bool
 numbers_fit p n [] = true
 numbers_fit p n (i ∷ is) = number_fits p n i && numbers_fit p n is
 
--- the values are those of a type that is neither boolean nor an integer type
+-- whether a column of the type keeps no columns of fields
+abbrev pub keeps_values : Ty → Bool
+keeps_values (struct_ty fs n) = false
+keeps_values _ = true
+
+-- the values are those of a type of texts or lists that isn't nullable
 pub record AreValuesOf (t : Ty) (xs : List ScalarValue) : Type 0 where
   pub fit : values_fit t xs ≡ true
+  pub whole : is_nullable (nullability_of t) ≡ false
+  pub no_structs : keeps_values t ≡ true
   pub no_truths : is_bool_ty t ≡ false
   pub no_numbers : is_int_ty t ≡ false
 
@@ -103,11 +110,6 @@ ArePartsOf t (Truths ts) = AreTruthsOf t ts.value
 ArePartsOf t (Numbers ns) = AreNumbersOf t ns.value
 ArePartsOf t (Columns cs n) = AreFieldsOf t cs.value.items n
 ArePartsOf t (Masked c ns) = AreMaskedOf t c.value ns.value
-
--- whether a column of the type keeps no columns of fields
-abbrev pub keeps_values : Ty → Bool
-keeps_values (struct_ty fs n) = false
-keeps_values _ = true
 
 -- the column with the rows where the values are true
 abbrev pub kept_column : List Val → Column → Column

@@ -12,4 +12,5 @@ pub mod Cells
 pub mod TypeSizes
 pub mod Sizes
 pub mod RowValues
+pub mod Splits
 pub mod Connectives

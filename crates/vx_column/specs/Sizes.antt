@@ -32,7 +32,7 @@ most_le-depth_below (c ∷ cs) (field f t fs) e =
     let rest : column_types cs ≡ field_types fs = cc in
     omega (arith, size_le c.ty, ap depth_of here, most_le-depth_below cs fs rest)
 
-depth_with : (t : Ty) (n : Nullability) → depth_of (with_nullability t n) ≡ depth_of t
+pub depth_with : (t : Ty) (n : Nullability) → depth_of (with_nullability t n) ≡ depth_of t
 unfolding depth_of
 depth_with (bool_ty m) n = refl
 depth_with (int_ty p m) n = refl

@@ -18,7 +18,7 @@ pub(crate) enum Cells {
         value: ScalarValue,
         len: usize,
     },
-    /// A value for each row, of a type that is neither boolean nor an integer type.
+    /// A value for each row, of a type of texts or lists that isn't nullable.
     Rows(Rc<Vec<ScalarValue>>),
     /// The truths of a boolean type.
     Truths(Rc<Truths>),

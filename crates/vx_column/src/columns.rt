@@ -7,17 +7,17 @@ ghost use Rattle.vx_dtype.specs.Logic.{is_null3};
 ghost use Rattle.vx_dtype.specs.Fits.{fits};
 ghost use Rattle.vx_dtype.specs.RawViews.{raw_view};
 ghost use Rattle.vx_column.specs.Answers.{Answers, column_of_raws};
-ghost use Rattle.vx_dtype.specs.TypeRules.{no_name_twice, field_names, fields_of, is_bool_ty, is_int_ty, with_nullability};
+ghost use Rattle.vx_dtype.specs.TypeRules.{no_name_twice, field_names, fields_of, with_nullability};
 ghost use Rattle.vx_dtype.specs.TypeViews.{type_view};
 ghost use Rattle.vx_column.specs.Columns.{Column, column, row_at, rows_fit, values_fit, seen, seen_rows, masked, zip_rows};
-ghost use Rattle.vx_column.specs.Cells.{cell_rows, numbers_vals, structs_of, AreFieldsOf, AreNumbersOf, ArePartsOf, AreTruthsOf, masks_apart};
+ghost use Rattle.vx_column.specs.Cells.{cell_rows, numbers_vals, structs_of, AreFieldsOf, AreValuesOf, AreNumbersOf, ArePartsOf, AreTruthsOf, masks_apart};
 ghost use Rattle.vx_words.specs.Truths.{vals_of};
 
-use crate::cells::{Cells, is_hidden, numbers_in, truths_in, values_in};
+use crate::cells::{Cells, is_hidden, numbers_in, truths_in};
 use crate::errors::ColumnError;
-use crate::logic::{is_null_value, truths_of_values};
-use crate::numbers::numbers_of_values;
+use crate::logic::is_null_value;
 use crate::reading::made_at;
+use crate::splits::column_of;
 use std::alloc::{AllocError, Global};
 use std::marker::Model;
 use std::rc::Rc;
@@ -67,17 +67,7 @@ impl ColumnRef {
         requires names { no_name_twice (type_view dtype) ≡ true }
         ensures { IfOk result (λ c. c ≡ column (type_view dtype) (seen_rows (type_view dtype) rows.items)) }
     {
-        match dtype {
-            DType::Bool(_) => {
-                let truths = truths_of_values(alloc, rows.as_slice())?;
-                ColumnRef::of_truths(alloc, dtype, truths)
-            }
-            DType::Primitive(ptype, _) => {
-                let numbers = numbers_of_values(alloc, ptype, rows.as_slice())?;
-                ColumnRef::of_numbers(alloc, dtype, numbers)
-            }
-            _ => Ok(ColumnRef::of_shared(dtype, Rc::new(alloc, rows)?)),
-        }
+        column_of(alloc, dtype, rows)
     }
 
     /// The column of these truths. It is for truths that are known to be of the type, which is boolean.
@@ -118,11 +108,9 @@ impl ColumnRef {
         }
     }
 
-    /// The column of these shared values. It is for values that are known to be of the type, which is neither boolean nor an integer type.
+    /// The column of these shared values. It is for values that are known to be of the type, which is one of texts or lists that isn't nullable.
     pub(crate) fn of_shared(dtype: DType, rows: Rc<Vec<ScalarValue>>) -> ColumnRef
-        requires fit { values_fit (type_view dtype) rows.value.items ≡ true }
-        requires no_truths { is_bool_ty (type_view dtype) ≡ false }
-        requires no_numbers { is_int_ty (type_view dtype) ≡ false }
+        requires values { AreValuesOf (type_view dtype) rows.value.items }
         requires names { no_name_twice (type_view dtype) ≡ true }
         ensures { result ≡ column (type_view dtype) (seen_rows (type_view dtype) rows.value.items) }
     {
@@ -229,10 +217,7 @@ impl ColumnRef {
     {
         match self.cells() {
             Cells::Constant { value, .. } => !is_null_value(value),
-            Cells::Rows(rows) => {
-                let values = values_in(rows);
-                !is_null_value(&values[i])
-            }
+            Cells::Rows(_) => true,
             Cells::Truths(truths) => truths_in(truths).truth_at(i).is_some(),
             Cells::Numbers(numbers) => numbers_in(numbers).number_at(i).is_some(),
             Cells::Columns { .. } => true,

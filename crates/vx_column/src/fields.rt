@@ -1,6 +1,5 @@
 // Fields of struct columns.
 ghost use Rattle.std.specs.Prelude.{◌≡◌, true, Some, position, option_copied};
-ghost use Rattle.std.specs.List.{slice_get};
 ghost use Rattle.std.specs.Str.{bytes_eq};
 ghost use Rattle.vx_dtype.specs.Types.{Fields, struct_ty};
 ghost use Rattle.vx_dtype.specs.declared.Nullability.{Nullability};
@@ -8,9 +7,8 @@ ghost use Rattle.vx_dtype.specs.Fits.{fits};
 ghost use Rattle.vx_dtype.specs.RawViews.{raw_view};
 ghost use Rattle.vx_column.specs.Columns.{seen};
 ghost use Rattle.vx_dtype.specs.TypeRules.{field_names, widened};
-ghost use Rattle.vx_dtype.specs.StructTypes.{field_types, is_struct_ty};
+ghost use Rattle.vx_dtype.specs.StructTypes.{is_struct_ty};
 ghost use Rattle.vx_dtype.specs.Structs.{field_of};
-ghost use Rattle.vx_dtype.specs.TypeViews.{type_view};
 ghost use Rattle.vx_column.specs.Answers.{Answers, field_column, type_at_place, PartsOf};
 
 use crate::cells::{Cells, column_in, columns_in};

@@ -8,6 +8,7 @@ mod comparisons;
 mod equality;
 mod errors;
 mod fields;
+mod fillers;
 mod likes;
 mod logic;
 mod making;
@@ -17,6 +18,7 @@ mod patterns;
 mod projections;
 mod reading;
 mod rows;
+mod splits;
 mod structs;
 mod sums;
 

@@ -14,7 +14,7 @@ ghost use Rattle.vx_column.specs.Columns.{seen, zip_rows};
 ghost use Rattle.vx_column.specs.Connectives.{connected3};
 ghost use Rattle.vx_column.specs.RawParts.{is_raw_null, raw_truth, truth_fits};
 
-use crate::cells::{Cells, numbers_in, truths_in, values_in};
+use crate::cells::{Cells, numbers_in, truths_in};
 use crate::columns::ColumnRef;
 use crate::reading::truths_of;
 use std::alloc::Global;
@@ -220,7 +220,7 @@ pub(crate) fn is_null_value(value: &ScalarValue) -> bool
 }
 
 /// Whether values are null, one by one.
-fn are_null(alloc: Global, values: &[ScalarValue]) -> Mem<Truths>
+pub(crate) fn are_null(alloc: Global, values: &[ScalarValue]) -> Mem<Truths>
     ensures { IfOk result (λ truths. truths ≡ map (λ x. Some (is_raw_null (raw_view x))) values.now) }
 {
     let mut truths = Vec::with_capacity(alloc, values.len())?;
@@ -246,10 +246,6 @@ pub fn is_null(alloc: Global, c: &ColumnRef) -> Mem<ColumnRef>
             let truth = Some(is_null_value(value));
             Ok(ColumnRef::of_constant(made, of_truth(truth), *len))
         }
-        Cells::Rows(rows) => {
-            let truths = are_null(alloc, values_in(rows))?;
-            ColumnRef::of_truths(alloc, made, truths)
-        }
         Cells::Truths(truths) => {
             let nulls = truths_in(truths).is_null(alloc)?;
             ColumnRef::of_truths(alloc, made, nulls)
@@ -258,7 +254,7 @@ pub fn is_null(alloc: Global, c: &ColumnRef) -> Mem<ColumnRef>
             let nulls = numbers_in(numbers).is_null(alloc)?;
             ColumnRef::of_truths(alloc, made, nulls)
         }
-        Cells::Columns { .. } => unreachable!(),
+        Cells::Rows(_) | Cells::Columns { .. } => unreachable!(),
         Cells::Masked { nulls, .. } => {
             let truths = truths_in(nulls);
             let known = truths.is_null(alloc)?.not(alloc)?;

@@ -1,23 +1,24 @@
 // Rows that are kept, and rows that are made null.
-ghost use Rattle.std.specs.Prelude.{◌≡◌, ◌<◌, true, slice_index_or, length, map, None, IfOk};
+ghost use Rattle.std.specs.Prelude.{◌≡◌, true, false, length, map, IfOk};
+ghost use Rattle.std.proofs.Math.ListN.{replicate};
 ghost use Rattle.std.specs.List.{All};
 ghost use Rattle.vx_dtype.specs.declared.Nullability.TheVariants.{Nullable};
-ghost use Rattle.vx_dtype.specs.TypeRules.{is_bool_ty, is_nullable, nullability_of, with_nullability};
+ghost use Rattle.vx_dtype.specs.TypeRules.{is_bool_ty, is_int_ty, is_nullable, no_name_twice, nullability_of, with_nullability};
 ghost use Rattle.vx_dtype.specs.TypeViews.{type_view};
 ghost use Rattle.vx_dtype.specs.Fits.{fits};
 ghost use Rattle.vx_dtype.specs.RawViews.{raw_view};
-ghost use Rattle.vx_words.specs.Words.{truth_val};
 ghost use Rattle.vx_words.specs.Truths.{vals_of};
-ghost use Rattle.vx_column.specs.Columns.{row_at, values_fit, seen, seen_rows, kept_rows, true_count, masked, zip_rows};
+ghost use Rattle.vx_column.specs.Columns.{column, values_fit, seen, seen_rows, kept_rows, true_count, masked, zip_rows};
 ghost use Rattle.vx_column.specs.Cells.{kept_column, masks_apart};
 
 use crate::cells::{Cells, column_in, columns_in, numbers_in, truths_in, values_in};
 use crate::columns::ColumnRef;
-use crate::logic::{is_true, null, truth_of};
-use crate::reading::{made_at, truths_of};
+use crate::logic::{is_null_value, is_true, null, truth_of};
+use crate::numbers::numbers_of;
+use crate::reading::truths_of;
 use std::alloc::Global;
 use std::rc::Rc;
-use vx_dtype::{DType, Mem, ScalarValue};
+use vx_dtype::{DType, Mem, Nullability, ScalarValue};
 use vx_words::Truths;
 
 impl ColumnRef {
@@ -43,23 +44,18 @@ impl ColumnRef {
         }
         let nullable = self.made_nullable(alloc)?;
         let dtype = nullable.dtype().clone()?;
-        match nullable.cells() {
-            Cells::Truths(own) => {
-                let masked = truths_in(own).mask(alloc, truths_in(&nulls))?;
+        match &dtype {
+            DType::Bool(_) => {
+                let own = truths_of(alloc, &nullable)?;
+                let masked = truths_in(&own).mask(alloc, truths_in(&nulls))?;
                 ColumnRef::of_truths(alloc, dtype, masked)
             }
-            Cells::Numbers(numbers) => {
-                let masked = numbers_in(numbers).mask(alloc, truths_in(&nulls))?;
+            DType::Primitive(_, _) => {
+                let own = numbers_of(alloc, &nullable)?;
+                let masked = numbers_in(&own).mask(alloc, truths_in(&nulls))?;
                 ColumnRef::of_numbers(alloc, dtype, masked)
             }
-            Cells::Masked { column, nulls: own } => {
-                let either = truths_in(own).or(alloc, truths_in(&nulls))?;
-                ColumnRef::of_masked(alloc, column_in(column).clone()?, Rc::new(alloc, either)?)
-            }
-            _ => {
-                let rows = masked_values(alloc, &nullable, truths_in(&nulls))?;
-                ColumnRef::of_rows(alloc, dtype, rows)
-            }
+            _ => masked_again(alloc, &nullable, nulls),
         }
     }
 
@@ -97,32 +93,46 @@ fn masks_apart(dtype: &DType) -> bool
     }
 }
 
-/// The values of a nullable column, null where a truth is true.
-fn masked_values(alloc: Global, column: &ColumnRef, nulls: &Truths) -> Mem<Vec<ScalarValue>>
-    requires nullable { is_nullable (nullability_of column.now.ty) ≡ true }
-    requires lengths { length column.now.rows ≡ length nulls.now }
-    ensures fit { IfOk result (λ xs. values_fit column.now.ty xs.items ≡ true) }
-    ensures rows { IfOk result (λ xs. seen_rows column.now.ty xs.items ≡ zip_rows masked column.now.rows (vals_of nulls.now)) }
+/// A column of a type that is nullable, and neither boolean nor an integer type, with the rows made null where a truth is true.
+fn masked_again(alloc: Global, c: &ColumnRef, nulls: Rc<Truths>) -> Mem<ColumnRef>
+    requires nullable { is_nullable (nullability_of c.now.ty) ≡ true }
+    requires no_truths { is_bool_ty c.now.ty ≡ false }
+    requires no_numbers { is_int_ty c.now.ty ≡ false }
+    requires lengths { length nulls.value ≡ length c.now.rows }
+    ensures { IfOk result (λ made. made ≡ column c.now.ty (zip_rows masked c.now.rows (vals_of nulls.value))) }
 {
-    let mut masked = Vec::with_capacity(alloc, column.len())?;
-    for i in 0..column.len() {
-        masked.push(masked_value(alloc, column, nulls, i)?)?;
+    match c.cells() {
+        Cells::Masked { column, nulls: own } => {
+            let either = truths_in(own).or(alloc, truths_in(&nulls))?;
+            ColumnRef::of_masked(alloc, column_in(column).clone()?, Rc::new(alloc, either)?)
+        }
+        Cells::Constant { value, len } => masked_constant(alloc, c.dtype(), value, *len, nulls),
+        _ => unreachable!(),
     }
-    Ok(masked)
 }
 
-/// The value of a nullable column at a row, null where the truth is true.
-fn masked_value(alloc: Global, column: &ColumnRef, nulls: &Truths, i: usize) -> Mem<ScalarValue>
-    requires nullable { is_nullable (nullability_of column.now.ty) ≡ true }
-    requires row { i < length column.now.rows }
-    requires truth { i < length nulls.now }
-    ensures fit { IfOk result (λ x. fits (raw_view x) column.now.ty ≡ true) }
-    ensures value { IfOk result (λ x. seen column.now.ty x ≡ masked (row_at column.now i) (truth_val (slice_index_or nulls.now i None))) }
+/// The column of this many rows of one value, null where a truth is true, of a type that is nullable, and neither boolean nor an integer type.
+fn masked_constant(
+    alloc: Global,
+    dtype: &DType,
+    value: &ScalarValue,
+    len: usize,
+    nulls: Rc<Truths>,
+) -> Mem<ColumnRef>
+    requires fit { fits (raw_view value.now) (type_view dtype.now) ≡ true }
+    requires names { no_name_twice (type_view dtype.now) ≡ true }
+    requires nullable { is_nullable (nullability_of (type_view dtype.now)) ≡ true }
+    requires no_truths { is_bool_ty (type_view dtype.now) ≡ false }
+    requires no_numbers { is_int_ty (type_view dtype.now) ≡ false }
+    requires lengths { length nulls.value ≡ len }
+    ensures { IfOk result (λ c. c ≡ column (type_view dtype.now) (zip_rows masked (replicate len (seen (type_view dtype.now) value.now)) (vals_of nulls.value))) }
 {
-    if is_true(nulls.truth_at(i)) {
-        return Ok(null());
+    if is_null_value(value) {
+        return Ok(ColumnRef::of_constant(dtype.clone()?, null(), len));
     }
-    made_at(alloc, column, i)
+    let whole = dtype.with_nullability(Nullability::NonNullable)?;
+    let constant = ColumnRef::of_constant(whole, value.clone()?, len);
+    ColumnRef::of_masked(alloc, constant, nulls)
 }
 
 /// The column's rows where a truth is true.

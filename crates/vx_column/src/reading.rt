@@ -184,16 +184,22 @@ impl ColumnRef {
             Cells::Constant { value, len } => {
                 Ok(ColumnRef::of_constant(dtype, value.clone()?, *len))
             }
-            Cells::Rows(rows) => Ok(ColumnRef::of_shared(dtype, rows.clone()?)),
             Cells::Truths(truths) => Ok(ColumnRef::of_shared_truths(dtype, truths.clone()?)),
             Cells::Numbers(numbers) => Ok(ColumnRef::of_shared_numbers(dtype, numbers.clone()?)),
-            Cells::Columns { len, .. } => {
-                let nulls = Truths::repeated(alloc, Some(false), *len)?;
-                ColumnRef::of_masked(alloc, self.clone()?, Rc::new(alloc, nulls)?)
-            }
+            Cells::Rows(_) => masked_nowhere(alloc, self),
+            Cells::Columns { .. } => masked_nowhere(alloc, self),
             Cells::Masked { .. } => Ok(self.clone()?),
         }
     }
+}
+
+/// A column of a type that isn't nullable, with its type made nullable: it is masked nowhere.
+fn masked_nowhere(alloc: Global, c: &ColumnRef) -> Mem<ColumnRef>
+    requires { masks_apart c.now.ty ≡ true }
+    ensures { IfOk result (λ made. made ≡ column (with_nullability c.now.ty Nullable) c.now.rows) }
+{
+    let nulls = Truths::repeated(alloc, Some(false), c.len())?;
+    ColumnRef::of_masked(alloc, c.clone()?, Rc::new(alloc, nulls)?)
 }
 
 /// Puts clones of a value at the end of a list.

@@ -11,7 +11,7 @@ ghost use Rattle.vx_column.specs.RawParts.{truth_fits};
 ghost use Rattle.vx_column.specs.Columns.{values_fit, seen, seen_rows, zip_rows};
 ghost use Rattle.vx_column.specs.Cells.{keeps_values, truths_fit};
 
-use crate::cells::{Cells, values_in};
+use crate::cells::Cells;
 use crate::columns::ColumnRef;
 use crate::logic::of_truth;
 use std::alloc::Global;
@@ -150,10 +150,6 @@ pub(crate) fn map_column<R: RowRule>(
     match column.cells() {
         Cells::Constant { value, len } => {
             Ok(ColumnRef::of_constant(dtype, rule.at(alloc, value)?, *len))
-        }
-        Cells::Rows(rows) => {
-            let made = map_values(alloc, rule, values_in(rows))?;
-            ColumnRef::of_rows(alloc, dtype, made)
         }
         _ => {
             let rows = column.made_rows(alloc)?;

@@ -1,5 +1,5 @@
 // Struct columns made of columns of their fields.
-ghost use Rattle.std.specs.Prelude.{◌≡◌, true, not, Some, length, map, Option, option_map, option_copied, IfOk};
+ghost use Rattle.std.specs.Prelude.{◌≡◌, true, not, Some, map, Option, option_map, option_copied, IfOk};
 ghost use Rattle.std.specs.List.{All};
 ghost use Rattle.vx_dtype.specs.Values.{raw_struct};
 ghost use Rattle.vx_dtype.specs.RawViews.{raw_view, raws_of};

@@ -9,13 +9,13 @@ use Rattle.vx_dtype.specs.Logic.{is_null3, and3}
 use Rattle.vx_dtype.specs.RawViews.{raw_view}
 use Rattle.vx_words.specs.Words.{truth_val}
 use Rattle.vx_words.specs.Truths.{vals_of}
-use Rattle.vx_column.specs.Columns.{Column, column, seen, seen_rows, values_fit, masked, zip_rows}
-use Rattle.vx_column.specs.Cells.{cell_rows, AreMaskedOf, ArePartsOf, AreTruthsOf}
+use Rattle.vx_column.specs.Columns.{Column, column, seen, masked, zip_rows}
+use Rattle.vx_column.specs.Cells.{cell_rows, AreMaskedOf, ArePartsOf}
 use Rattle.vx_column.proofs.FitLemmas.{is_null3_valued}
 use Rattle.vx_column.proofs.RowLemmas.{map_repeated}
 use Rattle.vx_column.proofs.StructLemmas.{if_ok_map}
 use Rattle.vx_column.proofs.CellLemmas.{none_null}
-use Rattle.vx_column.proofs.TruthLemmas.{tests_are_truths, nulls_of_truths, nulls_seen}
+use Rattle.vx_column.proofs.TruthLemmas.{nulls_of_truths}
 use Rattle.vx_numbers.specs.Numbers.{NumberList, null_test}
 use Rattle.vx_column.specs.Cells.{numbers_vals}
 use Rattle.vx_column.proofs.NumberLemmas.{null_tests_are_truths, null_tests_of}
@@ -32,10 +32,7 @@ returns-then-not-is_nullable-clause-rows c =
     ap (λ (r : Column). r.rows) c.of_constant.ensures ∙ (λ j. replicate (c.len.ensures j) (c.of_truth.ensures.value NonNullable j)) ∙ rows
 
 pub of_truths-requires : goal.of_truths-requires
-of_truths-requires c = subst (AreTruthsOf (bool_ty NonNullable)) (sym c.in_ok-truths-in-Rows.ensures) (tests_are_truths c.values_in.result.now)
-
-pub of_truths-requires-in-Truths : goal.of_truths-requires-in-Truths
-of_truths-requires-in-Truths c = nulls_of_truths c.truths_in.result.now c.in_ok-nulls-in-Truths.nulls c.in_ok-nulls-in-Truths.ensures
+of_truths-requires c = nulls_of_truths c.truths_in.result.now c.in_ok-nulls-in-Truths.nulls c.in_ok-nulls-in-Truths.ensures
 
 pub returns-in-Constant-clause-rows : goal.returns-in-Constant-clause-rows
 returns-in-Constant-clause-rows c =
@@ -43,13 +40,6 @@ returns-in-Constant-clause-rows c =
     let fit : fits (raw_view c.in-Constant.value) c.args.c.now.ty ≡ true = subst (ArePartsOf c.args.c.now.ty) c.in-Constant.is c.cells.ensures.parts in
     let value : seen (bool_ty NonNullable) c.of_truth-in-Constant.result ≡ is_null3 (seen c.args.c.now.ty c.in-Constant.value) = c.of_truth-in-Constant.ensures.value NonNullable ∙ ap (λ b. truth_val (Some b)) c.is_null_value.ensures ∙ sym (is_null3_valued (raw_view c.in-Constant.value) c.args.c.now.ty fit) in
     ap (λ (r : Column). r.rows) c.of_constant-in-Constant.ensures ∙ ap (replicate c.in-Constant.len) value ∙ sym (map_repeated is_null3 c.in-Constant.len (seen c.args.c.now.ty c.in-Constant.value)) ∙ ap (map is_null3) rows
-
-pub returns-in_ok-truths-in-Rows-clause-rows : goal.returns-in_ok-truths-in-Rows-clause-rows
-returns-in_ok-truths-in-Rows-clause-rows c =
-    let rows : seen_rows c.args.c.now.ty c.in-Rows.rows.value.items ≡ c.args.c.now.rows = ap (cell_rows c.args.c.now.ty) (sym c.in-Rows.is) ∙ c.cells.ensures.rows in
-    let fit : values_fit c.args.c.now.ty c.in-Rows.rows.value.items ≡ true = (subst (ArePartsOf c.args.c.now.ty) c.in-Rows.is c.cells.ensures.parts).fit in
-    let made : vals_of c.in_ok-truths-in-Rows.truths ≡ map is_null3 c.args.c.now.rows = ap vals_of c.in_ok-truths-in-Rows.ensures ∙ nulls_seen c.args.c.now.ty c.values_in.result.now (ap (values_fit c.args.c.now.ty) c.values_in.ensures ∙ fit) ∙ ap (λ xs. map is_null3 (seen_rows c.args.c.now.ty xs)) c.values_in.ensures ∙ ap (map is_null3) rows in
-    if_ok_map _ _ c.of_truths.result (λ (x : Column) (h : x ≡ column (bool_ty NonNullable) (vals_of c.in_ok-truths-in-Rows.truths)). ap (λ (r : Column). r.rows) h ∙ made) c.of_truths.ensures
 
 pub of_truths-requires-in-Numbers : goal.of_truths-requires-in-Numbers
 of_truths-requires-in-Numbers c = null_tests_are_truths (bool_ty NonNullable) c.numbers_in.result.now.numbers c.in_ok-nulls-in-Numbers.nulls refl c.in_ok-nulls-in-Numbers.ensures

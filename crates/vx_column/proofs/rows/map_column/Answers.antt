@@ -2,7 +2,7 @@ use Rattle.std.proofs.Common.{◌≡◌, true, ap, sym, ◌∙◌, subst}
 use Rattle.std.proofs.Math.ListN.{replicate}
 use Rattle.vx_dtype.specs.Fits.{fits}
 use Rattle.vx_dtype.specs.RawViews.{raw_view}
-use Rattle.vx_column.specs.Columns.{Column, seen, values_fit}
+use Rattle.vx_column.specs.Columns.{Column, seen}
 use Rattle.vx_column.specs.Cells.{cell_rows, ArePartsOf}
 use Rattle.vx_column.proofs.RowLemmas.{map_constant}
 use Rattle.vx_column.proofs.rows.map_column.Goals as goal
@@ -19,8 +19,3 @@ pub returns-in_ok-at-in-Constant-clause-rows : goal.returns-in_ok-at-in-Constant
 returns-in_ok-at-in-Constant-clause-rows g c =
     let rows : replicate c.in-Constant.len (seen c.args.column.now.ty c.in-Constant.value) ≡ c.args.column.now.rows = ap (cell_rows c.args.column.now.ty) (sym c.in-Constant.is) ∙ c.cells.ensures.rows in
     ap (λ (r : Column). r.rows) c.of_constant.ensures ∙ map_constant (g.R.RowRule.rule c.args.rule.now) _ _ _ c.args.column.now c.in-Constant.len c.in-Constant.value c.in_ok-at-in-Constant.field-0 c.requires.taken c.requires.made rows c.in_ok-at-in-Constant.ensures.value
-
-pub map_values-requires : goal.map_values-requires
-map_values-requires g c =
-    let fit : values_fit c.args.column.now.ty c.in-Rows.rows.value.items ≡ true = (subst (ArePartsOf c.args.column.now.ty) c.in-Rows.is c.cells.ensures.parts).fit in
-    rw (← c.requires.taken, c.values_in.ensures) fit

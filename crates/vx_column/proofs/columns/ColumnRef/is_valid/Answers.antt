@@ -4,14 +4,15 @@ use Rattle.vx_dtype.specs.TypeRules.{field_names, fields_of}
 use Rattle.vx_dtype.specs.Logic.{is_null3}
 use Rattle.vx_dtype.specs.Fits.{fits}
 use Rattle.vx_dtype.specs.RawViews.{raw_view}
-use Rattle.vx_column.specs.Columns.{seen, seen_rows, values_fit, masked, zip_rows}
-use Rattle.vx_column.specs.Cells.{cell_rows, structs_of, AreMaskedOf, ArePartsOf}
+use Rattle.vx_column.specs.Columns.{seen, seen_rows, rows_fit, masked, zip_rows}
+use Rattle.vx_column.specs.Cells.{cell_rows, structs_of, AreMaskedOf, ArePartsOf, AreValuesOf}
 use Rattle.vx_words.specs.Truths.{vals_of}
-use Rattle.vx_column.proofs.CellLemmas.{constant_row, values_row, values_fit_at, structs_row, valid_kept}
+use Rattle.vx_column.proofs.CellLemmas.{constant_row, structs_row, valid_kept}
 use Rattle.vx_numbers.specs.Numbers.{NumberList}
 use Rattle.vx_column.specs.Cells.{numbers_vals}
 use Rattle.vx_column.proofs.NumberLemmas.{number_valid}
-use Rattle.vx_column.proofs.MaskedLemmas.{masked_truths, masked_valid}
+use Rattle.vx_column.proofs.MaskedLemmas.{masked_truths, masked_valid, never_null, row_fits}
+use Rattle.vx_column.proofs.FitLemmas.{rows_fit_seen}
 use Rattle.vx_column.proofs.columns.ColumnRef.is_valid.Goals as goal
 
 pub returns-in-Constant : goal.returns-in-Constant
@@ -22,11 +23,10 @@ returns-in-Constant c =
 
 pub returns-in-Rows : goal.returns-in-Rows
 returns-in-Rows c =
-    let same : c.values_in-values.result.now ≡ c.in-Rows.rows.value.items = c.values_in-values.ensures in
-    let rows : seen_rows c.args.self.now.ty c.in-Rows.rows.value.items ≡ c.args.self.now.rows = ap (cell_rows c.args.self.now.ty) (sym c.in-Rows.is) ∙ c.cells.ensures.rows in
-    let fit : values_fit c.args.self.now.ty c.in-Rows.rows.value.items ≡ true = (subst (ArePartsOf c.args.self.now.ty) c.in-Rows.is c.cells.ensures.parts).fit in
-    let read = c.index-values-i.is ∙ ap (λ xs. get_or xs c.args.i c.index-values-i.result) same in
-    valid_kept c.args.self.now c.args.i c.index-values-i.result _ (values_fit_at c.args.self.now _ c.args.i _ rows fit c.requires read) (values_row c.args.self.now _ c.args.i _ rows c.requires read) c.is_null_value-in-Rows.ensures
+    let parts : AreValuesOf c.args.self.now.ty c.in-Rows.field-0.value.items = subst (ArePartsOf c.args.self.now.ty) c.in-Rows.is c.cells.ensures.parts in
+    let rows : seen_rows c.args.self.now.ty c.in-Rows.field-0.value.items ≡ c.args.self.now.rows = ap (cell_rows c.args.self.now.ty) (sym c.in-Rows.is) ∙ c.cells.ensures.rows in
+    let fit = ap (rows_fit c.args.self.now.ty) (sym rows) ∙ rows_fit_seen c.args.self.now.ty c.in-Rows.field-0.value.items parts.fit in
+    never_null c.args.self.now.ty _ parts.whole (row_fits c.args.self.now.ty c.args.self.now.rows c.args.i fit c.requires)
 
 pub returns-in-Columns : goal.returns-in-Columns
 returns-in-Columns c =
