@@ -18,6 +18,7 @@ ghost use Rattle.vx_column.specs.Answers.{Answers, unless_faulty, GivesUnlessFau
 use crate::cells::{Cells, numbers_in};
 use crate::columns::ColumnRef;
 use crate::errors::ColumnError;
+use crate::splits::column_of;
 use std::alloc::Global;
 use vx_dtype::{DType, Mem, Nullability, PType, ScalarValue};
 use vx_numbers::Numbers;
@@ -72,7 +73,7 @@ fn cast_values(alloc: Global, c: &ColumnRef, target: &DType) -> Result<ColumnRef
     ensures { Answers result (unless_faulty BadCast (column (type_view target.now) (map (cast3 (type_view target.now)) c.now.rows))) }
 {
     match cast_rows(alloc, c, target)? {
-        Some(made) => Ok(ColumnRef::of_rows(alloc, target.clone()?, made)?),
+        Some(made) => Ok(column_of(alloc, target.clone()?, made)?),
         None => Err(ColumnError::BadCast),
     }
 }

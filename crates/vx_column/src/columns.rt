@@ -61,15 +61,6 @@ impl Model for ColumnRef {
 }
 
 impl ColumnRef {
-    /// The column of these values. It is for values that are known to be of the type.
-    pub(crate) fn of_rows(alloc: Global, dtype: DType, rows: Vec<ScalarValue>) -> Mem<ColumnRef>
-        requires fit { values_fit (type_view dtype) rows.items ≡ true }
-        requires names { no_name_twice (type_view dtype) ≡ true }
-        ensures { IfOk result (λ c. c ≡ column (type_view dtype) (seen_rows (type_view dtype) rows.items)) }
-    {
-        column_of(alloc, dtype, rows)
-    }
-
     /// The column of these truths. It is for truths that are known to be of the type, which is boolean.
     pub(crate) fn of_truths(alloc: Global, dtype: DType, truths: Truths) -> Mem<ColumnRef>
         requires { AreTruthsOf (type_view dtype) truths }
@@ -180,7 +171,7 @@ impl ColumnRef {
         if !dtype.has_distinct_names(alloc)? {
             return Err(ColumnError::DuplicateField);
         }
-        Ok(ColumnRef::of_rows(alloc, dtype, values)?)
+        Ok(column_of(alloc, dtype, values)?)
     }
 
     /// The parts that the rows are kept in.

@@ -16,6 +16,7 @@ use crate::columns::ColumnRef;
 use crate::logic::{is_null_value, is_true, null, truth_of};
 use crate::numbers::numbers_of;
 use crate::reading::truths_of;
+use crate::splits::column_of;
 use std::alloc::Global;
 use std::rc::Rc;
 use vx_dtype::{DType, Mem, Nullability, ScalarValue};
@@ -148,7 +149,7 @@ fn kept_of(alloc: Global, column: &ColumnRef, keep: &Truths) -> Mem<ColumnRef>
         }
         Cells::Rows(rows) => {
             let kept = filter_values(alloc, column.dtype(), values_in(rows), keep)?;
-            ColumnRef::of_rows(alloc, dtype, kept)
+            column_of(alloc, dtype, kept)
         }
         Cells::Truths(truths) => {
             let kept = truths_in(truths).filter(alloc, keep)?;

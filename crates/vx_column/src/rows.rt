@@ -14,6 +14,7 @@ ghost use Rattle.vx_column.specs.Cells.{keeps_values, truths_fit};
 use crate::cells::Cells;
 use crate::columns::ColumnRef;
 use crate::logic::of_truth;
+use crate::splits::column_of;
 use std::alloc::Global;
 use vx_dtype::{DType, Mem, Nullability, ScalarValue};
 use vx_words::Truths;
@@ -154,7 +155,7 @@ pub(crate) fn map_column<R: RowRule>(
         _ => {
             let rows = column.made_rows(alloc)?;
             let made = map_values(alloc, rule, rows.as_slice())?;
-            ColumnRef::of_rows(alloc, dtype, made)
+            column_of(alloc, dtype, made)
         }
     }
 }

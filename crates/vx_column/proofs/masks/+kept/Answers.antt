@@ -33,7 +33,7 @@ kept_of-returns-in_ok-kept-in-Rows t c =
     let rows : seen_rows c.args.column.now.ty c.in-Rows.rows.value.items ≡ c.args.column.now.rows = ap (cell_rows c.args.column.now.ty) (sym c.in-Rows.is) ∙ c.cells.ensures.rows in
     let type : type_view c.in_ok-dtype.dtype ≡ c.args.column.now.ty = c.in_ok-dtype.ensures.cases ∙ c.dtype.ensures.shown in
     let kept = rw c.values_in.ensures at c.in_ok-kept-in-Rows.ensures.values in
-    if_ok_map _ _ c.of_rows.result (λ (x : Column) (h : x ≡ column (type_view c.in_ok-dtype.dtype) (seen_rows (type_view c.in_ok-dtype.dtype) c.in_ok-kept-in-Rows.kept.items)). h ∙ kept_values c.args.column.now (vals_of c.args.keep.now) (type_view c.in_ok-dtype.dtype) (type_view c.dtype-in-Rows.result.now) c.in-Rows.rows.value.items c.in_ok-kept-in-Rows.kept.items type c.dtype-in-Rows.ensures.shown rows kept) c.of_rows.ensures
+    if_ok_map _ _ c.column_of.result (λ (x : Column) (h : x ≡ column (type_view c.in_ok-dtype.dtype) (seen_rows (type_view c.in_ok-dtype.dtype) c.in_ok-kept-in-Rows.kept.items)). h ∙ kept_values c.args.column.now (vals_of c.args.keep.now) (type_view c.in_ok-dtype.dtype) (type_view c.dtype-in-Rows.result.now) c.in-Rows.rows.value.items c.in_ok-kept-in-Rows.kept.items type c.dtype-in-Rows.ensures.shown rows kept) c.column_of.ensures
 
 pub kept_of-kept_fields-requires : goal.kept_of-kept_fields-requires
 kept_of-kept_fields-requires t c =
