@@ -1,4 +1,4 @@
-//! Columns by their values, made in one call each, so that a row of a test holds none while it makes the next.
+//! Columns by their values, made in one call each.
 
 use std::alloc::Global;
 use vx_column::{ColumnError, ColumnRef};
@@ -6,21 +6,6 @@ use vx_dtype::{DType, FieldName, Mem, Nullability, PType, Scalar, ScalarValue, T
 
 /// A column, or why it isn't made.
 pub(crate) type Made = Result<ColumnRef, ColumnError>;
-
-/// Whether an answer is the wanted one. Want of memory is never wanted.
-pub(crate) fn answers(made: Made, want: &Made) -> bool {
-    match (&made, want) {
-        (Ok(made), Ok(want)) => *made == *want,
-        (Err(ColumnError::NoMemory), _) => false,
-        (Err(made), Err(want)) => *made == *want,
-        _ => false,
-    }
-}
-
-/// Whether an answer is the wanted one, which isn't kept.
-pub(crate) fn gives(made: Made, want: Made) -> bool {
-    answers(made, &want)
-}
 
 /// The answer of a call that has no refusal but for want of memory.
 pub(crate) fn answered(answer: Mem<ColumnRef>) -> Made {
@@ -32,19 +17,9 @@ pub(crate) fn truths_of(alloc: Global, values: &[Option<bool>], n: Nullability) 
     ColumnRef::bool(alloc, Vec::from_slice(alloc, values)?, n)
 }
 
-/// A nullable column of booleans.
-pub(crate) fn truths(alloc: Global, values: &[Option<bool>]) -> Made {
-    truths_of(alloc, values, Nullability::Nullable)
-}
-
 /// A column of numbers.
 pub(crate) fn numbers_of(alloc: Global, p: PType, values: &[Option<i128>], n: Nullability) -> Made {
     ColumnRef::primitive(alloc, p, Vec::from_slice(alloc, values)?, n)
-}
-
-/// A nullable column of numbers.
-pub(crate) fn numbers(alloc: Global, p: PType, values: &[Option<i128>]) -> Made {
-    numbers_of(alloc, p, values, Nullability::Nullable)
 }
 
 /// A text, or null.
@@ -64,9 +39,14 @@ fn optional_texts(alloc: Global, values: &[Option<&str>]) -> Mem<Vec<Option<Text
     Ok(made)
 }
 
+/// A column of texts.
+pub(crate) fn texts_of(alloc: Global, values: &[Option<&str>], n: Nullability) -> Made {
+    ColumnRef::utf8(alloc, optional_texts(alloc, values)?, n)
+}
+
 /// A nullable column of texts.
 pub(crate) fn texts(alloc: Global, values: &[Option<&str>]) -> Made {
-    ColumnRef::utf8(alloc, optional_texts(alloc, values)?, Nullability::Nullable)
+    texts_of(alloc, values, Nullability::Nullable)
 }
 
 /// Names of fields.

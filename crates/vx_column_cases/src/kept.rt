@@ -1,12 +1,12 @@
 //! Columns of one value and structs of columns: they are the same as their rows written out, and hash equally.
 
-use crate::calls::{cast_gives, field_gives, filter_gives, project_gives};
-use crate::columns::{Made, constant_number, constant_text, numbers, numbers_of, texts, truths};
-use crate::structs::{both, made_of, pairs, parts};
+use crate::calls::{Call, PairCall, gives, pair_gives};
+use crate::rows::{Rows, Want, made, numbers, truths};
+use crate::samples::{Sample, field_has, projects};
 use std::alloc::Global;
 use std::hash::{DefaultHasher, Hash, Hasher};
 use vx_column::{ColumnError, ColumnRef};
-use vx_dtype::{DType, Mem, Nullability, PType, Scalar};
+use vx_dtype::{Nullability, PType, Scalar};
 
 /// The hash of a column.
 fn hash_of(c: &ColumnRef) -> u64 {
@@ -21,158 +21,149 @@ fn are_one(a: &ColumnRef, b: &ColumnRef) -> bool {
 }
 
 /// Whether two columns are made and are one.
-pub(crate) fn same(a: Made, b: Made) -> bool {
-    match (&a, &b) {
+pub(crate) fn same(alloc: Global, a: Rows<'_>, b: Rows<'_>) -> bool {
+    match (&made(alloc, a), &made(alloc, b)) {
         (Ok(a), Ok(b)) => are_one(a, b),
         _ => false,
     }
 }
 
 /// Whether two columns are made and differ.
-pub(crate) fn differ(a: Made, b: Made) -> bool {
-    match (&a, &b) {
+pub(crate) fn differ(alloc: Global, a: Rows<'_>, b: Rows<'_>) -> bool {
+    match (&made(alloc, a), &made(alloc, b)) {
         (Ok(a), Ok(b)) => *a != *b,
         _ => false,
     }
 }
 
 /// The text `x` at three rows, as one value.
-pub(crate) fn thrice(alloc: Global) -> Made {
-    constant_text(alloc, "x", 3)
-}
+pub(crate) const THRICE: Rows<'static> = Rows::OneText("x", 3);
 
 #[test]
 fn columns_of_one_value(rt: HostRuntime) {
     let alloc = rt.alloc();
     let x = Some("x");
-    assert!(rt; same(thrice(alloc), texts(alloc, [x, x, x].as_slice())));
-    assert!(rt; differ(thrice(alloc), texts(alloc, [x, x].as_slice())));
-    assert!(rt; differ(thrice(alloc), texts(alloc, [x, Some("y"), x].as_slice())));
-    assert!(rt; differ(thrice(alloc), texts(alloc, [x, x, None].as_slice())));
+    assert!(rt; same(alloc, THRICE, Rows::Texts([x, x, x].as_slice())));
+    assert!(rt; differ(alloc, THRICE, Rows::Texts([x, x].as_slice())));
+    assert!(rt; differ(alloc, THRICE, Rows::Texts([x, Some("y"), x].as_slice())));
+    assert!(rt; differ(alloc, THRICE, Rows::Texts([x, x, None].as_slice())));
 }
 
 #[test]
 fn kept_columns_of_one_value(rt: HostRuntime) {
     let alloc = rt.alloc();
-    let keep = truths(alloc, [Some(true), None, Some(true)].as_slice());
-    let want = texts(alloc, [Some("x"), Some("x")].as_slice());
-    assert!(rt; filter_gives(alloc, thrice(alloc), keep, want));
+    let keep = [Some(true), None, Some(true)];
+    let want = [Some("x"), Some("x")];
+    assert!(rt;
+        pair_gives(
+            alloc,
+            PairCall::Filter,
+            THRICE,
+            truths(keep.as_slice()),
+            Ok(Rows::Texts(want.as_slice()))
+        )
+    );
+}
+
+/// Whether a number of i64 at so many rows has these rows when it is cast to i8, or is refused so.
+fn casts_to_small(alloc: Global, i: i128, len: usize, want: Want<'_>) -> bool {
+    let small = Call::Cast(PType::I8, Nullability::NonNullable);
+    gives(alloc, small, Rows::OneNumber(PType::I64, i, len), want)
+}
+
+/// Numbers of i8, none of which may be null.
+fn small_rows<'a>(values: &'a [Option<i128>]) -> Rows<'a> {
+    Rows::Numbers(PType::I8, values, Nullability::NonNullable)
 }
 
 #[test]
 fn casts_of_one_value(rt: HostRuntime) {
     let alloc = rt.alloc();
-    let small = DType::Primitive(PType::I8, Nullability::NonNullable);
-    let want = numbers_of(
-        alloc,
-        PType::I8,
-        [Some(127), Some(127)].as_slice(),
-        Nullability::NonNullable,
-    );
-    assert!(rt;
-        cast_gives(
-            alloc,
-            constant_number(alloc, PType::I64, 127, 2),
-            &small,
-            want
-        )
-    );
-    let too_great = constant_number(alloc, PType::I64, 128, 2);
-    assert!(rt; cast_gives(alloc, too_great, &small, Err(ColumnError::BadCast)));
-    let no_rows = constant_number(alloc, PType::I64, 128, 0);
-    let want = numbers_of(alloc, PType::I8, [].as_slice(), Nullability::NonNullable);
-    assert!(rt; cast_gives(alloc, no_rows, &small, want));
-}
-
-/// The structs of the numbers 1, null and 3, and the texts `x`, `y` and null, kept as two columns.
-pub(crate) fn columns(alloc: Global) -> Made {
-    made_of(alloc, ["a", "b"].as_slice(), parts(alloc), 3, None)
-}
-
-/// The same structs, row by row.
-fn rows(alloc: Global) -> Made {
-    let rows = [
-        Some((Some(1), Some("x"))),
-        Some((None, Some("y"))),
-        Some((Some(3), None)),
-    ];
-    pairs(alloc, rows.as_slice(), Nullability::NonNullable)
-}
-
-/// Other structs, row by row: the last text is empty, and not null.
-fn other_rows(alloc: Global) -> Made {
-    let rows = [
-        Some((Some(1), Some("x"))),
-        Some((None, Some("y"))),
-        Some((Some(3), Some(""))),
-    ];
-    pairs(alloc, rows.as_slice(), Nullability::NonNullable)
+    let want = [Some(127), Some(127)];
+    assert!(rt; casts_to_small(alloc, 127, 2, Ok(small_rows(want.as_slice()))));
+    assert!(rt; casts_to_small(alloc, 128, 2, Err(ColumnError::BadCast)));
+    assert!(rt; casts_to_small(alloc, 128, 0, Ok(small_rows([].as_slice()))));
 }
 
 #[test]
 fn structs_of_columns(rt: HostRuntime) {
     let alloc = rt.alloc();
-    assert!(rt; same(columns(alloc), rows(alloc)));
-    assert!(rt; same(columns(alloc), columns(alloc)));
-    assert!(rt; differ(columns(alloc), other_rows(alloc)));
-    assert!(rt; differ(other_rows(alloc), columns(alloc)));
+    let columns = Rows::Sample(Sample::Columns);
+    let others = Rows::Sample(Sample::OtherColumnRows);
+    assert!(rt; same(alloc, columns, Rows::Sample(Sample::ColumnRows)));
+    assert!(rt; same(alloc, columns, columns));
+    assert!(rt; differ(alloc, columns, others));
+    assert!(rt; differ(alloc, others, columns));
 }
 
 #[test]
 fn fields_of_structs_of_columns(rt: HostRuntime) {
     let alloc = rt.alloc();
-    let a = numbers(alloc, PType::I8, [Some(1), None, Some(3)].as_slice());
-    assert!(rt; field_gives(alloc, columns(alloc), "a", a));
-    let b = texts(alloc, [Some("x"), Some("y"), None].as_slice());
-    assert!(rt; field_gives(alloc, columns(alloc), "b", b));
-    assert!(rt; field_gives(alloc, columns(alloc), "c", Err(ColumnError::UnknownField)));
+    let a = [Some(1), None, Some(3)];
+    assert!(rt;
+        field_has(
+            alloc,
+            Sample::Columns,
+            "a",
+            Ok(numbers(PType::I8, a.as_slice()))
+        )
+    );
+    let b = [Some("x"), Some("y"), None];
+    assert!(rt; field_has(alloc, Sample::Columns, "b", Ok(Rows::Texts(b.as_slice()))));
+    assert!(rt; field_has(alloc, Sample::Columns, "c", Err(ColumnError::UnknownField)));
 }
 
 #[test]
 fn kept_structs_of_columns(rt: HostRuntime) {
     let alloc = rt.alloc();
-    let keep = truths(alloc, [None, Some(true), Some(false)].as_slice());
+    let keep = [None, Some(true), Some(false)];
     let middle = [Some((None, Some("y")))];
-    let want = pairs(alloc, middle.as_slice(), Nullability::NonNullable);
-    assert!(rt; filter_gives(alloc, columns(alloc), keep, want));
-}
-
-/// The same columns, the texts before the numbers.
-fn turned(alloc: Global) -> Made {
-    let b = texts(alloc, [Some("x"), Some("y"), None].as_slice());
-    let a = numbers(alloc, PType::I8, [Some(1), None, Some(3)].as_slice());
-    made_of(alloc, ["b", "a"].as_slice(), both(alloc, b, a), 3, None)
+    assert!(rt;
+        pair_gives(
+            alloc,
+            PairCall::Filter,
+            Rows::Sample(Sample::Columns),
+            truths(keep.as_slice()),
+            Ok(Rows::Pairs(middle.as_slice(), Nullability::NonNullable))
+        )
+    );
 }
 
 #[test]
 fn projected_structs_of_columns(rt: HostRuntime) {
     let alloc = rt.alloc();
-    let names = ["b", "a"];
-    assert!(rt; project_gives(alloc, columns(alloc), names.as_slice(), turned(alloc)));
+    let turned = Rows::Sample(Sample::TurnedColumns);
+    assert!(rt; projects(alloc, Sample::Columns, ["b", "a"].as_slice(), Ok(turned)));
 }
 
-/// Whether two values are made and are equal.
-fn equal(a: Mem<Scalar>, b: Mem<Scalar>) -> bool {
-    match (&a, &b) {
-        (Ok(a), Ok(b)) => *a == *b,
-        _ => false,
+/// Whether a column has this value at a row.
+pub(crate) fn has_value(alloc: Global, c: &ColumnRef, i: usize, want: &Scalar) -> bool {
+    if i >= c.len() {
+        return false;
+    }
+    match &c.scalar_at(alloc, i) {
+        Ok(value) => *value == *want,
+        Err(_) => false,
     }
 }
 
-/// As below, for columns that are made.
+/// Whether two columns have the same value at a row, and it isn't null.
 fn have_value(alloc: Global, a: &ColumnRef, b: &ColumnRef, i: usize) -> bool {
     if i >= a.len() {
         return false;
     }
-    if i >= b.len() {
+    if !a.is_valid(i) {
         return false;
     }
-    a.is_valid(i) && equal(a.scalar_at(alloc, i), b.scalar_at(alloc, i))
+    match &a.scalar_at(alloc, i) {
+        Ok(value) => has_value(alloc, b, i, value),
+        Err(_) => false,
+    }
 }
 
-/// Whether two columns have the same value at a row, and it isn't null.
-fn share_value(alloc: Global, a: Made, b: Made, i: usize) -> bool {
-    match (&a, &b) {
+/// The same of the columns of these rows.
+fn share_value(alloc: Global, a: Rows<'_>, b: Rows<'_>, i: usize) -> bool {
+    match (&made(alloc, a), &made(alloc, b)) {
         (Ok(a), Ok(b)) => have_value(alloc, a, b, i),
         _ => false,
     }
@@ -181,7 +172,8 @@ fn share_value(alloc: Global, a: Made, b: Made, i: usize) -> bool {
 #[test]
 fn values_of_structs_of_columns(rt: HostRuntime) {
     let alloc = rt.alloc();
+    let columns = Rows::Sample(Sample::Columns);
     for i in 0..3 {
-        assert!(rt; share_value(alloc, columns(alloc), rows(alloc), i));
+        assert!(rt; share_value(alloc, columns, Rows::Sample(Sample::ColumnRows), i));
     }
 }

@@ -20,6 +20,10 @@ mod masked;
 #[cfg(test)]
 mod numbers;
 #[cfg(test)]
+mod rows;
+#[cfg(test)]
+mod samples;
+#[cfg(test)]
 mod structs;
 #[cfg(test)]
 mod truths;

@@ -1,219 +1,174 @@
 //! Columns that are null where truths say so: they are the same as their rows written out, whatever the hidden rows hold, and hash equally.
 
-use crate::calls::{
-    field_gives, field_made, filter_gives, is_null_gives, like_gives, mask_gives, project_gives,
-};
-use crate::columns::{Made, constant_text, numbers, texts, truths, truths_of};
-use crate::kept::{columns, differ, same};
-use crate::structs::{both, made_of, other_parts, pairs, parts};
+use crate::calls::{Call, PairCall, gives, pair_gives};
+use crate::kept::{differ, same};
+use crate::rows::{Rows, numbers, truths};
+use crate::samples::{Sample, field_has, projects};
 use std::alloc::Global;
-use vx_column::{ColumnError, ColumnRef};
-use vx_dtype::{Nullability, PType, Text};
+use vx_column::ColumnError;
+use vx_dtype::{Nullability, PType};
 
-/// The structs of the numbers 1 and 3, and the text `x` and null, with a null row in the middle, kept as two columns of these parts.
-fn masked(alloc: Global) -> Made {
-    let valid = [true, false, true];
-    made_of(
-        alloc,
-        ["a", "b"].as_slice(),
-        parts(alloc),
-        3,
-        Some(valid.as_slice()),
-    )
-}
-
-/// The same with other values in the null row.
-fn masked_others(alloc: Global) -> Made {
-    let valid = [true, false, true];
-    made_of(
-        alloc,
-        ["a", "b"].as_slice(),
-        other_parts(alloc),
-        3,
-        Some(valid.as_slice()),
-    )
-}
-
-/// The same structs, row by row.
-fn rows(alloc: Global) -> Made {
-    let rows = [Some((Some(1), Some("x"))), None, Some((Some(3), None))];
-    pairs(alloc, rows.as_slice(), Nullability::Nullable)
-}
-
-/// The same, with no null row.
-fn whole_rows(alloc: Global) -> Made {
-    let rows = [
-        Some((Some(1), Some("x"))),
-        Some((None, Some("y"))),
-        Some((Some(3), None)),
-    ];
-    pairs(alloc, rows.as_slice(), Nullability::Nullable)
-}
-
-/// The same, with a null row more.
-fn fewer_rows(alloc: Global) -> Made {
-    let rows = [Some((Some(1), Some("x"))), None, None];
-    pairs(alloc, rows.as_slice(), Nullability::Nullable)
-}
-
-/// Structs whose last one differs.
-fn other_rows(alloc: Global) -> Made {
-    let rows = [Some((Some(1), Some("x"))), None, Some((Some(3), Some("z")))];
-    pairs(alloc, rows.as_slice(), Nullability::Nullable)
+/// Whether two samples are made and are one.
+fn are_same(alloc: Global, a: Sample, b: Sample) -> bool {
+    same(alloc, Rows::Sample(a), Rows::Sample(b))
 }
 
 #[test]
 fn masked_structs_are_their_rows(rt: HostRuntime) {
     let alloc = rt.alloc();
-    assert!(rt; same(masked(alloc), rows(alloc)));
-    assert!(rt; same(masked(alloc), masked(alloc)));
-    assert!(rt; same(masked(alloc), masked_others(alloc)));
-    assert!(rt; same(masked_others(alloc), rows(alloc)));
+    assert!(rt; are_same(alloc, Sample::Masked, Sample::MaskedRows));
+    assert!(rt; are_same(alloc, Sample::Masked, Sample::Masked));
+    assert!(rt; are_same(alloc, Sample::Masked, Sample::MaskedOthers));
+    assert!(rt; are_same(alloc, Sample::MaskedOthers, Sample::MaskedRows));
+}
+
+/// Whether two samples are made and differ.
+fn are_different(alloc: Global, a: Sample, b: Sample) -> bool {
+    differ(alloc, Rows::Sample(a), Rows::Sample(b))
 }
 
 #[test]
 fn masked_structs_that_differ(rt: HostRuntime) {
     let alloc = rt.alloc();
-    assert!(rt; differ(masked(alloc), whole_rows(alloc)));
-    assert!(rt; differ(whole_rows(alloc), masked(alloc)));
-    assert!(rt; differ(masked(alloc), fewer_rows(alloc)));
-    assert!(rt; differ(fewer_rows(alloc), masked(alloc)));
-    assert!(rt; differ(masked(alloc), other_rows(alloc)));
-    assert!(rt; differ(masked(alloc), columns(alloc)));
+    assert!(rt; are_different(alloc, Sample::Masked, Sample::WholeRows));
+    assert!(rt; are_different(alloc, Sample::WholeRows, Sample::Masked));
+    assert!(rt; are_different(alloc, Sample::Masked, Sample::FewerRows));
+    assert!(rt; are_different(alloc, Sample::FewerRows, Sample::Masked));
+    assert!(rt; are_different(alloc, Sample::Masked, Sample::OtherRows));
+    assert!(rt; are_different(alloc, Sample::Masked, Sample::Columns));
+}
+
+/// Whether a sample is another one where it is masked by truths.
+fn masks(alloc: Global, c: Sample, by: &[Option<bool>], want: Sample) -> bool {
+    let (c, by, want) = (Rows::Sample(c), truths(by), Rows::Sample(want));
+    pair_gives(alloc, PairCall::Mask, c, by, Ok(want))
 }
 
 #[test]
 fn structs_of_columns_are_masked(rt: HostRuntime) {
     let alloc = rt.alloc();
-    let nulls = [Some(false), Some(true), None];
-    let by = truths(alloc, nulls.as_slice());
-    assert!(rt; mask_gives(alloc, columns(alloc), by, rows(alloc)));
-    let by = truths(alloc, [None, None, None].as_slice());
-    assert!(rt; mask_gives(alloc, columns(alloc), by, whole_rows(alloc)));
+    let by = [Some(false), Some(true), None];
+    assert!(rt; masks(alloc, Sample::Columns, by.as_slice(), Sample::MaskedRows));
+    let by = [None, None, None];
+    assert!(rt; masks(alloc, Sample::Columns, by.as_slice(), Sample::WholeRows));
 }
 
 #[test]
 fn masked_structs_are_masked_once_more(rt: HostRuntime) {
     let alloc = rt.alloc();
-    let by = truths(alloc, [None, Some(false), Some(true)].as_slice());
-    assert!(rt; mask_gives(alloc, masked(alloc), by, fewer_rows(alloc)));
-    let by = truths(alloc, [Some(false), None, None].as_slice());
-    assert!(rt; mask_gives(alloc, masked(alloc), by, rows(alloc)));
+    let by = [None, Some(false), Some(true)];
+    assert!(rt; masks(alloc, Sample::Masked, by.as_slice(), Sample::FewerRows));
+    let by = [Some(false), None, None];
+    assert!(rt; masks(alloc, Sample::Masked, by.as_slice(), Sample::MaskedRows));
 }
 
 #[test]
 fn fields_of_masked_structs(rt: HostRuntime) {
     let alloc = rt.alloc();
-    let a = numbers(alloc, PType::I8, [Some(1), None, Some(3)].as_slice());
-    assert!(rt; field_gives(alloc, masked_others(alloc), "a", a));
-    let b = texts(alloc, [Some("x"), None, None].as_slice());
-    assert!(rt; field_gives(alloc, masked_others(alloc), "b", b));
-    assert!(rt; field_gives(alloc, masked(alloc), "c", Err(ColumnError::UnknownField)));
-}
-
-/// The masked structs with their fields turned, kept as columns.
-fn turned(alloc: Global) -> Made {
-    let valid = [true, false, true];
-    let b = texts(alloc, [Some("x"), Some("?"), None].as_slice());
-    let a = numbers(alloc, PType::I8, [Some(1), Some(7), Some(3)].as_slice());
-    made_of(
-        alloc,
-        ["b", "a"].as_slice(),
-        both(alloc, b, a),
-        3,
-        Some(valid.as_slice()),
-    )
+    let a = [Some(1), None, Some(3)];
+    let want = numbers(PType::I8, a.as_slice());
+    assert!(rt; field_has(alloc, Sample::MaskedOthers, "a", Ok(want)));
+    let b = [Some("x"), None, None];
+    let want = Rows::Texts(b.as_slice());
+    assert!(rt; field_has(alloc, Sample::MaskedOthers, "b", Ok(want)));
+    assert!(rt; field_has(alloc, Sample::Masked, "c", Err(ColumnError::UnknownField)));
 }
 
 #[test]
 fn projected_masked_structs(rt: HostRuntime) {
     let alloc = rt.alloc();
-    let names = ["b", "a"];
-    assert!(rt; project_gives(alloc, masked(alloc), names.as_slice(), turned(alloc)));
-    let unknown = ["b", "c"];
-    let want = Err(ColumnError::UnknownField);
-    assert!(rt; project_gives(alloc, masked(alloc), unknown.as_slice(), want));
-    let twice = ["b", "b"];
-    let want = Err(ColumnError::DuplicateField);
-    assert!(rt; project_gives(alloc, masked(alloc), twice.as_slice(), want));
+    let masked = Sample::Masked;
+    let turned = Rows::Sample(Sample::TurnedMasked);
+    assert!(rt; projects(alloc, masked, ["b", "a"].as_slice(), Ok(turned)));
+    let unknown = ["b", "c"].as_slice();
+    assert!(rt; projects(alloc, masked, unknown, Err(ColumnError::UnknownField)));
+    let twice = ["b", "b"].as_slice();
+    assert!(rt; projects(alloc, masked, twice, Err(ColumnError::DuplicateField)));
 }
 
 #[test]
 fn kept_masked_structs(rt: HostRuntime) {
     let alloc = rt.alloc();
-    let keep = truths(alloc, [None, Some(true), Some(true)].as_slice());
+    let keep = [None, Some(true), Some(true)];
     let last = [None, Some((Some(3), None))];
-    let want = pairs(alloc, last.as_slice(), Nullability::Nullable);
-    assert!(rt; filter_gives(alloc, masked(alloc), keep, want));
+    assert!(rt;
+        pair_gives(
+            alloc,
+            PairCall::Filter,
+            Rows::Sample(Sample::Masked),
+            truths(keep.as_slice()),
+            Ok(Rows::Pairs(last.as_slice(), Nullability::Nullable))
+        )
+    );
 }
 
 #[test]
 fn nulls_of_masked_structs(rt: HostRuntime) {
     let alloc = rt.alloc();
     let tests = [Some(false), Some(true), Some(false)];
-    let want = truths_of(alloc, tests.as_slice(), Nullability::NonNullable);
-    assert!(rt; is_null_gives(alloc, masked(alloc), want));
-}
-
-/// The texts `x`, `y` and `xy`, none of which may be null.
-fn whole_texts(alloc: Global) -> Made {
-    let mut texts = Vec::new(alloc);
-    for text in ["x", "y", "xy"].as_slice() {
-        texts.push(Some(Text::new(alloc, text)?))?;
-    }
-    ColumnRef::utf8(alloc, texts, Nullability::NonNullable)
+    let want = Rows::Truths(tests.as_slice(), Nullability::NonNullable);
+    assert!(rt; gives(alloc, Call::IsNull, Rows::Sample(Sample::Masked), Ok(want)));
 }
 
 #[test]
 fn masked_texts(rt: HostRuntime) {
     let alloc = rt.alloc();
-    let by = truths(alloc, [Some(true), Some(false), None].as_slice());
-    let want = texts(alloc, [None, Some("y"), Some("xy")].as_slice());
-    assert!(rt; mask_gives(alloc, whole_texts(alloc), by, want));
+    let by = [Some(true), Some(false), None];
+    let want = [None, Some("y"), Some("xy")];
+    assert!(rt;
+        pair_gives(
+            alloc,
+            PairCall::Mask,
+            Rows::Sample(Sample::WholeTexts),
+            truths(by.as_slice()),
+            Ok(Rows::Texts(want.as_slice()))
+        )
+    );
 }
 
-/// The whole texts, the first of which is hidden: a field of masked structs.
-fn hidden_text(alloc: Global) -> Made {
-    let structs = made_of(
+/// Whether a call of the texts of masked structs and other rows has these rows.
+fn hidden_gives(alloc: Global, call: PairCall, other: Rows<'_>, want: Rows<'_>) -> bool {
+    pair_gives(
         alloc,
-        ["a", "b"].as_slice(),
-        both(alloc, whole_texts(alloc), whole_texts(alloc)),
-        3,
-        Some([false, true, true].as_slice()),
-    );
-    field_made(alloc, structs, "b")
+        call,
+        Rows::Sample(Sample::HiddenText),
+        other,
+        Ok(want),
+    )
 }
 
 #[test]
 fn texts_of_masked_structs(rt: HostRuntime) {
     let alloc = rt.alloc();
-    let want = texts(alloc, [None, Some("y"), Some("xy")].as_slice());
-    assert!(rt; same(hidden_text(alloc), want));
-    let pattern = constant_text(alloc, "x%", 3);
-    let want = truths(alloc, [None, Some(false), Some(true)].as_slice());
-    assert!(rt; like_gives(alloc, hidden_text(alloc), pattern, false, false, want));
-    let keep = truths(alloc, [Some(true), None, Some(true)].as_slice());
-    let want = texts(alloc, [None, Some("xy")].as_slice());
-    assert!(rt; filter_gives(alloc, hidden_text(alloc), keep, want));
-}
-
-/// Structs of masked structs and numbers, with the last row null.
-fn nested(alloc: Global) -> Made {
-    let n = numbers(alloc, PType::I8, [Some(4), Some(5), Some(6)].as_slice());
-    made_of(
-        alloc,
-        ["s", "n"].as_slice(),
-        both(alloc, masked(alloc), n),
-        3,
-        Some([true, true, false].as_slice()),
-    )
+    let rows = [None, Some("y"), Some("xy")];
+    let hidden = Rows::Sample(Sample::HiddenText);
+    assert!(rt; same(alloc, hidden, Rows::Texts(rows.as_slice())));
+    let like = PairCall::Like {
+        negated: false,
+        case_insensitive: false,
+    };
+    let matches = [None, Some(false), Some(true)];
+    let want = truths(matches.as_slice());
+    assert!(rt; hidden_gives(alloc, like, Rows::OneText("x%", 3), want));
+    let keep = [Some(true), None, Some(true)];
+    let rows = [None, Some("xy")];
+    let want = Rows::Texts(rows.as_slice());
+    assert!(rt; hidden_gives(alloc, PairCall::Filter, truths(keep.as_slice()), want));
 }
 
 #[test]
 fn masked_structs_in_masked_structs(rt: HostRuntime) {
     let alloc = rt.alloc();
-    assert!(rt; same(nested(alloc), nested(alloc)));
-    assert!(rt; field_gives(alloc, nested(alloc), "s", fewer_rows(alloc)));
-    let n = numbers(alloc, PType::I8, [Some(4), Some(5), None].as_slice());
-    assert!(rt; field_gives(alloc, nested(alloc), "n", n));
+    assert!(rt; are_same(alloc, Sample::Nested, Sample::Nested));
+    let structs = Rows::Sample(Sample::FewerRows);
+    assert!(rt; field_has(alloc, Sample::Nested, "s", Ok(structs)));
+    let n = [Some(4), Some(5), None];
+    assert!(rt;
+        field_has(
+            alloc,
+            Sample::Nested,
+            "n",
+            Ok(numbers(PType::I8, n.as_slice()))
+        )
+    );
 }

@@ -1,13 +1,12 @@
-//! What a null of a struct hides, and the refusals of structs, projections and values.
+//! Structs made of columns and of values, and the refusals of structs, projections and values.
 
-use crate::calls::{field_gives, project_gives};
-use crate::columns::{Made, gives, names, numbers, one_list, only, texts, typed};
+use crate::columns::{Made, names, numbers_of, one_list, only, texts, typed};
+use crate::rows::{Rows, answers, makes, numbers};
+use crate::samples::{Sample, field_has, projects};
 use std::alloc::Global;
 use std::rc::Rc;
 use vx_column::{ColumnError, ColumnRef};
-use vx_dtype::{
-    DType, FieldName, FieldNames, Mem, Nullability, PType, ScalarValue, StructFields, Text,
-};
+use vx_dtype::{DType, FieldNames, Mem, Nullability, PType, ScalarValue, StructFields, Text};
 
 /// A struct of a number and a text, either of which may be null.
 pub(crate) type Pair<'a> = (Option<i128>, Option<&'a str>);
@@ -27,10 +26,22 @@ pub(crate) fn both(alloc: Global, first: Made, second: Made) -> Columns {
     with(with(Ok(Vec::new(alloc)), first), second)
 }
 
+/// Numbers of i8, any of which may be null.
+pub(crate) fn small_numbers(alloc: Global, values: &[Option<i128>]) -> Made {
+    numbers_of(alloc, PType::I8, values, Nullability::Nullable)
+}
+
 /// The columns `a` and `b` of three rows.
 pub(crate) fn parts(alloc: Global) -> Columns {
-    let a = numbers(alloc, PType::I8, [Some(1), None, Some(3)].as_slice());
+    let a = small_numbers(alloc, [Some(1), None, Some(3)].as_slice());
     let b = texts(alloc, [Some("x"), Some("y"), None].as_slice());
+    both(alloc, a, b)
+}
+
+/// The columns `a` and `b` with other values in the middle.
+pub(crate) fn other_parts(alloc: Global) -> Columns {
+    let a = small_numbers(alloc, [Some(1), Some(9), Some(3)].as_slice());
+    let b = texts(alloc, [Some("x"), Some("hidden"), None].as_slice());
     both(alloc, a, b)
 }
 
@@ -47,7 +58,19 @@ fn optional_truths(alloc: Global, valid: Option<&[bool]>) -> Mem<Option<Vec<bool
     }
 }
 
-/// The struct column of these columns with these names, or the refusal.
+/// The struct column of these columns with these names, null where truths say so, or the refusal.
+fn masked_by(
+    alloc: Global,
+    names: FieldNames,
+    fields: Vec<ColumnRef>,
+    len: usize,
+    valid: Option<&[bool]>,
+) -> Made {
+    let valid = optional_truths(alloc, valid)?;
+    ColumnRef::struct_(alloc, names, fields, len, valid)
+}
+
+/// The same by the names' texts.
 pub(crate) fn made_of(
     alloc: Global,
     texts: &[&str],
@@ -57,19 +80,21 @@ pub(crate) fn made_of(
 ) -> Made {
     let fields = fields?;
     let names = field_names(alloc, texts)?;
-    let valid = optional_truths(alloc, valid)?;
-    ColumnRef::struct_(alloc, names, fields, len, valid)
+    masked_by(alloc, names, fields, len, valid)
+}
+
+/// The types of a struct's fields.
+fn pair_dtypes(alloc: Global) -> Mem<Vec<DType>> {
+    let mut dtypes = Vec::new(alloc);
+    dtypes.push(DType::Primitive(PType::I8, Nullability::Nullable))?;
+    dtypes.push(DType::Utf8(Nullability::Nullable))?;
+    Ok(dtypes)
 }
 
 /// The struct type with fields of these two names.
 fn pair_type(alloc: Global, first: &str, second: &str, n: Nullability) -> Mem<DType> {
-    let mut names = Vec::new(alloc);
-    names.push(FieldName::new(alloc, first)?)?;
-    names.push(FieldName::new(alloc, second)?)?;
-    let mut dtypes = Vec::new(alloc);
-    dtypes.push(DType::Primitive(PType::I8, Nullability::Nullable))?;
-    dtypes.push(DType::Utf8(Nullability::Nullable))?;
-    let names = FieldNames::new(alloc, names)?;
+    let names = field_names(alloc, [first, second].as_slice())?;
+    let dtypes = pair_dtypes(alloc)?;
     Ok(DType::Struct(StructFields::new(alloc, names, dtypes)?, n))
 }
 
@@ -125,37 +150,18 @@ pub(crate) fn pairs(alloc: Global, rows: &[Option<Pair<'_>>], n: Nullability) ->
     )
 }
 
-/// A nullable struct column with a null row in the middle.
-fn holed(alloc: Global) -> Made {
-    let rows = [Some((Some(1), Some("x"))), None, Some((Some(3), None))];
-    pairs(alloc, rows.as_slice(), Nullability::Nullable)
-}
-
-/// Whether these columns, with a null row in the middle, are the structs with that row null.
-fn hides_middle(alloc: Global, fields: Columns) -> bool {
-    let valid = [true, false, true];
-    let names = ["a", "b"];
-    let made = made_of(alloc, names.as_slice(), fields, 3, Some(valid.as_slice()));
-    gives(made, holed(alloc))
-}
-
 #[test]
 fn structs_that_are_valid_by_truths(rt: HostRuntime) {
     let alloc = rt.alloc();
-    assert!(rt; hides_middle(alloc, parts(alloc)));
-}
-
-/// The columns `a` and `b` with other values in the middle.
-pub(crate) fn other_parts(alloc: Global) -> Columns {
-    let a = numbers(alloc, PType::I8, [Some(1), Some(9), Some(3)].as_slice());
-    let b = texts(alloc, [Some("x"), Some("hidden"), None].as_slice());
-    both(alloc, a, b)
+    let rows = Rows::Sample(Sample::MaskedRows);
+    assert!(rt; makes(alloc, Rows::Sample(Sample::Masked), Ok(rows)));
 }
 
 #[test]
 fn equal_but_for_what_is_hidden(rt: HostRuntime) {
     let alloc = rt.alloc();
-    assert!(rt; hides_middle(alloc, other_parts(alloc)));
+    let rows = Rows::Sample(Sample::MaskedRows);
+    assert!(rt; makes(alloc, Rows::Sample(Sample::MaskedOthers), Ok(rows)));
 }
 
 /// Whether a struct of the columns `a` and `b` is refused so under these names, of this length and with these truths.
@@ -166,7 +172,11 @@ fn refuses(
     valid: Option<&[bool]>,
     why: ColumnError,
 ) -> bool {
-    gives(made_of(alloc, texts, parts(alloc), len, valid), Err(why))
+    answers(
+        alloc,
+        made_of(alloc, texts, parts(alloc), len, valid),
+        Err(why),
+    )
 }
 
 #[test]
@@ -189,29 +199,51 @@ fn refusals_of_structs(rt: HostRuntime) {
 #[test]
 fn fields_of_structs(rt: HostRuntime) {
     let alloc = rt.alloc();
-    let a = numbers(alloc, PType::I8, [Some(1), None, Some(3)].as_slice());
-    assert!(rt; field_gives(alloc, holed(alloc), "a", a));
-    let b = texts(alloc, [Some("x"), None, None].as_slice());
-    assert!(rt; field_gives(alloc, holed(alloc), "b", b));
-    assert!(rt; field_gives(alloc, holed(alloc), "c", Err(ColumnError::UnknownField)));
+    let a = [Some(1), None, Some(3)];
+    assert!(rt;
+        field_has(
+            alloc,
+            Sample::MaskedRows,
+            "a",
+            Ok(numbers(PType::I8, a.as_slice()))
+        )
+    );
+    let b = [Some("x"), None, None];
+    assert!(rt;
+        field_has(
+            alloc,
+            Sample::MaskedRows,
+            "b",
+            Ok(Rows::Texts(b.as_slice()))
+        )
+    );
+    assert!(rt;
+        field_has(
+            alloc,
+            Sample::MaskedRows,
+            "c",
+            Err(ColumnError::UnknownField)
+        )
+    );
 }
 
 #[test]
 fn refusals_of_projections(rt: HostRuntime) {
     let alloc = rt.alloc();
+    let rows = Sample::MaskedRows;
     let unknown = ["a", "c"].as_slice();
-    assert!(rt; project_gives(alloc, holed(alloc), unknown, Err(ColumnError::UnknownField)));
+    assert!(rt; projects(alloc, rows, unknown, Err(ColumnError::UnknownField)));
     let twice_and_unknown = ["a", "a", "c"].as_slice();
     assert!(rt;
-        project_gives(
+        projects(
             alloc,
-            holed(alloc),
+            rows,
             twice_and_unknown,
             Err(ColumnError::UnknownField)
         )
     );
     let twice = ["a", "b", "a"].as_slice();
-    assert!(rt; project_gives(alloc, holed(alloc), twice, Err(ColumnError::DuplicateField)));
+    assert!(rt; projects(alloc, rows, twice, Err(ColumnError::DuplicateField)));
 }
 
 /// The column of one value of a type with a name twice, or the refusal.
@@ -233,30 +265,32 @@ fn doubled_list(alloc: Global, n: Nullability) -> Made {
     )
 }
 
-/// The column of one number, or the refusal.
-fn one_number(alloc: Global, i: i128) -> Made {
-    numbers(alloc, PType::U8, [Some(i)].as_slice())
+/// Whether the column of one value of a type with a name twice is refused so.
+fn doubled_refuses(alloc: Global, value: ScalarValue, why: ColumnError) -> bool {
+    answers(alloc, doubled(alloc, value), Err(why))
+}
+
+/// Whether the column of no list of a type with a name twice is refused so.
+fn doubled_list_refuses(alloc: Global, n: Nullability, why: ColumnError) -> bool {
+    answers(alloc, doubled_list(alloc, n), Err(why))
+}
+
+/// Whether the column of one number of u8 is refused.
+fn is_refused(alloc: Global, i: i128) -> bool {
+    let values = [Some(i)];
+    let rows = numbers(PType::U8, values.as_slice());
+    makes(alloc, rows, Err(ColumnError::WrongValue))
 }
 
 #[test]
 fn refusals_of_values(rt: HostRuntime) {
     let alloc = rt.alloc();
-    assert!(rt;
-        gives(
-            doubled(alloc, ScalarValue::Null),
-            Err(ColumnError::DuplicateField)
-        )
-    );
-    assert!(rt;
-        gives(
-            doubled(alloc, ScalarValue::Int(1)),
-            Err(ColumnError::WrongValue)
-        )
-    );
-    let list = doubled_list(alloc, Nullability::Nullable);
-    assert!(rt; gives(list, Err(ColumnError::DuplicateField)));
-    let list = doubled_list(alloc, Nullability::NonNullable);
-    assert!(rt; gives(list, Err(ColumnError::WrongValue)));
-    assert!(rt; gives(one_number(alloc, 256), Err(ColumnError::WrongValue)));
-    assert!(rt; gives(one_number(alloc, -1), Err(ColumnError::WrongValue)));
+    assert!(rt; doubled_refuses(alloc, ScalarValue::Null, ColumnError::DuplicateField));
+    assert!(rt; doubled_refuses(alloc, ScalarValue::Int(1), ColumnError::WrongValue));
+    let nullable = Nullability::Nullable;
+    assert!(rt; doubled_list_refuses(alloc, nullable, ColumnError::DuplicateField));
+    let whole = Nullability::NonNullable;
+    assert!(rt; doubled_list_refuses(alloc, whole, ColumnError::WrongValue));
+    assert!(rt; is_refused(alloc, 256));
+    assert!(rt; is_refused(alloc, -1));
 }

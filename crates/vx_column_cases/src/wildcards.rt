@@ -1,7 +1,7 @@
 //! LIKE at texts, patterns and cases.
 
-use crate::calls::like_gives;
-use crate::columns::{texts, truths};
+use crate::calls::{PairCall, pair_gives};
+use crate::rows::{Rows, truths};
 use std::alloc::Global;
 
 /// Texts and patterns, whether they match, and whether they do so without regard to case.
@@ -57,10 +57,20 @@ fn match_gives(
     case_insensitive: bool,
     want: bool,
 ) -> bool {
-    let c = texts(alloc, [Some(text), None, Some(text), None].as_slice());
-    let p = texts(alloc, [Some(pattern), Some(pattern), None, None].as_slice());
-    let rows = truths(alloc, [Some(want), None, None, None].as_slice());
-    like_gives(alloc, c, p, negated, case_insensitive, rows)
+    let like = PairCall::Like {
+        negated,
+        case_insensitive,
+    };
+    let texts = [Some(text), None, Some(text), None];
+    let patterns = [Some(pattern), Some(pattern), None, None];
+    let rows = [Some(want), None, None, None];
+    pair_gives(
+        alloc,
+        like,
+        Rows::Texts(texts.as_slice()),
+        Rows::Texts(patterns.as_slice()),
+        Ok(truths(rows.as_slice())),
+    )
 }
 
 #[test]
