@@ -24,24 +24,36 @@ fn truth(place: usize) -> Option<bool> {
     }
 }
 
-/// So many numbers of i64, without nulls.
-pub(crate) fn numbers(alloc: Global, rows: usize) -> Result<ColumnRef> {
+/// So many numbers.
+fn number_values(alloc: Global, rows: usize) -> Mem<Vec<Option<i128>>> {
     let mut values = Vec::with_capacity(alloc, rows)?;
     for i in 0..rows {
         values.push(Some(number(i)))?;
     }
+    Ok(values)
+}
+
+/// So many numbers of i64, without nulls.
+pub(crate) fn numbers(alloc: Global, rows: usize) -> Result<ColumnRef> {
+    let values = number_values(alloc, rows)?;
     match ColumnRef::primitive(alloc, PType::I64, values, NonNullable) {
         Ok(column) => Ok(column),
         Err(_) => bail!("no numbers"),
     }
 }
 
-/// So many truths, with nulls: those from a place on.
-pub(crate) fn truths(alloc: Global, rows: usize, from: usize) -> Result<ColumnRef> {
+/// So many truths: those from a place on.
+fn truth_values(alloc: Global, rows: usize, from: usize) -> Mem<Vec<Option<bool>>> {
     let mut values = Vec::with_capacity(alloc, rows)?;
     for i in 0..rows {
         values.push(truth(from.wrapping_add(i)))?;
     }
+    Ok(values)
+}
+
+/// So many truths, with nulls: those from a place on.
+pub(crate) fn truths(alloc: Global, rows: usize, from: usize) -> Result<ColumnRef> {
+    let values = truth_values(alloc, rows, from)?;
     match ColumnRef::bool(alloc, values, Nullable) {
         Ok(column) => Ok(column),
         Err(_) => bail!("no truths"),
@@ -54,10 +66,15 @@ fn names(alloc: Global) -> Mem<FieldNames> {
     FieldNames::new(alloc, names)
 }
 
+/// The two fields: so many numbers and so many truths.
+fn fields(alloc: Global, rows: usize) -> Result<Vec<ColumnRef>> {
+    Ok(vec![in alloc; numbers(alloc, rows)?, truths(alloc, rows, 0)?]?)
+}
+
 /// So many structs of a number and a truth.
 pub(crate) fn structs(alloc: Global, rows: usize) -> Result<ColumnRef> {
-    let columns = vec![in alloc; numbers(alloc, rows)?, truths(alloc, rows, 0)?]?;
-    match ColumnRef::struct_(alloc, names(alloc)?, columns, rows, None) {
+    let names = names(alloc)?;
+    match ColumnRef::struct_(alloc, names, fields(alloc, rows)?, rows, None) {
         Ok(column) => Ok(column),
         Err(_) => bail!("no structs"),
     }

@@ -41,11 +41,16 @@ fn is_number(dtype: &DType) -> bool
     matches!(dtype, DType::Primitive(_, _))
 }
 
+/// Which numbers of a column are above those of another one.
+fn above_others(alloc: Global, numbers: &ColumnRef, least: &ColumnRef) -> Result<ColumnRef> {
+    are_numbers(numbers, least)?;
+    Ok(compare(alloc, numbers, least, CompareOperator::Gt)?)
+}
+
 /// Which numbers of a column are above a constant.
 pub(crate) fn above(alloc: Global, numbers: &ColumnRef) -> Result<ColumnRef> {
     let least = constant(alloc, numbers.len())?;
-    are_numbers(numbers, &least)?;
-    Ok(compare(alloc, numbers, &least, CompareOperator::Gt)?)
+    above_others(alloc, numbers, &least)
 }
 
 /// Whether a type is that of truths.

@@ -15,11 +15,16 @@ use timing::{keep, time};
 
 fn main(rt: HostRuntime) -> Result<()> {
     let mut words = env::args(&rt)?.skip(1);
-    let (Some(what), Some(work)) = (words.next(), words.next()) else {
-        println!(rt; "usage: vx_column_bench time|keep 'KERNEL ROWS TIMES'")?;
-        return Ok(());
-    };
-    run(&rt, what.as_str(), work.as_str())
+    match (words.next(), words.next()) {
+        (Some(what), Some(work)) => run(&rt, what.as_str(), work.as_str()),
+        _ => print_usage(&rt),
+    }
+}
+
+/// Prints how the program is called.
+fn print_usage(rt: &HostRuntime) -> Result<()> {
+    println!(rt; "usage: vx_column_bench time|keep 'KERNEL ROWS TIMES'")?;
+    Ok(())
 }
 
 /// Does with a kernel, of so many rows and so many times, what a word names.
@@ -28,8 +33,23 @@ fn run(rt: &HostRuntime, what: &str, work: &str) -> Result<()> {
     let (Some(kernel), Some(rows), Some(times)) = (words.next(), words.next(), words.next()) else {
         bail!("a kernel, its rows and how many times are needed")
     };
-    let rows = rows.parse::<usize>()?;
-    let times = times.parse::<usize>()?;
+    time_or_keep(
+        rt,
+        what,
+        kernel,
+        rows.parse::<usize>()?,
+        times.parse::<usize>()?,
+    )
+}
+
+/// Times a kernel, or keeps its answers, as a word says.
+fn time_or_keep(
+    rt: &HostRuntime,
+    what: &str,
+    kernel: &str,
+    rows: usize,
+    times: usize,
+) -> Result<()> {
     match what {
         "time" => time(rt, kernel, rows, times),
         "keep" => keep(rt, kernel, rows, times),

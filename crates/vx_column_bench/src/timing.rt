@@ -32,8 +32,19 @@ fn time_words(
     times: usize,
 ) -> Result<()> {
     let mut sides = Sides::new(rt.alloc(), rows)?;
+    time_sides(rt, kernel, logic, times, &mut sides)
+}
+
+/// Times a kernel of words of bits, so many times, and prints at how many places its answer is true.
+fn time_sides(
+    rt: &HostRuntime,
+    kernel: &str,
+    logic: Logic,
+    times: usize,
+    sides: &mut Sides,
+) -> Result<()> {
     for _ in 0..times {
-        time_logic(rt, kernel, logic, &mut sides)?;
+        time_logic(rt, kernel, logic, sides)?;
     }
     println!(rt; "answer {}", sides.true_count())?;
     Ok(())
@@ -49,10 +60,16 @@ fn time_logic(rt: &HostRuntime, kernel: &str, logic: Logic, sides: &mut Sides) -
 /// Times a kernel of columns.
 fn time_columns(rt: &HostRuntime, kernel: &str, rows: usize, times: usize) -> Result<()> {
     let work = Work::named(rt.alloc(), kernel, rows)?;
+    time_works(rt, kernel, times, &work)
+}
+
+/// Times a kernel of columns, so many times, and prints the size of its answer.
+fn time_works(rt: &HostRuntime, kernel: &str, times: usize, work: &Work) -> Result<()> {
     for _ in 0..times {
-        time_work(rt, kernel, &work)?;
+        time_work(rt, kernel, work)?;
     }
-    print_answer(rt, &work)
+    let answer = work.answer(rt.alloc())?;
+    print_size(rt, &answer)
 }
 
 /// Times one call of a kernel of columns.
@@ -63,9 +80,8 @@ fn time_work(rt: &HostRuntime, kernel: &str, work: &Work) -> Result<()> {
 }
 
 /// Prints at how many rows an answer of truths is true, or how many rows another one has.
-fn print_answer(rt: &HostRuntime, work: &Work) -> Result<()> {
-    let answer = work.answer(rt.alloc())?;
-    println!(rt; "answer {}", size(&answer))?;
+fn print_size(rt: &HostRuntime, answer: &ColumnRef) -> Result<()> {
+    println!(rt; "answer {}", size(answer))?;
     Ok(())
 }
 
@@ -80,6 +96,11 @@ fn size(column: &ColumnRef) -> usize {
 /// Keeps the answers of so many calls of a kernel of columns until it has printed how many rows each has.
 pub(crate) fn keep(rt: &HostRuntime, kernel: &str, rows: usize, times: usize) -> Result<()> {
     let work = Work::named(rt.alloc(), kernel, rows)?;
+    keep_answers(rt, &work, times)
+}
+
+/// Keeps so many answers of a kernel until it has printed how many rows each has.
+fn keep_answers(rt: &HostRuntime, work: &Work, times: usize) -> Result<()> {
     let kept = work.answers(rt.alloc(), times)?;
     print_rows(rt, kept.as_slice())
 }

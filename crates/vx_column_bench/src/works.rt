@@ -37,7 +37,7 @@ impl Work {
             "and_kleene" => Work::conjunction(alloc, rows),
             "filter" => Work::filter(alloc, rows),
             "field" => Ok(Work::Field(structs(alloc, rows)?)),
-            "mask" => Ok(Work::Mask(structs(alloc, rows)?, truths(alloc, rows, rows)?)),
+            "mask" => Work::mask(alloc, rows),
             "masked_field" => Work::masked_field(alloc, rows),
             _ => bail!("no such kernel"),
         }
@@ -57,11 +57,24 @@ impl Work {
         Ok(Work::Filter(column, keep))
     }
 
+    /// The mask of so many structs.
+    fn mask(alloc: Global, rows: usize) -> Result<Work> {
+        let column = structs(alloc, rows)?;
+        let nulls = truths(alloc, rows, rows)?;
+        Ok(Work::Mask(column, nulls))
+    }
+
     /// The first field of so many structs, some of which are null.
     fn masked_field(alloc: Global, rows: usize) -> Result<Work> {
         let column = structs(alloc, rows)?;
+        Work::field_of_masked(alloc, &column)
+    }
+
+    /// The first field of structs, some of which are made null.
+    fn field_of_masked(alloc: Global, column: &ColumnRef) -> Result<Work> {
+        let rows = column.len();
         let nulls = truths(alloc, rows, rows)?;
-        Ok(Work::Field(masked(alloc, &column, &nulls)?))
+        Ok(Work::Field(masked(alloc, column, &nulls)?))
     }
 
     /// What the kernel answers.
