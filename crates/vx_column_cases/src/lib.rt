@@ -24,6 +24,8 @@ mod rows;
 #[cfg(test)]
 mod samples;
 #[cfg(test)]
+mod splits;
+#[cfg(test)]
 mod structs;
 #[cfg(test)]
 mod truths;

@@ -9,7 +9,7 @@ use vx_column::ColumnError;
 use vx_dtype::{Nullability, PType};
 
 /// Whether two samples are made and are one.
-fn are_same(alloc: Global, a: Sample, b: Sample) -> bool {
+pub(crate) fn are_same(alloc: Global, a: Sample, b: Sample) -> bool {
     same(alloc, Rows::Sample(a), Rows::Sample(b))
 }
 
@@ -23,7 +23,7 @@ fn masked_structs_are_their_rows(rt: HostRuntime) {
 }
 
 /// Whether two samples are made and differ.
-fn are_different(alloc: Global, a: Sample, b: Sample) -> bool {
+pub(crate) fn are_different(alloc: Global, a: Sample, b: Sample) -> bool {
     differ(alloc, Rows::Sample(a), Rows::Sample(b))
 }
 
@@ -39,7 +39,7 @@ fn masked_structs_that_differ(rt: HostRuntime) {
 }
 
 /// Whether a sample is another one where it is masked by truths.
-fn masks(alloc: Global, c: Sample, by: &[Option<bool>], want: Sample) -> bool {
+pub(crate) fn masks(alloc: Global, c: Sample, by: &[Option<bool>], want: Sample) -> bool {
     let (c, by, want) = (Rows::Sample(c), truths(by), Rows::Sample(want));
     pair_gives(alloc, PairCall::Mask, c, by, Ok(want))
 }

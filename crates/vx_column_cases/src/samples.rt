@@ -4,6 +4,7 @@ use crate::calls::{Call, gives};
 use crate::columns::{Made, numbers_of, texts, texts_of};
 use crate::kinds::is_struct;
 use crate::rows::{Rows, Want};
+use crate::splits::nested_rows;
 use crate::structs::{both, made_of, other_parts, pairs, parts, small_numbers, with};
 use std::alloc::Global;
 use vx_column::{ColumnError, ColumnRef};
@@ -36,6 +37,8 @@ pub(crate) enum Sample {
     TurnedMasked,
     /// Structs of masked structs and numbers, with the last row null.
     Nested,
+    /// The same structs, row by row.
+    NestedRows,
     /// The texts `x`, `y` and `xy`, none of which may be null.
     WholeTexts,
     /// The whole texts, the first of which is hidden: a field of masked structs.
@@ -180,6 +183,7 @@ pub(crate) fn sample_column(alloc: Global, structs: Sample) -> Made {
         Sample::OtherRows => other_rows(alloc),
         Sample::TurnedMasked => turned_masked(alloc),
         Sample::Nested => nested(alloc),
+        Sample::NestedRows => nested_rows(alloc),
         Sample::WholeTexts => whole_texts(alloc),
         Sample::HiddenText => hidden_text(alloc),
         Sample::OneStruct => one_struct(alloc),

@@ -46,7 +46,7 @@ pub(crate) fn other_parts(alloc: Global) -> Columns {
 }
 
 /// Names of a struct's fields.
-fn field_names(alloc: Global, texts: &[&str]) -> Mem<FieldNames> {
+pub(crate) fn field_names(alloc: Global, texts: &[&str]) -> Mem<FieldNames> {
     FieldNames::new(alloc, names(alloc, texts)?)
 }
 
@@ -92,7 +92,7 @@ fn pair_dtypes(alloc: Global) -> Mem<Vec<DType>> {
 }
 
 /// The struct type with fields of these two names.
-fn pair_type(alloc: Global, first: &str, second: &str, n: Nullability) -> Mem<DType> {
+pub(crate) fn pair_type(alloc: Global, first: &str, second: &str, n: Nullability) -> Mem<DType> {
     let names = field_names(alloc, [first, second].as_slice())?;
     let dtypes = pair_dtypes(alloc)?;
     Ok(DType::Struct(StructFields::new(alloc, names, dtypes)?, n))
