@@ -5,8 +5,9 @@ usage: bench/columns.py         (first build the program: cd crates/vx_column_be
 
 The loops are those of bench/columns.c, built by `cc -O2`, over the layout that columns aim at: numbers of i64 in eight bytes, truths in
 two bits. Each kernel is called a hundred times in each of three runs, in turn with its loop; the least time of each counts. Where the
-answers differ it ends. A constant, the taking of a field and the masking of structs have no loop over rows: beside theirs stands the time over
-1,000 rows. The field of masked structs shares their numbers, and has words of validity of its own.
+answers differ it ends. A constant, the taking of a field (of structs made of columns, and of structs that come in as values) and the
+masking of structs have no loop over rows: beside theirs stands the time over 1,000 rows. The field of masked structs shares their
+numbers, and has words of validity of its own.
 
 The bytes of a row are those of the answer: how much the peak memory grows where more answers are kept, or more words made. At the end
 it says how many of the aims are met.
@@ -35,6 +36,7 @@ KERNELS = [
     ("and_kleene", LOOP, None, 0.26),
     ("constant", FEW, 2.0, 0.01),
     ("field", FEW, 2.0, 0.01),
+    ("values_field", FEW, 2.0, 0.01),
     ("mask", FEW, 2.0, 0.01),
     ("masked_field", FEW, None, 0.13),
     ("numbers", None, None, 8.2),

@@ -3,7 +3,7 @@ use anyhow::{Result, bail};
 use std::alloc::Global;
 use vx_column::ColumnRef;
 use vx_dtype::Nullability::{NonNullable, Nullable};
-use vx_dtype::{FieldName, FieldNames, Mem, PType};
+use vx_dtype::{FieldName, FieldNames, Mem, PType, ScalarValue};
 
 /// Bits for a place that look like those of chance, so that a processor foresees no branch by them.
 pub(crate) fn mixed(place: usize) -> u64 {
@@ -77,5 +77,22 @@ pub(crate) fn structs(alloc: Global, rows: usize) -> Result<ColumnRef> {
     match ColumnRef::struct_(alloc, names, fields(alloc, rows)?, rows, None) {
         Ok(column) => Ok(column),
         Err(_) => bail!("no structs"),
+    }
+}
+
+/// The values of a column, as they come in.
+fn values(alloc: Global, column: &ColumnRef) -> Mem<Vec<ScalarValue>> {
+    let mut values = Vec::new(alloc);
+    column.append_to(alloc, &mut values)?;
+    Ok(values)
+}
+
+/// So many structs of a number and a truth, which come in as values.
+pub(crate) fn structs_of_values(alloc: Global, rows: usize) -> Result<ColumnRef> {
+    let column = structs(alloc, rows)?;
+    let dtype = column.dtype().clone()?;
+    match ColumnRef::of_values(alloc, dtype, values(alloc, &column)?) {
+        Ok(column) => Ok(column),
+        Err(_) => bail!("no structs of values"),
     }
 }

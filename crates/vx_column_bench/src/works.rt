@@ -1,5 +1,5 @@
 // The kernels of columns by their names, with what they are called on.
-use crate::columns::{numbers, structs, truths};
+use crate::columns::{numbers, structs, structs_of_values, truths};
 use crate::kernels::{above, both, constant, first, kept, masked};
 use anyhow::{Result, bail};
 use std::alloc::Global;
@@ -37,6 +37,7 @@ impl Work {
             "and_kleene" => Work::conjunction(alloc, rows),
             "filter" => Work::filter(alloc, rows),
             "field" => Ok(Work::Field(structs(alloc, rows)?)),
+            "values_field" => Ok(Work::Field(structs_of_values(alloc, rows)?)),
             "mask" => Work::mask(alloc, rows),
             "masked_field" => Work::masked_field(alloc, rows),
             _ => bail!("no such kernel"),
