@@ -1,5 +1,5 @@
--- For the checker: no public clause cites this. Structs that stand in rows, as columns of their fields; and rows some of which are null, as rows that aren't and the
--- places of those that are.
+-- For the checker: no public clause cites this. Structs that stand in rows, as columns of their fields; and rows some of which are null, as rows none of
+-- which is, and the places of those that are.
 use Rattle.std.specs.Prelude.{ℕ, zero, suc, ◌<◌, cond, List, [], ◌∷◌, map}
 use Rattle.vx_dtype.specs.Types.{Fields, no_fields, field}
 use Rattle.vx_dtype.specs.Values.{Raw, raw_null, raw_struct, Raws, no_raws, raw, valued}

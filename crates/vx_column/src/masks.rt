@@ -126,7 +126,8 @@ fn masked_constant(
     requires no_truths { is_bool_ty (type_view dtype.now) ≡ false }
     requires no_numbers { is_int_ty (type_view dtype.now) ≡ false }
     requires lengths { length nulls.value ≡ len }
-    ensures { IfOk result (λ c. c ≡ column (type_view dtype.now) (zip_rows masked (replicate len (seen (type_view dtype.now) value.now)) (vals_of nulls.value))) }
+    ensures { IfOk result (λ c. c ≡ column (type_view dtype.now)
+        (zip_rows masked (replicate len (seen (type_view dtype.now) value.now)) (vals_of nulls.value))) }
 {
     if is_null_value(value) {
         return Ok(ColumnRef::of_constant(dtype.clone()?, null(), len));
