@@ -91,15 +91,30 @@ fn nested_left(alloc: Global) -> Mem<ExprRef> {
     BinaryExpr::new_expr(alloc, first, Operator::And, number(alloc, 3)?)
 }
 
+/// Whether `and_collect` nests 1, 2 and 3 to the right.
+fn and_collect_nests(alloc: Global) -> Mem<bool> {
+    let nested = nested_right(alloc, Operator::And)?;
+    Ok(and_collect(alloc, numbers(alloc)?)? == Some(nested))
+}
+
+/// Whether `or_collect` nests 1, 2 and 3 to the right.
+fn or_collect_nests(alloc: Global) -> Mem<bool> {
+    let nested = nested_right(alloc, Operator::Or)?;
+    Ok(or_collect(alloc, numbers(alloc)?)? == Some(nested))
+}
+
+/// Whether `and_collect_right` nests 1, 2 and 3 to the left.
+fn and_collect_right_nests(alloc: Global) -> Mem<bool> {
+    let nested = nested_left(alloc)?;
+    Ok(and_collect_right(alloc, numbers(alloc)?)? == Some(nested))
+}
+
 #[test]
 fn collects_three(rt: HostRuntime) -> Result<(), Fail> {
     let alloc = rt.alloc();
-    let right = nested_right(alloc, Operator::And)?;
-    assert!(rt; and_collect(alloc, numbers(alloc)?)? == Some(right));
-    let right = nested_right(alloc, Operator::Or)?;
-    assert!(rt; or_collect(alloc, numbers(alloc)?)? == Some(right));
-    let left = nested_left(alloc)?;
-    assert!(rt; and_collect_right(alloc, numbers(alloc)?)? == Some(left));
+    assert!(rt; and_collect_nests(alloc)?);
+    assert!(rt; or_collect_nests(alloc)?);
+    assert!(rt; and_collect_right_nests(alloc)?);
     Ok(())
 }
 
@@ -112,46 +127,79 @@ fn collects_none(rt: HostRuntime) -> Result<(), Fail> {
     Ok(())
 }
 
+/// The column `col1`.
+fn col1(alloc: Global) -> Mem<ExprRef> {
+    col(alloc, name(alloc, "col1")?)
+}
+
+/// The column `col1` and 1.
+fn col1_and_one(alloc: Global) -> Mem<ExprRef> {
+    and(alloc, col1(alloc)?, number(alloc, 1)?)
+}
+
+/// Whether the column `col1` is 1.
+fn col1_is_one(alloc: Global) -> Mem<ExprRef> {
+    eq(alloc, col1(alloc)?, number(alloc, 1)?)
+}
+
 #[test]
 fn splits_conjunctions(rt: HostRuntime) -> Result<(), Fail> {
     let alloc = rt.alloc();
-    let both = and(alloc, col(alloc, name(alloc, "col1")?)?, number(alloc, 1)?)?;
-    assert!(rt; conjuncts(alloc, &both)?.len() == 2);
-    assert!(rt; split_conjunction(alloc, &both)?.len() == 2);
-    let equal = eq(alloc, col(alloc, name(alloc, "col1")?)?, number(alloc, 1)?)?;
-    assert!(rt; conjuncts(alloc, &equal)?.len() == 1);
+    assert!(rt; conjuncts(alloc, &col1_and_one(alloc)?)?.len() == 2);
+    assert!(rt; split_conjunction(alloc, &col1_and_one(alloc)?)?.len() == 2);
+    assert!(rt; conjuncts(alloc, &col1_is_one(alloc)?)?.len() == 1);
     Ok(())
 }
 
-/// `pack(one: $.a, two: $.b, three: $.a)` and `pack()`, and the same made by hand.
-fn packs(alloc: Global) -> Result<bool, ExprError> {
-    let texts = ["one", "two", "three"];
+/// `pack(one: $.a, two: $.b, three: $.a)`, made by hand.
+fn pack_by_hand(alloc: Global) -> Result<ExprRef, ExprError> {
     let values = columns(alloc, ["a", "b", "a"].as_slice())?;
-    let names = names(alloc, texts.as_slice())?;
-    let by_hand = PackExpr::try_new_expr(alloc, names, values, Nullability::NonNullable)?;
-    let elements = vec![in alloc;
-        (name(alloc, "one")?, column(alloc, "a")?),
-        (name(alloc, "two")?, column(alloc, "b")?),
-        (name(alloc, "three")?, column(alloc, "a")?),
-    ]?;
-    Ok(pack(alloc, elements, Nullability::NonNullable)? == by_hand)
+    let names = names(alloc, ["one", "two", "three"].as_slice())?;
+    PackExpr::try_new_expr(alloc, names, values, Nullability::NonNullable)
 }
 
-/// `pack()`, and the same made by hand.
-fn empty_packs(alloc: Global) -> Result<bool, ExprError> {
+/// A column under a name.
+fn named(alloc: Global, text: &str, of: &str) -> Mem<(FieldName, ExprRef)> {
+    Ok((name(alloc, text)?, column(alloc, of)?))
+}
+
+/// The columns `a`, `b` and `a` under the names `one`, `two` and `three`.
+fn named_columns(alloc: Global) -> Mem<Vec<(FieldName, ExprRef)>> {
+    Ok(vec![in alloc;
+        named(alloc, "one", "a")?,
+        named(alloc, "two", "b")?,
+        named(alloc, "three", "a")?,
+    ]?)
+}
+
+/// Whether named columns are packed as by hand.
+fn packs(alloc: Global) -> Result<bool, ExprError> {
+    let made = pack(alloc, named_columns(alloc)?, Nullability::NonNullable)?;
+    Ok(made == pack_by_hand(alloc)?)
+}
+
+/// `pack()`, made by hand.
+fn empty_pack_by_hand(alloc: Global) -> Result<ExprRef, ExprError> {
     let names = FieldNames::new(alloc, Vec::new(alloc))?;
-    let nullable = Nullability::Nullable;
-    let by_hand = PackExpr::try_new_expr(alloc, names, Vec::new(alloc), nullable)?;
-    Ok(pack(alloc, Vec::new(alloc), nullable)? == by_hand)
+    PackExpr::try_new_expr(alloc, names, Vec::new(alloc), Nullability::Nullable)
 }
 
-/// `merge($.0, $.1, $.2)`, and the same made by hand.
+/// Whether nothing is packed as by hand.
+fn empty_packs(alloc: Global) -> Result<bool, ExprError> {
+    let made = pack(alloc, Vec::new(alloc), Nullability::Nullable)?;
+    Ok(made == empty_pack_by_hand(alloc)?)
+}
+
+/// The columns `0`, `1` and `2`.
+fn three_columns(alloc: Global) -> Mem<Vec<ExprRef>> {
+    columns(alloc, ["0", "1", "2"].as_slice())
+}
+
+/// Whether `merge($.0, $.1, $.2)` is as made by hand.
 fn merges(alloc: Global) -> Mem<bool> {
-    let texts = ["0", "1", "2"];
-    let values = columns(alloc, texts.as_slice())?;
-    let by_hand = MergeExpr::new_expr(alloc, values, Nullability::NonNullable)?;
-    let elements = columns(alloc, texts.as_slice())?;
-    Ok(merge(alloc, elements, Nullability::NonNullable)? == by_hand)
+    let made = merge(alloc, three_columns(alloc)?, Nullability::NonNullable)?;
+    let values = three_columns(alloc)?;
+    Ok(made == MergeExpr::new_expr(alloc, values, Nullability::NonNullable)?)
 }
 
 #[test]
@@ -163,29 +211,50 @@ fn packs_and_merges(rt: HostRuntime) -> Result<(), Fail> {
     Ok(())
 }
 
-#[test]
-fn expressions_are_keys(rt: HostRuntime) -> Result<(), Fail> {
-    let alloc = rt.alloc();
+/// The row as the key of 1, and the constant 1 as the key of 2.
+fn two_keys(alloc: Global) -> Mem<HashMap<ExprRef, u8>> {
     let mut seen = HashMap::new(alloc);
     seen.insert(root(alloc)?, 1u8)?;
     seen.insert(number(alloc, 1)?, 2u8)?;
-    assert!(rt; seen.get(&root(alloc)?).copied() == Some(1u8));
-    assert!(rt; seen.get(&number(alloc, 1)?).copied() == Some(2u8));
-    assert!(rt; seen.get(&number(alloc, 2)?).copied() == None);
+    Ok(seen)
+}
+
+/// The value of a key among two.
+fn value_of_key(alloc: Global, key: &ExprRef) -> Mem<Option<u8>> {
+    Ok(two_keys(alloc)?.get(key).copied())
+}
+
+#[test]
+fn expressions_are_keys(rt: HostRuntime) -> Result<(), Fail> {
+    let alloc = rt.alloc();
+    assert!(rt; value_of_key(alloc, &root(alloc)?)? == Some(1u8));
+    assert!(rt; value_of_key(alloc, &number(alloc, 1)?)? == Some(2u8));
+    assert!(rt; value_of_key(alloc, &number(alloc, 2)?)? == None);
     Ok(())
+}
+
+/// 2048 rows under `and`.
+fn long_chain(alloc: Global) -> Mem<ExprRef> {
+    let mut chain = root(alloc)?;
+    for _ in 0..2047u32 {
+        chain = and(alloc, chain, root(alloc)?)?;
+    }
+    Ok(chain)
+}
+
+/// Whether a copy of an expression is a key that the expression itself finds.
+fn is_key(alloc: Global, expr: &ExprRef) -> Mem<bool> {
+    let mut seen = HashMap::new(alloc);
+    seen.insert(expr.clone()?, 1u8)?;
+    Ok(seen.get(expr).copied() == Some(1u8))
 }
 
 #[test]
 fn long_filters(rt: HostRuntime) -> Result<(), Fail> {
     let alloc = rt.alloc();
-    let mut chain = root(alloc)?;
-    for _ in 0..2047u32 {
-        chain = and(alloc, chain, root(alloc)?)?;
-    }
+    let chain = long_chain(alloc)?;
     assert!(rt; conjuncts(alloc, &chain)?.len() == 2048);
-    let mut seen = HashMap::new(alloc);
-    seen.insert(chain.clone()?, 1u8)?;
-    assert!(rt; seen.get(&chain).copied() == Some(1u8));
+    assert!(rt; is_key(alloc, &chain)?);
     Ok(())
 }
 
@@ -206,12 +275,16 @@ fn joined(alloc: Global, operator: Operator) -> Mem<ExprRef> {
     }
 }
 
+/// Two rows under an operator, made by hand.
+fn joined_by_hand(alloc: Global, operator: Operator) -> Mem<ExprRef> {
+    BinaryExpr::new(root(alloc)?, operator, root(alloc)?).into_expr(alloc)
+}
+
 #[test]
 fn operators_have_constructors(rt: HostRuntime) -> Result<(), Fail> {
     let alloc = rt.alloc();
     for operator in OPERATORS {
-        let node = BinaryExpr::new(root(alloc)?, operator, root(alloc)?);
-        assert!(rt; joined(alloc, operator)? == node.into_expr(alloc)?);
+        assert!(rt; joined(alloc, operator)? == joined_by_hand(alloc, operator)?);
     }
     Ok(())
 }
@@ -295,6 +368,13 @@ fn without_constructor(alloc: Global, kind: u8) -> Mem<ExprRef> {
     }
 }
 
+/// A node of a struct without values, as an expression.
+fn empty_pack(alloc: Global) -> Result<ExprRef, ExprError> {
+    let names = FieldNames::new(alloc, Vec::new(alloc))?;
+    let node = PackExpr::try_new(names, Vec::new(alloc), Nullability::Nullable)?;
+    Ok(node.into_expr(alloc)?)
+}
+
 #[test]
 fn ample(rt: HostRuntime) -> Result<(), Fail> {
     let alloc = rt.alloc();
@@ -302,9 +382,7 @@ fn ample(rt: HostRuntime) -> Result<(), Fail> {
     for kind in 0..3u8 {
         assert!(rt; without_constructor(alloc, kind)?.id() == ids[usize::from(kind)]);
     }
-    let names = FieldNames::new(alloc, Vec::new(alloc))?;
-    let node = PackExpr::try_new(names, Vec::new(alloc), Nullability::Nullable)?;
-    assert!(rt; node.into_expr(alloc)?.id() == "pack");
+    assert!(rt; empty_pack(alloc)?.id() == "pack");
     assert!(rt; is_root(&root(alloc)?));
     assert!(rt; !is_root(&number(alloc, 1)?));
     Ok(())
