@@ -4,14 +4,15 @@ ghost use Rattle.vx_traversal_cases.specs.Entries.{Writes, before_zero, met_numb
 ghost use Rattle.vx_traversal_cases.specs.Numbers.{number_at};
 
 use crate::numbers::Numbers;
+use crate::samples::{fork, leaf, pair};
 use std::alloc::Global;
 use std::marker::Model;
 use std::test::Fail;
 use vx_dtype::{Mem, NoMemory};
 use vx_traversal::{NodeExt, NodeVisitor, TraversalOrder};
 
-// Writes each number down before and after those below it, and stops at 0. It is seen as the
-// numbers that it holds.
+/// Writes each number down before and after those below it, and stops at 0. It is seen as the
+/// numbers that it holds.
 #[derive(Drop)]
 struct NumberLog {
     numbers: Vec<u64>,
@@ -26,7 +27,7 @@ impl Model for NumberLog {
 }
 
 impl NumberLog {
-    // Writes the number down; stops at 0.
+    /// Writes the number down; stops at 0.
     fn write_down(&mut self, number: u64) -> Mem<TraversalOrder>
         ensures { Writes (number ∷ []) self.old result self.new }
     {
@@ -37,7 +38,7 @@ impl NumberLog {
         Ok(TraversalOrder::Continue)
     }
 
-    // The numbers that it holds.
+    /// The numbers that it holds.
     fn into_numbers(self) -> Vec<u64>
         ensures { result.items ≡ self }
     {
@@ -63,7 +64,7 @@ impl<'a> NodeVisitor<'a> for NumberLog {
     }
 }
 
-// The log that holds no number.
+/// The log that holds no number.
 fn empty_log(alloc: Global) -> NumberLog
     ensures { result ≡ [] }
 {
@@ -72,8 +73,8 @@ fn empty_log(alloc: Global) -> NumberLog
     }
 }
 
-// The numbers that a walk over the tree meets, up to the first 0: each one before and after those
-// below it.
+/// The numbers that a walk over the tree meets, up to the first 0: each one before and after those
+/// below it.
 fn met_before_zero(alloc: Global, tree: &Numbers) -> Mem<Vec<u64>>
     ensures { IfOk result (λ numbers. numbers.items ≡ before_zero (met_numbers tree.now)) }
 {
@@ -82,25 +83,18 @@ fn met_before_zero(alloc: Global, tree: &Numbers) -> Mem<Vec<u64>>
     Ok(log.into_numbers())
 }
 
-// `first(second(4), third)`.
-fn tree_of(alloc: Global, first: u64, second: u64, third: u64) -> Mem<Numbers> {
-    let mut low = Vec::new(alloc);
-    low.push(Numbers::new(alloc, 4, Vec::new(alloc))?)?;
-    let mut below = Vec::new(alloc);
-    below.push(Numbers::new(alloc, second, low)?)?;
-    below.push(Numbers::new(alloc, third, Vec::new(alloc))?)?;
-    Numbers::new(alloc, first, below)
+/// Whether these are the numbers met, up to the first 0, of `first(second(4), third)`.
+fn meets(alloc: Global, first: u64, second: u64, third: u64, numbers: &[u64]) -> Mem<bool> {
+    let tree = fork(alloc, first, pair(alloc, second, 4)?, leaf(alloc, third)?)?;
+    Ok(met_before_zero(alloc, &tree)?.as_slice() == numbers)
 }
 
 #[test]
 fn numbers_are_met_in_order_up_to_zero(rt: HostRuntime) -> Result<(), Fail> {
     let alloc = rt.alloc();
-    let whole = met_before_zero(alloc, &tree_of(alloc, 1, 2, 3)?)?;
-    assert_eq!(rt; whole.as_slice(), [1, 2, 4, 4, 2, 3, 3, 1].as_slice());
-    let up_to_last = met_before_zero(alloc, &tree_of(alloc, 1, 2, 0)?)?;
-    assert_eq!(rt; up_to_last.as_slice(), [1, 2, 4, 4, 2].as_slice());
-    let up_to_second = met_before_zero(alloc, &tree_of(alloc, 1, 0, 3)?)?;
-    assert_eq!(rt; up_to_second.as_slice(), [1].as_slice());
-    assert!(rt; met_before_zero(alloc, &tree_of(alloc, 0, 2, 3)?)?.is_empty());
+    assert!(rt; meets(alloc, 1, 2, 3, &[1, 2, 4, 4, 2, 3, 3, 1])?);
+    assert!(rt; meets(alloc, 1, 2, 0, &[1, 2, 4, 4, 2])?);
+    assert!(rt; meets(alloc, 1, 0, 3, &[1])?);
+    assert!(rt; meets(alloc, 0, 2, 3, &[])?);
     Ok(())
 }

@@ -10,6 +10,8 @@ mod numbers;
 #[cfg(test)]
 mod ones;
 #[cfg(test)]
+mod samples;
+#[cfg(test)]
 mod walks;
 #[cfg(test)]
 mod zeros;

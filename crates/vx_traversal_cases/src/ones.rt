@@ -3,19 +3,20 @@ ghost use Rattle.std.specs.Prelude.{◌≡◌, IfOk};
 ghost use Rattle.vx_traversal_cases.specs.Ones.{HasOnes, one_for_zero};
 
 use crate::numbers::Numbers;
+use crate::samples::pair;
 use std::alloc::Global;
 use std::test::Fail;
-use vx_dtype::{Mem, NoMemory};
+use vx_dtype::NoMemory;
 use vx_traversal::{Node, NodeExt, NodeRewriter, Transformed, TraversalOrder, Walk};
 
-// 1 for 0, else the number itself.
+/// 1 for 0, else the number itself.
 fn one_for_zero(number: u64) -> u64
     ensures { result ≡ one_for_zero number }
 {
     if number == 0 { 1 } else { number }
 }
 
-// Puts 1 in place of 0 on the way down.
+/// Puts 1 in place of 0 on the way down.
 #[derive(Drop)]
 struct OneForZero;
 
@@ -47,7 +48,7 @@ impl NodeRewriter for OneForZero {
     }
 }
 
-// The tree with 1 in place of each 0, changed exactly where it has a 0.
+/// The tree with 1 in place of each 0, changed exactly where it has a 0.
 fn with_ones(alloc: Global, tree: Numbers) -> Walk<Transformed<Numbers>, NoMemory>
     ensures { IfOk result (HasOnes tree) }
 {
@@ -55,30 +56,35 @@ fn with_ones(alloc: Global, tree: Numbers) -> Walk<Transformed<Numbers>, NoMemor
     tree.rewrite(alloc, &mut rewriter)
 }
 
-// `above(below)`.
-fn pair(alloc: Global, above: u64, below: u64) -> Mem<Numbers> {
-    let mut list = Vec::new(alloc);
-    list.push(Numbers::new(alloc, below, Vec::new(alloc))?)?;
-    Numbers::new(alloc, above, list)
+/// Whether a tree is `above(below)`.
+fn is_pair(tree: &Numbers, above: u64, below: u64) -> bool {
+    if tree.children_count() != 1 {
+        return false;
+    }
+    tree.value() == above && tree.node_child(0).value() == below
+}
+
+/// Whether a pair becomes this pair of numbers, `changed` or not, with the order Continue.
+fn pair_becomes(
+    alloc: Global,
+    given: (u64, u64),
+    wanted: (u64, u64),
+    changed: bool,
+) -> Walk<bool, NoMemory> {
+    let made = with_ones(alloc, pair(alloc, given.0, given.1)?)?;
+    let goes_on = made.order == TraversalOrder::Continue;
+    Ok(is_pair(&made.value, wanted.0, wanted.1) && made.changed == changed && goes_on)
 }
 
 #[test]
 fn zeros_become_ones(rt: HostRuntime) -> Result<(), Fail> {
-    let alloc = rt.alloc();
-    for (above, below, new_above, new_below, changed) in [
-        (2, 3, 2, 3, false),
-        (2, 0, 2, 1, true),
-        (0, 3, 1, 3, true),
-        (0, 0, 1, 1, true),
+    for (given, wanted, changed) in [
+        ((2, 3), (2, 3), false),
+        ((2, 0), (2, 1), true),
+        ((0, 3), (1, 3), true),
+        ((0, 0), (1, 1), true),
     ] {
-        let made = with_ones(alloc, pair(alloc, above, below)?)?;
-        assert_eq!(rt; made.value.value(), new_above);
-        assert_eq!(rt; made.value.children_count(), 1);
-        for i in 0..made.value.children_count() {
-            assert_eq!(rt; made.value.node_child(i).value(), new_below);
-        }
-        assert_eq!(rt; made.changed, changed);
-        assert!(rt; made.order == TraversalOrder::Continue);
+        assert!(rt; pair_becomes(rt.alloc(), given, wanted, changed)?);
     }
     Ok(())
 }

@@ -4,6 +4,7 @@ ghost use Rattle.vx_traversal_cases.specs.Numbers.{number_height};
 ghost use Rattle.vx_traversal.specs.Rewrites.{IsNoHigher};
 
 use crate::numbers::Numbers;
+use crate::samples::{fork, leaf, pair};
 use std::alloc::Global;
 use std::rc::Rc;
 use std::test::Fail;
@@ -14,21 +15,17 @@ use vx_traversal::{
     pre_order_visit_down, pre_order_visit_up,
 };
 
-fn leaf(alloc: Global, value: u64) -> Mem<Numbers> {
-    Numbers::new(alloc, value, Vec::new(alloc))
+/// `1(2(low), 3)`.
+fn branch(alloc: Global, low: u64) -> Mem<Numbers> {
+    fork(alloc, 1, pair(alloc, 2, low)?, leaf(alloc, 3)?)
 }
 
-// `1(2(4), 3)`.
+/// `1(2(4), 3)`.
 fn grove(alloc: Global) -> Mem<Numbers> {
-    let mut low = Vec::new(alloc);
-    low.push(leaf(alloc, 4)?)?;
-    let mut below = Vec::new(alloc);
-    below.push(Numbers::new(alloc, 2, low)?)?;
-    below.push(leaf(alloc, 3)?)?;
-    Numbers::new(alloc, 1, below)
+    branch(alloc, 4)
 }
 
-// Writes each number down, and a hundred more on the way up; stops and skips at given numbers.
+/// Writes each number down, and a hundred more on the way up; stops and skips at given numbers.
 #[derive(Drop)]
 struct Recorder {
     seen: Vec<u64>,
@@ -37,6 +34,7 @@ struct Recorder {
 }
 
 impl Recorder {
+    /// The order after this number.
     fn order(&self, value: u64) -> TraversalOrder {
         if value == self.stops {
             TraversalOrder::Stop
@@ -68,7 +66,7 @@ impl<'a> NodeVisitor<'a> for Recorder {
     }
 }
 
-// The order of a visit of `1(2(4), 3)` and what was seen.
+/// The order of a visit of `1(2(4), 3)` and what was seen.
 fn visited(alloc: Global, stops: u64, skips: u64) -> Mem<(TraversalOrder, Vec<u64>)> {
     let mut recorder = Recorder {
         seen: Vec::new(alloc),
@@ -79,24 +77,29 @@ fn visited(alloc: Global, stops: u64, skips: u64) -> Mem<(TraversalOrder, Vec<u6
     Ok((order, recorder.seen))
 }
 
+/// Whether a visit of `1(2(4), 3)` ends with this order after it saw these numbers.
+fn visit_sees(
+    alloc: Global,
+    stops: u64,
+    skips: u64,
+    order: TraversalOrder,
+    numbers: &[u64],
+) -> Mem<bool> {
+    let (ended, seen) = visited(alloc, stops, skips)?;
+    Ok(ended == order && seen.as_slice() == numbers)
+}
+
 #[test]
 fn visits(rt: HostRuntime) -> Result<(), Fail> {
-    let (order, seen) = visited(rt.alloc(), 0, 0)?;
-    assert_eq!(rt;
-        seen.as_slice(),
-        [1, 2, 4, 104, 102, 3, 103, 101].as_slice()
-    );
-    assert!(rt; order == TraversalOrder::Continue);
-    let (order, seen) = visited(rt.alloc(), 0, 2)?;
-    assert_eq!(rt; seen.as_slice(), [1, 2, 102, 3, 103, 101].as_slice());
-    assert!(rt; order == TraversalOrder::Continue);
-    let (order, seen) = visited(rt.alloc(), 2, 0)?;
-    assert_eq!(rt; seen.as_slice(), [1, 2].as_slice());
-    assert!(rt; order == TraversalOrder::Stop);
+    let alloc = rt.alloc();
+    let (goes_on, stop) = (TraversalOrder::Continue, TraversalOrder::Stop);
+    assert!(rt; visit_sees(alloc, 0, 0, goes_on, &[1, 2, 4, 104, 102, 3, 103, 101])?);
+    assert!(rt; visit_sees(alloc, 0, 2, goes_on, &[1, 2, 102, 3, 103, 101])?);
+    assert!(rt; visit_sees(alloc, 2, 0, stop, &[1, 2])?);
     Ok(())
 }
 
-// Down stops, unchanged, at 2; up answers 9, changed.
+/// Down stops, unchanged, at 2; up counts, and answers the number as it is, changed.
 #[derive(Drop)]
 struct StopsBelow {
     ups: u64,
@@ -130,18 +133,21 @@ impl NodeRewriter for StopsBelow {
     }
 }
 
+/// Whether a stop on the way down leaves `1(2(4), 3)` as it is, and nothing goes up.
+fn stop_keeps_grove(alloc: Global) -> Walk<bool, NoMemory> {
+    let mut rewriter = StopsBelow { ups: 0 };
+    let made = grove(alloc)?.rewrite(alloc, &mut rewriter)?;
+    let stopped = made.order == TraversalOrder::Stop && !made.changed;
+    Ok(stopped && rewriter.ups == 0 && made.value.children_count() == 2)
+}
+
 #[test]
 fn a_stop_keeps_the_tree_and_its_order(rt: HostRuntime) -> Result<(), Fail> {
-    let mut rewriter = StopsBelow { ups: 0 };
-    let rewritten = grove(rt.alloc())?.rewrite(rt.alloc(), &mut rewriter)?;
-    assert!(rt; rewritten.order == TraversalOrder::Stop);
-    assert!(rt; !rewritten.changed);
-    assert_eq!(rt; rewriter.ups, 0);
-    assert_eq!(rt; rewritten.value.children_count(), 2);
+    assert!(rt; stop_keeps_grove(rt.alloc())?);
     Ok(())
 }
 
-// The sum of all numbers; Stop with 5 at the number 5, and Skip with 0 at the number 9.
+/// The sum of all numbers; Stop with 5 at the number 5, and Skip with 0 at the number 9.
 #[derive(Drop)]
 struct Sum;
 
@@ -175,28 +181,28 @@ impl NodeFolder for Sum {
     }
 }
 
-// `0(0(1, second), 3)`.
+/// `0(0(1, second), 3)`.
 fn sums(alloc: Global, second: u64) -> Mem<Numbers> {
-    let mut low = Vec::new(alloc);
-    low.push(leaf(alloc, 1)?)?;
-    low.push(leaf(alloc, second)?)?;
-    let mut below = Vec::new(alloc);
-    below.push(Numbers::new(alloc, 0, low)?)?;
-    below.push(leaf(alloc, 3)?)?;
-    Numbers::new(alloc, 0, below)
+    let left = fork(alloc, 0, leaf(alloc, 1)?, leaf(alloc, second)?)?;
+    fork(alloc, 0, left, leaf(alloc, 3)?)
+}
+
+/// The sum of `0(0(1, second), 3)`, by a fold.
+fn folded_sum(alloc: Global, second: u64) -> Walk<u64, NoMemory> {
+    Ok(sums(alloc, second)?.fold(alloc, &mut Sum)?.value())
 }
 
 #[test]
 fn folds(rt: HostRuntime) -> Result<(), Fail> {
     for (second, sum) in [(2, 6), (5, 5), (9, 4)] {
-        let folded = sums(rt.alloc(), second)?.fold(rt.alloc(), &mut Sum)?;
-        assert_eq!(rt; folded.value(), sum);
+        assert_eq!(rt; folded_sum(rt.alloc(), second)?, sum);
     }
     Ok(())
 }
 
-// Each context holds the numbers from the top on as digits. A number without others below it has
-// the context that it is handed as its result, and another the sum of what is below it; Stop at 5.
+/// Each context holds the numbers from the top on as digits. A number without others below it has
+/// the context that it is handed as its result, and another the sum of what is below it. The fold
+/// stops at 5.
 #[derive(Drop)]
 struct Trail;
 
@@ -243,26 +249,24 @@ impl NodeFolderContext for Trail {
     }
 }
 
-// `1(2(low), 3)`.
-fn branch(alloc: Global, low: u64) -> Mem<Numbers> {
-    let mut lowest = Vec::new(alloc);
-    lowest.push(leaf(alloc, low)?)?;
-    let mut below = Vec::new(alloc);
-    below.push(Numbers::new(alloc, 2, lowest)?)?;
-    below.push(leaf(alloc, 3)?)?;
-    Numbers::new(alloc, 1, below)
+/// The sum of the contexts at the lowest numbers of `1(2(low), 3)`, by a fold.
+fn trail_sum(alloc: Global, low: u64) -> Walk<u64, NoMemory> {
+    Ok(
+        branch(alloc, low)?
+            .fold_context(alloc, &0, &mut Trail)?
+            .value(),
+    )
 }
 
 #[test]
 fn a_child_gets_the_context_of_its_parent(rt: HostRuntime) -> Result<(), Fail> {
     for (low, sum) in [(4, 13), (5, 12)] {
-        let folded = branch(rt.alloc(), low)?.fold_context(rt.alloc(), &0, &mut Trail)?;
-        assert_eq!(rt; folded.value(), sum);
+        assert_eq!(rt; trail_sum(rt.alloc(), low)?, sum);
     }
     Ok(())
 }
 
-// A marked copy, with Stop at 3.
+/// A marked copy, with Stop at 3.
 fn mark(node: Numbers) -> Walk<Transformed<Numbers>, NoMemory>
     ensures { IsNoHigher number_height node result }
 {
@@ -278,30 +282,52 @@ fn mark(node: Numbers) -> Walk<Transformed<Numbers>, NoMemory>
     })
 }
 
-#[test]
-fn containers(rt: HostRuntime) -> Result<(), Fail> {
-    let alloc = rt.alloc();
-    let mut second = Vec::new(alloc);
-    second.push(leaf(alloc, 3)?)?;
-    second.push(leaf(alloc, 4)?)?;
-    let mut first = Vec::new(alloc);
-    first.push(leaf(alloc, 1)?)?;
-    let pair = Box::new(alloc, (first, second))?;
+/// The numbers, each alone.
+fn leaves(alloc: Global, numbers: &[u64]) -> Mem<Vec<Numbers>> {
+    let mut made = Vec::new(alloc);
+    for number in numbers {
+        made.push(leaf(alloc, *number)?)?;
+    }
+    Ok(made)
+}
+
+/// The pair of the list of one number and the list of the others.
+fn lists(alloc: Global, first: u64, others: &[u64]) -> Mem<(Vec<Numbers>, Vec<Numbers>)> {
+    Ok((leaves(alloc, &[first])?, leaves(alloc, others)?))
+}
+
+/// The lists of 1 and of 3 and 4, in a box.
+fn boxed_lists(alloc: Global) -> Mem<Box<(Vec<Numbers>, Vec<Numbers>)>> {
+    Ok(Box::new(alloc, lists(alloc, 1, &[3, 4])?)?)
+}
+
+/// Whether a box hands over the numbers of its lists, and answers the order of the last.
+fn boxed_lists_are_visited(alloc: Global) -> Mem<bool> {
+    let boxed = boxed_lists(alloc)?;
     let mut seen = Vec::new(alloc);
-    let order = pair.apply_elements(|node: &Numbers| -> Mem<TraversalOrder> {
+    let order = boxed.apply_elements(|node: &Numbers| -> Mem<TraversalOrder> {
         seen.push(node.value())?;
         Ok(TraversalOrder::Skip)
     })?;
-    assert!(rt; order == TraversalOrder::Skip);
-    assert_eq!(rt; seen.as_slice(), [1, 3, 4].as_slice());
-    let mapped = pair.map_elements(alloc, mark)?;
-    assert!(rt; mapped.order == TraversalOrder::Stop);
-    assert!(rt; mapped.changed);
-    assert_eq!(rt; mapped.value.0.len(), 1);
+    Ok(order == TraversalOrder::Skip && seen.as_slice() == [1, 3, 4].as_slice())
+}
+
+/// Whether lists in a box are marked up to the Stop, and keep their lengths.
+fn boxed_lists_are_mapped(alloc: Global) -> Walk<bool, NoMemory> {
+    let mapped = boxed_lists(alloc)?.map_elements(alloc, mark)?;
+    let stopped = mapped.order == TraversalOrder::Stop && mapped.changed;
+    Ok(stopped && mapped.value.0.len() == 1)
+}
+
+#[test]
+fn containers(rt: HostRuntime) -> Result<(), Fail> {
+    let alloc = rt.alloc();
+    assert!(rt; boxed_lists_are_visited(alloc)?);
+    assert!(rt; boxed_lists_are_mapped(alloc)?);
     Ok(())
 }
 
-// The number raised by ten, with Stop at 3 and Skip at 2.
+/// The number raised by ten, with Stop at 3 and Skip at 2.
 fn raise(node: Numbers) -> Walk<Transformed<Numbers>, NoMemory> {
     let value = node.value();
     let order = match value {
@@ -316,7 +342,7 @@ fn raise(node: Numbers) -> Walk<Transformed<Numbers>, NoMemory> {
     })
 }
 
-// The number as it is, with Stop at 3.
+/// The number as it is, with Stop at 3.
 fn keep(node: Numbers) -> Walk<Transformed<Numbers>, NoMemory> {
     let order = if node.value() == 3 {
         TraversalOrder::Stop
@@ -330,18 +356,7 @@ fn keep(node: Numbers) -> Walk<Transformed<Numbers>, NoMemory> {
     })
 }
 
-// The pair of the list of one number and the list of the others.
-fn lists(alloc: Global, first: u64, others: &[u64]) -> Mem<(Vec<Numbers>, Vec<Numbers>)> {
-    let mut left = Vec::new(alloc);
-    left.push(leaf(alloc, first)?)?;
-    let mut right = Vec::new(alloc);
-    for other in others {
-        right.push(leaf(alloc, *other)?)?;
-    }
-    Ok((left, right))
-}
-
-// The numbers that a container hands over.
+/// The numbers that a container hands over.
 fn handed(alloc: Global, numbers: &(Vec<Numbers>, Vec<Numbers>)) -> Mem<Vec<u64>> {
     let mut seen = Vec::new(alloc);
     numbers.apply_elements(|node: &Numbers| -> Mem<TraversalOrder> {
@@ -351,64 +366,117 @@ fn handed(alloc: Global, numbers: &(Vec<Numbers>, Vec<Numbers>)) -> Mem<Vec<u64>
     Ok(seen)
 }
 
+/// Whether lists are raised to these numbers, with this order after them.
+fn raised_lists_are(
+    alloc: Global,
+    first: u64,
+    others: &[u64],
+    raised: &[u64],
+    order: TraversalOrder,
+) -> Walk<bool, NoMemory> {
+    let mapped = lists(alloc, first, others)?.map_elements(alloc, raise)?;
+    let numbers = handed(alloc, &mapped.value)?;
+    Ok(numbers.as_slice() == raised && mapped.order == order)
+}
+
+/// Whether children that are kept up to the Stop leave their parent unchanged.
+fn kept_children_change_nothing(alloc: Global) -> Walk<bool, NoMemory> {
+    let kept = grove(alloc)?.map_children(alloc, keep)?;
+    Ok(kept.order == TraversalOrder::Stop && !kept.changed)
+}
+
 #[test]
 fn mapped_elements_keep_their_order(rt: HostRuntime) -> Result<(), Fail> {
     let alloc = rt.alloc();
-    let stopped = lists(alloc, 1, &[3, 4])?.map_elements(alloc, raise)?;
-    assert_eq!(rt;
-        handed(alloc, &stopped.value)?.as_slice(),
-        [11, 13, 4].as_slice()
-    );
-    assert!(rt; stopped.order == TraversalOrder::Stop);
-    let nothing_after = lists(alloc, 2, &[])?.map_elements(alloc, raise)?;
-    assert_eq!(rt;
-        handed(alloc, &nothing_after.value)?.as_slice(),
-        [12].as_slice()
-    );
-    assert!(rt; nothing_after.order == TraversalOrder::Skip);
-    let kept = grove(alloc)?.map_children(alloc, keep)?;
-    assert!(rt; kept.order == TraversalOrder::Stop);
-    assert!(rt; !kept.changed);
+    let (stop, skip) = (TraversalOrder::Stop, TraversalOrder::Skip);
+    assert!(rt; raised_lists_are(alloc, 1, &[3, 4], &[11, 13, 4], stop)?);
+    assert!(rt; raised_lists_are(alloc, 2, &[], &[12], skip)?);
+    assert!(rt; kept_children_change_nothing(alloc)?);
     Ok(())
+}
+
+/// The lists of 7 and of nothing, and those of 8 and of 9, shared.
+fn shared_lists(alloc: Global) -> Mem<Rc<Vec<(Vec<Numbers>, Vec<Numbers>)>>> {
+    let both = vec![in alloc; lists(alloc, 7, &[])?, lists(alloc, 8, &[9])?]?;
+    Ok(Rc::new(alloc, both)?)
+}
+
+/// Whether shared lists keep their lengths where they are mapped, and a clone keeps its own.
+fn shared_lists_keep_their_shape(alloc: Global) -> Walk<bool, NoMemory> {
+    let shared = shared_lists(alloc)?;
+    let kept = shared.clone()?;
+    let mapped = shared.map_elements(alloc, raise)?;
+    let lengths = |held: &(Vec<Numbers>, Vec<Numbers>)| (held.0.len(), held.1.len());
+    let as_long = mapped.value.iter().map(lengths).eq([(1, 0), (1, 1)]);
+    Ok(as_long && mapped.changed && kept.len() == 2)
 }
 
 #[test]
 fn shared_containers_keep_their_shape(rt: HostRuntime) -> Result<(), Fail> {
-    let alloc = rt.alloc();
-    let mut both = Vec::new(alloc);
-    both.push(lists(alloc, 7, &[])?)?;
-    both.push(lists(alloc, 8, &[9])?)?;
-    let shared = Rc::new(alloc, both)?;
-    let kept = shared.clone()?;
-    let mapped = shared.map_elements(alloc, raise)?;
-    let lengths = |held: &(Vec<Numbers>, Vec<Numbers>)| (held.0.len(), held.1.len());
-    assert!(rt; mapped.value.iter().map(lengths).eq([(1, 0), (1, 1)]));
-    assert!(rt; mapped.changed);
-    assert_eq!(rt; kept.len(), 2);
+    assert!(rt; shared_lists_keep_their_shape(rt.alloc())?);
     Ok(())
+}
+
+/// The order Stop.
+fn stop() -> Mem<TraversalOrder> {
+    Ok(TraversalOrder::Stop)
+}
+
+/// What a value that a rewrite made gives where it is mapped and copied.
+fn mapped_value() -> Mem<u64> {
+    let next = Transformed::yes(6u64).map(|value| value.wrapping_add(1));
+    Ok(next.clone()?.into_inner())
+}
+
+/// Whether a rewrite that stops changes `1(2(4), 3)`.
+fn rewrite_changes(alloc: Global) -> Walk<bool, NoMemory> {
+    let mut rewriter = StopsBelow { ups: 0 };
+    Ok(grove(alloc)?.rewrite(alloc, &mut rewriter)?.changed)
+}
+
+/// The number of a node that is made again without children.
+fn value_with_no_children(alloc: Global) -> Mem<u64> {
+    let bare = Numbers::new(alloc, 5, Vec::new(alloc))?;
+    Ok(bare.with_node_children(alloc, Vec::new(alloc))?.value())
+}
+
+/// How many children `1(2(4), 3)` hands over.
+fn children_of_grove(alloc: Global) -> Mem<usize> {
+    grove(alloc)?.iter_children(alloc, |list| list.len())
+}
+
+/// The order after the children of `1(2(4), 3)` are marked.
+fn order_after_marks(alloc: Global) -> Walk<TraversalOrder, NoMemory> {
+    Ok(grove(alloc)?.map_children(alloc, mark)?.order)
+}
+
+/// Whether marks on the way up change `1(2(4), 3)`.
+fn transform_up_changes(alloc: Global) -> Walk<bool, NoMemory> {
+    Ok(grove(alloc)?.transform_up(alloc, mark)?.changed)
+}
+
+/// Whether marks on the way down change `1(2(4), 3)`.
+fn transform_down_changes(alloc: Global) -> Walk<bool, NoMemory> {
+    Ok(grove(alloc)?.transform_down(alloc, mark)?.changed)
 }
 
 #[test]
 fn ample(rt: HostRuntime) -> Result<(), Fail> {
     let alloc = rt.alloc();
-    let again = || -> Mem<TraversalOrder> { Ok(TraversalOrder::Stop) };
-    assert!(rt; TraversalOrder::Skip.visit_children(again)? == TraversalOrder::Continue);
-    assert!(rt; TraversalOrder::Skip.visit_parent(again)? == TraversalOrder::Skip);
-    let next = Transformed::yes(6u64).map(|value| value.wrapping_add(1));
-    assert_eq!(rt; next.clone()?.into_inner(), 7);
-    assert_eq!(rt; sums(alloc, 2)?.fold(alloc, &mut Sum)?.value(), 6);
-    let mut rewriter = StopsBelow { ups: 0 };
-    assert!(rt; !grove(alloc)?.rewrite(alloc, &mut rewriter)?.changed);
-    let bare = Numbers::new(alloc, 5, Vec::new(alloc))?;
-    assert_eq!(rt; bare.with_node_children(alloc, Vec::new(alloc))?.value(), 5);
-    assert_eq!(rt; grove(alloc)?.iter_children(alloc, |list| list.len())?, 2);
-    assert!(rt; grove(alloc)?.map_children(alloc, mark)?.order == TraversalOrder::Stop);
-    assert!(rt; grove(alloc)?.transform_up(alloc, mark)?.changed);
-    assert!(rt; grove(alloc)?.transform_down(alloc, mark)?.changed);
+    assert!(rt; TraversalOrder::Skip.visit_children(stop)? == TraversalOrder::Continue);
+    assert!(rt; TraversalOrder::Skip.visit_parent(stop)? == TraversalOrder::Skip);
+    assert_eq!(rt; mapped_value()?, 7);
+    assert_eq!(rt; folded_sum(alloc, 2)?, 6);
+    assert!(rt; !rewrite_changes(alloc)?);
+    assert_eq!(rt; value_with_no_children(alloc)?, 5);
+    assert_eq!(rt; children_of_grove(alloc)?, 2);
+    assert!(rt; order_after_marks(alloc)? == TraversalOrder::Stop);
+    assert!(rt; transform_up_changes(alloc)?);
+    assert!(rt; transform_down_changes(alloc)?);
     Ok(())
 }
 
-// The order after a node: Skip at 2.
+/// The order after a node: Skip at 2.
 fn after(node: &Numbers) -> Mem<TraversalOrder> {
     if node.value() == 2 {
         Ok(TraversalOrder::Skip)
@@ -417,9 +485,8 @@ fn after(node: &Numbers) -> Mem<TraversalOrder> {
     }
 }
 
-#[test]
-fn closures(rt: HostRuntime) -> Result<(), Fail> {
-    let alloc = rt.alloc();
+/// Whether a visit on the way up ends with the closure's error at 2.
+fn error_ends_visit_up(alloc: Global) -> Mem<bool> {
     let tree = grove(alloc)?;
     let no_two = |node: &Numbers| {
         if node.value() == 2 {
@@ -427,21 +494,50 @@ fn closures(rt: HostRuntime) -> Result<(), Fail> {
         }
         Ok(TraversalOrder::Continue)
     };
-    assert!(rt; pre_order_visit_up(&tree, no_two) == Err(2));
+    Ok(pre_order_visit_up(&tree, no_two) == Err(2))
+}
+
+/// The numbers of `1(2(4), 3)` that a visit on the way down meets, with Skip at 2.
+fn seen_down(alloc: Global) -> Mem<Vec<u64>> {
+    let tree = grove(alloc)?;
     let mut seen = Vec::new(alloc);
     pre_order_visit_down(&tree, |node: &Numbers| -> Mem<TraversalOrder> {
         seen.push(node.value())?;
         after(node)
     })?;
+    Ok(seen)
+}
+
+/// The numbers of `1(2(4), 3)` that a visit on the way up meets.
+fn seen_up(alloc: Global) -> Mem<Vec<u64>> {
+    let tree = grove(alloc)?;
+    let mut seen = Vec::new(alloc);
     pre_order_visit_up(&tree, |node: &Numbers| -> Mem<TraversalOrder> {
         seen.push(node.value())?;
         Ok(TraversalOrder::Continue)
     })?;
-    assert_eq!(rt; seen.as_slice(), [1, 2, 3, 4, 2, 3, 1].as_slice());
-    assert!(rt; tree.apply_children(after)? == TraversalOrder::Continue);
+    Ok(seen)
+}
+
+/// The order after the children of `1(2(4), 3)`, with Skip at 2.
+fn order_after_children(alloc: Global) -> Mem<TraversalOrder> {
+    grove(alloc)?.apply_children(after)
+}
+
+/// The order after a list of 2 alone, with Skip at 2.
+fn order_after_list(alloc: Global) -> Mem<TraversalOrder> {
     let two = leaf(alloc, 2)?;
-    let mut list = Vec::new(alloc);
-    list.push(&two)?;
-    assert!(rt; list.apply_ref_elements(after)? == TraversalOrder::Skip);
+    let list = vec![in alloc; &two]?;
+    list.apply_ref_elements(after)
+}
+
+#[test]
+fn closures(rt: HostRuntime) -> Result<(), Fail> {
+    let alloc = rt.alloc();
+    assert!(rt; error_ends_visit_up(alloc)?);
+    assert_eq!(rt; seen_down(alloc)?.as_slice(), [1, 2, 3].as_slice());
+    assert_eq!(rt; seen_up(alloc)?.as_slice(), [4, 2, 3, 1].as_slice());
+    assert!(rt; order_after_children(alloc)? == TraversalOrder::Continue);
+    assert!(rt; order_after_list(alloc)? == TraversalOrder::Skip);
     Ok(())
 }

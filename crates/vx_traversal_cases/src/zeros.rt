@@ -4,19 +4,20 @@ ghost use Rattle.std.specs.List.{list_any};
 ghost use Rattle.vx_traversal_cases.specs.Zeros.{holds_zero};
 
 use crate::numbers::Numbers;
+use crate::samples::pair;
 use std::alloc::Global;
 use std::test::Fail;
-use vx_dtype::{Mem, NoMemory};
+use vx_dtype::NoMemory;
 use vx_traversal::{FoldDown, FoldUp, NodeExt, NodeFolder, Walk};
 
-// Whether one of these is true.
+/// Whether one of these is true.
 fn one_holds(below: &[bool]) -> bool
     ensures { result ≡ list_any (λ held. held) below.now }
 {
     below.iter().any(|held| *held)
 }
 
-// Whether a number of the tree is 0.
+/// Whether a number of the tree is 0.
 #[derive(Drop)]
 struct ZeroFinder;
 
@@ -49,7 +50,7 @@ impl NodeFolder for ZeroFinder {
     }
 }
 
-// Whether a number of the tree is 0.
+/// Whether a number of the tree is 0.
 fn holds_zero(alloc: Global, tree: Numbers) -> Walk<bool, NoMemory>
     ensures { IfOk result (λ held. held ≡ holds_zero tree) }
 {
@@ -58,17 +59,15 @@ fn holds_zero(alloc: Global, tree: Numbers) -> Walk<bool, NoMemory>
     Ok(folded.value())
 }
 
-// The number `above` with the one number `below` it.
-fn pair(alloc: Global, above: u64, below: u64) -> Mem<Numbers> {
-    let mut list = Vec::new(alloc);
-    list.push(Numbers::new(alloc, below, Vec::new(alloc))?)?;
-    Numbers::new(alloc, above, list)
+/// Whether a number of `above(below)` is 0.
+fn pair_holds_zero(alloc: Global, above: u64, below: u64) -> Walk<bool, NoMemory> {
+    holds_zero(alloc, pair(alloc, above, below)?)
 }
 
 #[test]
 fn a_zero_is_found(rt: HostRuntime) -> Result<(), Fail> {
-    assert!(rt; !holds_zero(rt.alloc(), pair(rt.alloc(), 1, 2)?)?);
-    assert!(rt; holds_zero(rt.alloc(), pair(rt.alloc(), 0, 2)?)?);
-    assert!(rt; holds_zero(rt.alloc(), pair(rt.alloc(), 1, 0)?)?);
+    assert!(rt; !pair_holds_zero(rt.alloc(), 1, 2)?);
+    assert!(rt; pair_holds_zero(rt.alloc(), 0, 2)?);
+    assert!(rt; pair_holds_zero(rt.alloc(), 1, 0)?);
     Ok(())
 }
