@@ -1,27 +1,29 @@
 //! Structs and nulls that come in as values, and columns of one value that are masked: they have the same rows as columns that are made of columns.
 
+ghost use Rattle.std.specs.Prelude.{◌≡◌, length, IfOk};
+
 use crate::appended::{Before, appends_to};
 use crate::calls::{Call, PairCall, gives, pair_gives};
 use crate::columns::{Made, only, typed};
 use crate::masked::{are_different, are_same, masks};
 use crate::rows::{Rows, numbers, truths};
 use crate::samples::{Sample, field_has, projects};
-use crate::structs::{Pair, field_names, pair, pair_type};
+use crate::structs::{Pair, pair, pair_type, two_names};
 use std::alloc::Global;
 use std::rc::Rc;
 use vx_dtype::{DType, Mem, Nullability, PType, ScalarValue, StructFields};
 
 /// The types of the fields of nested structs: a struct and a number.
-fn nested_dtypes(alloc: Global) -> Mem<Vec<DType>> {
-    let mut dtypes = Vec::new(alloc);
-    dtypes.push(pair_type(alloc, "a", "b", Nullability::Nullable)?)?;
-    dtypes.push(DType::Primitive(PType::I8, Nullability::Nullable))?;
-    Ok(dtypes)
+fn nested_dtypes(alloc: Global) -> Mem<Vec<DType>>
+    ensures { IfOk result (λ dtypes. length dtypes.items ≡ 2) }
+{
+    let pair = pair_type(alloc, "a", "b", Nullability::Nullable)?;
+    Ok(vec![in alloc; pair, DType::Primitive(PType::I8, Nullability::Nullable)]?)
 }
 
 /// The type of nested structs.
 fn nested_type(alloc: Global) -> Mem<DType> {
-    let names = field_names(alloc, ["s", "n"].as_slice())?;
+    let names = two_names(alloc, "s", "n")?;
     let fields = StructFields::new(alloc, names, nested_dtypes(alloc)?)?;
     Ok(DType::Struct(fields, Nullability::Nullable))
 }

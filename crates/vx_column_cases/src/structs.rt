@@ -1,12 +1,16 @@
 //! Structs made of columns and of values, and the refusals of structs, projections and values.
 
+ghost use Rattle.std.specs.Prelude.{◌≡◌, length, IfOk};
+
 use crate::columns::{Made, names, numbers_of, one_list, only, texts, typed};
 use crate::rows::{Rows, answers, makes, numbers};
 use crate::samples::{Sample, field_has, projects};
 use std::alloc::Global;
 use std::rc::Rc;
 use vx_column::{ColumnError, ColumnRef};
-use vx_dtype::{DType, FieldNames, Mem, Nullability, PType, ScalarValue, StructFields, Text};
+use vx_dtype::{
+    DType, FieldName, FieldNames, Mem, Nullability, PType, ScalarValue, StructFields, Text,
+};
 
 /// A struct of a number and a text, either of which may be null.
 pub(crate) type Pair<'a> = (Option<i128>, Option<&'a str>);
@@ -46,7 +50,7 @@ pub(crate) fn other_parts(alloc: Global) -> Columns {
 }
 
 /// Names of a struct's fields.
-pub(crate) fn field_names(alloc: Global, texts: &[&str]) -> Mem<FieldNames> {
+fn field_names(alloc: Global, texts: &[&str]) -> Mem<FieldNames> {
     FieldNames::new(alloc, names(alloc, texts)?)
 }
 
@@ -83,19 +87,32 @@ pub(crate) fn made_of(
     masked_by(alloc, names, fields, len, valid)
 }
 
-/// The types of a struct's fields.
-fn pair_dtypes(alloc: Global) -> Mem<Vec<DType>> {
-    let mut dtypes = Vec::new(alloc);
-    dtypes.push(DType::Primitive(PType::I8, Nullability::Nullable))?;
-    dtypes.push(DType::Utf8(Nullability::Nullable))?;
-    Ok(dtypes)
+/// The types of a struct's two fields.
+fn pair_dtypes(alloc: Global) -> Mem<Vec<DType>>
+    ensures { IfOk result (λ dtypes. length dtypes.items ≡ 2) }
+{
+    Ok(vec![in alloc;
+        DType::Primitive(PType::I8, Nullability::Nullable),
+        DType::Utf8(Nullability::Nullable),
+    ]?)
+}
+
+/// Two names of a struct's fields.
+pub(crate) fn two_names(alloc: Global, first: &str, second: &str) -> Mem<FieldNames>
+    ensures { IfOk result (λ names. length names ≡ 2) }
+{
+    let names = vec![in alloc;
+        FieldName::new(alloc, first)?,
+        FieldName::new(alloc, second)?,
+    ]?;
+    FieldNames::new(alloc, names)
 }
 
 /// The struct type with fields of these two names.
 pub(crate) fn pair_type(alloc: Global, first: &str, second: &str, n: Nullability) -> Mem<DType> {
-    let names = field_names(alloc, [first, second].as_slice())?;
-    let dtypes = pair_dtypes(alloc)?;
-    Ok(DType::Struct(StructFields::new(alloc, names, dtypes)?, n))
+    let names = two_names(alloc, first, second)?;
+    let fields = StructFields::new(alloc, names, pair_dtypes(alloc)?)?;
+    Ok(DType::Struct(fields, n))
 }
 
 /// A number, or null.
