@@ -23,10 +23,11 @@ pub(crate) fn time(rt: &HostRuntime, opened: &Opened) -> Result<()> {
     Ok(())
 }
 
-/// Times each call once.
+/// Times each call once. The column calls of the range come before it too, so that it finds its numbers in the processor's cache, as they do.
 fn time_round(rt: &HostRuntime, opened: &Opened, scope: &Scope) -> Result<()> {
     time_evaluation(rt, "sum", &opened.filter, scope)?;
     time_sum(rt, scope.root())?;
+    time_range(rt, scope.root())?;
     time_evaluation(rt, "range", &opened.projection, scope)?;
     time_range(rt, scope.root())?;
     time_item(rt, scope.root())
