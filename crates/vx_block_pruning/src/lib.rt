@@ -2,7 +2,7 @@
 #![tactic(auto)]
 
 mod joined_names;
-mod making;
+mod made_columns;
 mod ruling;
 mod statistics;
 mod tables;

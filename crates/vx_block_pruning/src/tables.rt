@@ -9,7 +9,7 @@ ghost use Rattle.vx_block_pruning.specs.StatisticColumns.{column_of, IsUniform};
 ghost use Rattle.vx_block_pruning.specs.PruningTruths.{pruning_table};
 
 use crate::joined_names::{is_alone, joined_name, standing};
-use crate::making::made;
+use crate::made_columns::made;
 use crate::statistics::column_of;
 use std::alloc::Global;
 use std::collections::HashMap;

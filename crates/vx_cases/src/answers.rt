@@ -16,7 +16,7 @@ use vx_partition::{annotate_scope_access, partition};
 use vx_transform::laws::{find_between, remove_merge, remove_select};
 use vx_transform::{TransformError, replace_root_fields, simplify, simplify_typed};
 use vx_wire::ExprSerializeProtoExt;
-use vx_wire_text::write_tree;
+use vx_wire_bytes::write_tree;
 
 /// The answer to a question of a case.
 pub(crate) fn answer(

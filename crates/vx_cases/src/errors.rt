@@ -7,7 +7,7 @@ use vx_dtype::NoMemory;
 use vx_request::RequestError;
 use vx_scan::{ScanError, TableError};
 use vx_wire::BuildError;
-use vx_wire_text::WireError;
+use vx_wire_bytes::WireError;
 
 /// Why a case can't be tried.
 #[derive(Debug, Drop, Error)]

@@ -7,7 +7,7 @@ use vx_dtype::{DType, FieldName};
 use vx_expr::ExprRef;
 use vx_request::{RequestError, ScanRequest, decode_request};
 use vx_wire::{ExprRegistry, ExprRegistryExt, deserialize_expr_proto};
-use vx_wire_text::read_tree;
+use vx_wire_bytes::read_tree;
 use vx_zones::ZoneMap;
 
 /// A case whose texts were read: the zones, the values that the expressions stand over, and both expressions.

@@ -16,9 +16,9 @@ use std::alloc::AllocError;
 use std::hash::{Hash, Hasher};
 use std::marker::Model;
 
+mod constructors;
 mod conversions;
 pub(crate) mod errors;
-mod making;
 mod order;
 mod printing;
 

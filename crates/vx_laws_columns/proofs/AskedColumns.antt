@@ -15,7 +15,7 @@ use Rattle.vx_laws.proofs.Preserving.{distinct_type-ok}
 use Rattle.vx_laws.proofs.Structs.{item_type-ok}
 use Rattle.vx_laws.proofs.EachNode.{by_children, IsTyped, children-typed, one-flat, two-flat, three-flat, all-then}
 use Rattle.vx_laws_removing.specs.Simplest.{nodes_below, nodes_in, all_nodes, is_simple}
-use Rattle.vx_laws_preserving.proofs.Shown.{is_of_row, is_pack, pack-even, simple-item, never-pack}
+use Rattle.vx_laws_parts.proofs.Shown.{is_of_row, is_pack, pack-even, simple-item, never-pack}
 use Rattle.vx_laws_columns.proofs.Rows.{columns_in, Form, is_row, is_column, is_other, form, columns-by_children, IsRowless, children-rowless, row-not-rowless, column-alone}
 
 -- an expression of simple nodes

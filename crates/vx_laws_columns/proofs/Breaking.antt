@@ -18,11 +18,11 @@ use Rattle.vx_passes.specs.Splitting.{Share, packed_parts, part_names, Partition
 use Rattle.vx_laws.proofs.Inverting.{Ok-same}
 use Rattle.vx_laws.proofs.EachNode.{IsTyped, children-typed, all-map}
 use Rattle.vx_laws.proofs.Preserving.{mean-fits}
-use Rattle.vx_laws_passes.specs.Asking.{breaks_along}
-use Rattle.vx_laws_passes.proofs.Observing.{breaking, breaking-observes, breaking-along, or-comm, or-false}
+use Rattle.vx_laws_simplifying.specs.Asking.{breaks_along}
+use Rattle.vx_laws_simplifying.proofs.Observing.{breaking, breaking-observes, breaking-along, or-comm, or-false}
 use Rattle.vx_laws_removing.proofs.Composed.{simplified_typed-kept}
-use Rattle.vx_laws_preserving.specs.Preserved.{some_node}
-use Rattle.vx_laws_preserving.proofs.Outcomes.{preserved_breaks}
+use Rattle.vx_laws_parts.specs.Preserved.{some_node}
+use Rattle.vx_laws_parts.proofs.Outcomes.{preserved_breaks}
 use Rattle.vx_laws_parts.specs.Taking.{packed_shares}
 use Rattle.vx_laws_parts.specs.Recombining.{partitions_row}
 use Rattle.vx_laws_parts.proofs.SharesHold.{map-twice, SharesHold}

@@ -24,12 +24,12 @@ use Rattle.vx_passes.specs.Splitting.{packed_parts, part_names, Partition, Split
 use Rattle.vx_laws.proofs.Inverting.{and_then-ok, Ok-same, bytes_same, bytes_eq-itself}
 use Rattle.vx_laws.proofs.EachNode.{IsTyped, SlotsFit, all-map}
 use Rattle.vx_laws_removing.proofs.Settled.{simplified_simple}
-use Rattle.vx_laws_passes.specs.Asking.{breaks_along}
-use Rattle.vx_laws_passes.proofs.Observing.{breaking, breaking-observes, or-false, or-twice}
+use Rattle.vx_laws_simplifying.specs.Asking.{breaks_along}
+use Rattle.vx_laws_simplifying.proofs.Observing.{breaking, breaking-observes, or-false, or-twice}
 use Rattle.vx_laws_simplifying.proofs.Passes.{some_row, some_row-fits}
-use Rattle.vx_laws_preserving.specs.Preserved.{Simplifies}
-use Rattle.vx_laws_preserving.proofs.Outcomes.{preserved_rowless, preserved_type, preserved_asked_columns, preserved_meaning}
-use Rattle.vx_laws_preserving.proofs.RootKept.{preserved-kept}
+use Rattle.vx_laws_parts.specs.Preserved.{Simplifies}
+use Rattle.vx_laws_parts.proofs.Outcomes.{preserved_rowless, preserved_type, preserved_asked_columns, preserved_meaning}
+use Rattle.vx_laws_parts.proofs.RootKept.{preserved-kept}
 use Rattle.vx_laws_parts.proofs.SharesHold.{annotations}
 use Rattle.vx_laws_parts.specs.Recombining.{Splits}
 use Rattle.vx_laws_parts.proofs.Recombined.{splits_without_refusal, split_recombines}

@@ -9,7 +9,7 @@ use Rattle.vx_semantics.specs.Nodes.{nodes_of}
 use Rattle.vx_passes.specs.Annotating.{Entry, entry_of}
 use Rattle.vx_passes.specs.Splitting.{Share, with_part, taken_from}
 use Rattle.vx_laws.proofs.EachNode.{by_children, nodes-below, all-then, all-map, each_node}
-use Rattle.vx_laws_preserving.proofs.Shown.{is_of_row}
+use Rattle.vx_laws_parts.proofs.Shown.{is_of_row}
 use Rattle.vx_laws_parts.specs.Taking.{part_or, row_in_parts, row_in_parts_of_all}
 use Rattle.vx_laws_parts.proofs.SharesHold.{shares_after, shares_with, shares-by_children, annotations, annotations-with_part}
 use Rattle.vx_laws_columns.specs.Columns.{ColumnsCoverRowless}

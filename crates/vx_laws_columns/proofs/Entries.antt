@@ -11,7 +11,7 @@ use Rattle.vx_semantics.specs.Nodes.{nodes_of}
 use Rattle.vx_passes.specs.Annotating.{Entry, joined_sets, entry_of, with_annotations, annotated_down, annotated_up, annotated_node, annotated_from, all_annotated_from, annotated, column_annotation}
 use Rattle.vx_laws.proofs.Inverting.{bytes_eq-itself}
 use Rattle.vx_laws.proofs.EachNode.{by_children, nodes-by_children, all-map, all-flat}
-use Rattle.vx_laws_preserving.proofs.Shown.{is_of_row}
+use Rattle.vx_laws_parts.proofs.Shown.{is_of_row}
 use Rattle.vx_laws_columns.proofs.Sets.{joined, set_of, joined-sets, set-twice, one-known}
 use Rattle.vx_laws_columns.proofs.Rows.{columns_in, Form, is_row, is_column, is_other, form, columns-by_children, IsRowless, children-rowless, row-not-rowless, column-alone}
 

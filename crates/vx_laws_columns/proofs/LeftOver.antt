@@ -14,10 +14,10 @@ use Rattle.vx_passes.specs.Annotating.{Entry, entry_of}
 use Rattle.vx_passes.specs.Splitting.{Share, Taken, parts_count, with_part, part_name, taken_from}
 use Rattle.vx_laws.proofs.Inverting.{bytes_same}
 use Rattle.vx_laws.proofs.EachNode.{by_children, nodes-below}
-use Rattle.vx_laws_passes.proofs.Observing.{or-assoc, or-comm, or-false}
+use Rattle.vx_laws_simplifying.proofs.Observing.{or-assoc, or-comm, or-false}
 use Rattle.vx_laws_removing.specs.Simplest.{nodes_below, is_simple}
-use Rattle.vx_laws_preserving.specs.Preserved.{rowless, some_node}
-use Rattle.vx_laws_preserving.proofs.Shown.{is_of_row, is_pack}
+use Rattle.vx_laws_parts.specs.Preserved.{rowless, some_node}
+use Rattle.vx_laws_parts.proofs.Shown.{is_of_row, is_pack}
 use Rattle.vx_laws_parts.proofs.PutBack.{SharesStand, taken-goes}
 use Rattle.vx_laws_parts.proofs.SharesHold.{shares_after, shares_with, shares-by_children}
 use Rattle.vx_laws_columns.proofs.Sets.{set_of}

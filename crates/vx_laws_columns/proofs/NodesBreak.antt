@@ -13,10 +13,10 @@ use Rattle.vx_semantics.specs.Nodes.{nodes_of}
 use Rattle.vx_semantics.specs.Tables.{row_type}
 use Rattle.vx_passes.specs.Splitting.{Partition, partitions_type}
 use Rattle.vx_laws.proofs.EachNode.{by_children, nodes-by_children, IsTyped, all-map}
-use Rattle.vx_laws_passes.specs.Asking.{breaks_along}
+use Rattle.vx_laws_simplifying.specs.Asking.{breaks_along}
 use Rattle.vx_laws_removing.proofs.Settled.{simplified_simple}
-use Rattle.vx_laws_preserving.specs.Preserved.{some_node}
-use Rattle.vx_laws_preserving.proofs.Rowless.{simplified_typed-rowless}
+use Rattle.vx_laws_parts.specs.Preserved.{some_node}
+use Rattle.vx_laws_parts.proofs.Rowless.{simplified_typed-rowless}
 use Rattle.vx_laws_parts.specs.Recombining.{partitions_row}
 use Rattle.vx_laws_columns.specs.Evaluable.{node_breaks_at, NodesBreakAsAsked, NodesStandAlone, PartitionNodesStandAlone}
 use Rattle.vx_laws_columns.proofs.Rows.{IsRowless}

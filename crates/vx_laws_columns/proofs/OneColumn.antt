@@ -12,7 +12,7 @@ use Rattle.vx_semantics.specs.Typing.{names_in}
 use Rattle.vx_passes.specs.Annotating.{Entry, entry_of, with_annotations, annotated_down, annotated_up, annotated_from, column_annotation}
 use Rattle.vx_laws.proofs.Inverting.{bytes_eq-itself}
 use Rattle.vx_laws.proofs.EachNode.{by_children}
-use Rattle.vx_laws_preserving.proofs.Shown.{is_of_row}
+use Rattle.vx_laws_parts.proofs.Shown.{is_of_row}
 use Rattle.vx_laws_parts.specs.Taking.{part_or, row_in_parts}
 use Rattle.vx_laws_columns.specs.Columns.{OneColumnCovers}
 use Rattle.vx_laws_columns.proofs.Sets.{joined, one-known}

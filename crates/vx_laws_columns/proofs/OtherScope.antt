@@ -19,7 +19,7 @@ use Rattle.vx_semantics.specs.Typing.{Refusal, and_then, item_type, select_type,
 use Rattle.vx_semantics.specs.Meaning.{Slots, Source, binary3, dynamic3, select3, slot_value, merged, zip_members, mean, meanings, sources}
 use Rattle.vx_laws.proofs.EachNode.{by_children}
 use Rattle.vx_laws.proofs.Inverting.{bytes_eq-itself}
-use Rattle.vx_laws_preserving.proofs.Shown.{is_of_row}
+use Rattle.vx_laws_parts.proofs.Shown.{is_of_row}
 use Rattle.vx_laws_parts.proofs.PutBack.{Stands, AllStand}
 use Rattle.vx_laws_columns.proofs.Rows.{columns_in, Form, is_row, is_column, is_other, form, columns-by_children, IsRowless, children-rowless, row-not-rowless, column-alone}
 

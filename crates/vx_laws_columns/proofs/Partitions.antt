@@ -21,7 +21,7 @@ use Rattle.vx_laws.proofs.EachNode.{IsTyped, nodes-typed, all-map, all-then, eac
 use Rattle.vx_laws_removing.specs.Simplest.{nodes_below, all_nodes, nodes_in, is_simple}
 use Rattle.vx_laws_removing.proofs.Nodes.{without_select-stays, without_merge-stays, without_packed_fields-stays}
 use Rattle.vx_laws_removing.proofs.Loosened.{strict_types_are_loose}
-use Rattle.vx_laws_preserving.specs.Preserved.{all_rowless, rowless}
+use Rattle.vx_laws_parts.specs.Preserved.{all_rowless, rowless}
 use Rattle.vx_laws_parts.proofs.SharesHold.{SharesHold, shares-hold, taken-hold, annotations, parts_in, parts-few}
 use Rattle.vx_laws_parts.proofs.PartsTyped.{typed-pack, parts-distinct, names-many}
 use Rattle.vx_laws_columns.proofs.Sets.{set_of}

@@ -12,10 +12,10 @@ use Rattle.vx_semantics.specs.Meaning.{Slots, binary3, mean}
 use Rattle.vx_semantics.specs.Breaks.{Cause, by_sum, by_cast, is_fault, cause_where, is_cause, breaks_by}
 use Rattle.vx_passes.specs.Annotating.{Entry, entry_of}
 use Rattle.vx_passes.specs.Splitting.{Share, Taken, parts_count, part_access, part_or_below, over_one, over_two, over_three, over_list, taken_from, all_taken_from}
-use Rattle.vx_laws_passes.proofs.Observing.{or-false}
+use Rattle.vx_laws_simplifying.proofs.Observing.{or-false}
 use Rattle.vx_laws_removing.specs.Simplest.{nodes_below, nodes_in, all_nodes, is_simple}
-use Rattle.vx_laws_preserving.specs.Preserved.{rowless, all_rowless, some_node, some_node_in}
-use Rattle.vx_laws_preserving.proofs.Shown.{is_pack, simple-item}
+use Rattle.vx_laws_parts.specs.Preserved.{rowless, all_rowless, some_node, some_node_in}
+use Rattle.vx_laws_parts.proofs.Shown.{is_pack, simple-item}
 use Rattle.vx_laws_columns.proofs.Rows.{IsRowless}
 use Rattle.vx_laws_columns.proofs.AskedColumns.{IsSimple}
 

@@ -7,11 +7,11 @@ use Rattle.vx_passes.specs.Replacing.{root_replaced}
 use Rattle.vx_passes.specs.TypedSimplifying.{simplified_typed}
 use Rattle.vx_passes.specs.Splitting.{partitions_type}
 use Rattle.vx_laws.proofs.Inverting.{Ok-same}
-use Rattle.vx_laws_passes.proofs.Observing.{breaking, breaking-observes}
+use Rattle.vx_laws_simplifying.proofs.Observing.{breaking, breaking-observes}
 use Rattle.vx_laws_simplifying.proofs.Narrows.{narrow-then, narrow-narrows}
 use Rattle.vx_laws_simplifying.proofs.Passes.{some_row, some_row-fits, no_slots-fit}
 use Rattle.vx_laws_removing.proofs.Composed.{simplified_typed-kept}
-use Rattle.vx_laws_preserving.proofs.RootKept.{preserved-kept}
+use Rattle.vx_laws_parts.proofs.RootKept.{preserved-kept}
 use Rattle.vx_laws_columns.specs.Evaluable.{RootIsTyped}
 use Rattle.vx_laws_columns.proofs.Partitions.{own_name, taken_by_columns}
 use Rattle.vx_laws_columns.proofs.ByColumn.{is-split}

@@ -6,8 +6,8 @@ use Rattle.vx_dtype.specs.Types.{Bytes}
 use Rattle.vx_expr.specs.Children.{is_root_tree}
 use Rattle.vx_expr.specs.Trees.{Tree, root, literal, get_item, binary, not_of, is_null_of, like, between, cast, list_contains, pack, merge, select, dynamic, Trees, no_trees, tree, listed, children_of}
 use Rattle.vx_laws.proofs.EachNode.{one-flat, two-flat, three-flat}
-use Rattle.vx_laws_preserving.specs.Preserved.{rowless, all_rowless}
-use Rattle.vx_laws_preserving.proofs.Shown.{is_of_row}
+use Rattle.vx_laws_parts.specs.Preserved.{rowless, all_rowless}
+use Rattle.vx_laws_parts.proofs.Shown.{is_of_row}
 
 -- a field, where its struct is the row
 abbrev pub own_column : Bytes → Tree → List Bytes

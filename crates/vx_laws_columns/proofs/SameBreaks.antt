@@ -7,10 +7,10 @@ use Rattle.vx_expr.specs.Trees.{Tree, root, get_item, binary, cast, children_of}
 use Rattle.vx_semantics.specs.Meaning.{Slots}
 use Rattle.vx_semantics.specs.Breaks.{Cause, breaks_by}
 use Rattle.vx_laws.proofs.EachNode.{by_children, IsTyped}
-use Rattle.vx_laws_passes.specs.Asking.{breaks_along}
-use Rattle.vx_laws_passes.proofs.Observing.{breaking, breaking-along}
-use Rattle.vx_laws_preserving.specs.Preserved.{some_node}
-use Rattle.vx_laws_preserving.proofs.Shown.{shown, breaking-shows}
+use Rattle.vx_laws_simplifying.specs.Asking.{breaks_along}
+use Rattle.vx_laws_simplifying.proofs.Observing.{breaking, breaking-along}
+use Rattle.vx_laws_parts.specs.Preserved.{some_node}
+use Rattle.vx_laws_parts.proofs.Shown.{shown, breaking-shows}
 use Rattle.vx_laws_columns.proofs.Rows.{columns_in, Form, is_row, is_column, is_other, form, columns-by_children, IsRowless, children-rowless, row-not-rowless}
 use Rattle.vx_laws_columns.proofs.AskedColumns.{IsSimple}
 use Rattle.vx_laws_columns.proofs.OtherScope.{Same, ColumnsSame, columns-apart, moved}

@@ -9,7 +9,7 @@ use Rattle.vx_dtype.specs.TypeRules.{has_name}
 use Rattle.vx_dtype.specs.Structs.{first_names}
 use Rattle.vx_passes.specs.Annotating.{joined_sets}
 use Rattle.vx_laws.proofs.Inverting.{bytes_same, bytes_eq-itself}
-use Rattle.vx_laws_passes.proofs.Observing.{or-assoc, or-false}
+use Rattle.vx_laws_simplifying.proofs.Observing.{or-assoc, or-false}
 
 -- the names of a list with those of another that are not among them
 abbrev pub joined : List Bytes → List Bytes → List Bytes

@@ -17,8 +17,8 @@ use Rattle.vx_semantics.specs.Nodes.{nodes_of}
 use Rattle.vx_semantics.specs.Tables.{row_type}
 use Rattle.vx_passes.specs.Annotating.{annotated, column_annotation}
 use Rattle.vx_passes.specs.Splitting.{Partition, Split, split, partitions_type}
-use Rattle.vx_laws_passes.specs.Asking.{breaks_along}
-use Rattle.vx_laws_preserving.specs.Preserved.{rowless, some_node, Simplifies}
+use Rattle.vx_laws_simplifying.specs.Asking.{breaks_along}
+use Rattle.vx_laws_parts.specs.Preserved.{rowless, some_node, Simplifies}
 use Rattle.vx_laws_parts.specs.Taking.{row_in_parts}
 use Rattle.vx_laws_parts.specs.Recombining.{partitions_row}
 

@@ -5,3 +5,7 @@ pub mod PartsFit
 pub mod SharesHold
 pub mod PartsTyped
 pub mod Recombined
+pub mod RootKept
+pub mod Shown
+pub mod Rowless
+pub mod Outcomes

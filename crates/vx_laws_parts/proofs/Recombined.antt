@@ -15,7 +15,7 @@ use Rattle.vx_passes.specs.Splitting.{Share, Partition, Split, split, partitions
 use Rattle.vx_passes.specs.TypedSimplifying.{simplified_typed}
 use Rattle.vx_laws.proofs.Inverting.{and_then-ok, Ok-same}
 use Rattle.vx_laws.proofs.Preserving.{FitsButFaults, mean-fits}
-use Rattle.vx_laws_passes.proofs.Observing.{breaking, breaking-observes}
+use Rattle.vx_laws_simplifying.proofs.Observing.{breaking, breaking-observes}
 use Rattle.vx_laws_simplifying.specs.Narrowing.{no_more_nullable}
 use Rattle.vx_laws_simplifying.proofs.Narrows.{narrowing, Narrow}
 use Rattle.vx_laws_simplifying.proofs.Under.{UnderList, ended, further, pack-under}

@@ -19,8 +19,8 @@ use Rattle.vx_laws.proofs.Inverting.{bytes_same}
 use Rattle.vx_laws.proofs.Structs.{IsStructOf}
 use Rattle.vx_laws.proofs.Distinct.{struct-distinct, typed-distinct, members_at-own}
 use Rattle.vx_laws.proofs.Paths.{path_in, first_of_path}
-use Rattle.vx_laws_passes.proofs.Observing.{Observes, seen, seen-below}
-use Rattle.vx_laws_passes.proofs.PackedRows.{TypedIn, typed_in-own, zipped-own, as_many}
+use Rattle.vx_laws_simplifying.proofs.Observing.{Observes, seen, seen-below}
+use Rattle.vx_laws_simplifying.proofs.PackedRows.{TypedIn, typed_in-own, zipped-own, as_many}
 use Rattle.vx_laws_simplifying.specs.Narrowing.{no_more_nullable}
 use Rattle.vx_laws_simplifying.proofs.Under.{under-own}
 use Rattle.vx_laws_simplifying.proofs.Narrows.{narrowing}

@@ -32,8 +32,8 @@ use Rattle.vx_laws.proofs.Preserving.{FitsButFaults, mean-fits, sources-fit}
 use Rattle.vx_laws.proofs.Distinct.{field_names-fields_at, field_names-without, field_names-merged}
 use Rattle.vx_laws.proofs.Lookups.{merged_fields-type, merged_members-value, select-chosen}
 use Rattle.vx_laws.proofs.Faultless.{merge_type-ok, names_in-select, type_in-named}
-use Rattle.vx_laws_passes.proofs.Observing.{Observes, seen, seen-below}
-use Rattle.vx_laws_passes.proofs.PackedRows.{widened-NonNullable}
+use Rattle.vx_laws_simplifying.proofs.Observing.{Observes, seen, seen-below}
+use Rattle.vx_laws_simplifying.proofs.PackedRows.{widened-NonNullable}
 use Rattle.vx_laws_simplifying.proofs.Kept.{Kept, kept-own, Made, KeepsNodes, rebuilt-kept}
 use Rattle.vx_laws_simplifying.proofs.Passes.{MakesKept}
 use Rattle.vx_laws_removing.proofs.Loosened.{loosened}

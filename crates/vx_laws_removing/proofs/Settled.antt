@@ -18,9 +18,9 @@ use Rattle.vx_passes.specs.Merging.{without_merge}
 use Rattle.vx_passes.specs.TypedSimplifying.{simplified_typed}
 use Rattle.vx_laws.proofs.Inverting.{and_then-ok, Ok-same}
 use Rattle.vx_laws.proofs.Conjunctions.{conjuncts_of-chain}
-use Rattle.vx_laws_passes.proofs.Observing.{and-assoc, and-comm, and-twice}
-use Rattle.vx_laws_passes.proofs.RangeParts.{Reads, left_read, right_read, Bounds, RangeParts, range_of-parts}
-use Rattle.vx_laws_passes.proofs.Chains.{Measure, alone-ranged}
+use Rattle.vx_laws_simplifying.proofs.Observing.{and-assoc, and-comm, and-twice}
+use Rattle.vx_laws_simplifying.proofs.RangeParts.{Reads, left_read, right_read, Bounds, RangeParts, range_of-parts}
+use Rattle.vx_laws_simplifying.proofs.Chains.{Measure, alone-ranged}
 use Rattle.vx_laws_removing.specs.Simplest.{nodes_below, all_nodes, is_simple, SimplifiedNodesAreSimple, SimplifiedStays}
 use Rattle.vx_laws_removing.proofs.Nodes.{without_select-good, without_merge-good, without_packed_fields-good, without_select-stays, without_merge-stays, without_packed_fields-stays}
 

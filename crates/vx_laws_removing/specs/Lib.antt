@@ -1,2 +1,4 @@
 pub mod LooseTypes
 pub mod Simplest
+pub mod Walking
+pub mod Sizes

@@ -36,7 +36,7 @@ use Rattle.vx_laws.proofs.Distinct.{field_names-merged}
 use Rattle.vx_laws.proofs.Lookups.{merged_fields-type, select-chosen}
 use Rattle.vx_laws.proofs.Faultless.{merge_type-ok, pack_type-ok, names_in-select, type_in-named}
 use Rattle.vx_laws.proofs.Paths.{in_option, path_in, first_of_path, path_in-first, path_in-widened}
-use Rattle.vx_laws_passes.proofs.Observing.{Observes, seen, seen-both, is_still}
+use Rattle.vx_laws_simplifying.proofs.Observing.{Observes, seen, seen-both, is_still}
 use Rattle.vx_laws_simplifying.specs.Narrowing.{no_more_nullable}
 use Rattle.vx_laws_simplifying.proofs.Under.{bools, UnderList, ended, further, Ranked, under-own, null-under, names_in-under, item-under, binary-under, not-under, like-under, between-under, cast-under, contains-under, dynamic-under, select-under, pack-under, merge-under}
 use Rattle.vx_laws_simplifying.proofs.Narrows.{narrowing, Narrow, narrow-then, path_in-narrow, not_nullable}

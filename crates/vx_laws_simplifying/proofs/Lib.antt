@@ -3,3 +3,12 @@ pub mod Narrows
 pub mod Kept
 pub mod Passes
 pub mod PackedFields
+pub mod Changing
+pub mod PackedRows
+pub mod Chains
+pub mod RangeParts
+pub mod Observing
+pub mod RangedMeasures
+pub mod RangedTypes
+pub mod RangedLaws
+pub mod Alike

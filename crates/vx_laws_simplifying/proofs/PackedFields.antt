@@ -21,8 +21,8 @@ use Rattle.vx_passes.specs.Simplifying.{packed_value, known_field, field_of_pack
 use Rattle.vx_laws.proofs.Inverting.{and_then-ok, Ok-same}
 use Rattle.vx_laws.proofs.Structs.{item_type-ok}
 use Rattle.vx_laws.proofs.Faultless.{pack_type-ok}
-use Rattle.vx_laws_passes.proofs.Observing.{Observes, seen, seen-below}
-use Rattle.vx_laws_passes.proofs.RangedLaws.{ranges_typed, ranges_mean, ranges-seen, ranges-fitting}
+use Rattle.vx_laws_simplifying.proofs.Observing.{Observes, seen, seen-below}
+use Rattle.vx_laws_simplifying.proofs.RangedLaws.{ranges_typed, ranges_mean, ranges-seen, ranges-fitting}
 use Rattle.vx_laws_simplifying.specs.Narrowing.{no_more_nullable}
 use Rattle.vx_laws_simplifying.proofs.Under.{bools, ints, texts, lists, structs, under-own, fields-own}
 use Rattle.vx_laws_simplifying.proofs.Narrows.{narrowing, Narrow}

@@ -17,7 +17,7 @@ use Rattle.vx_laws.proofs.Inverting.{Ok-same}
 use Rattle.vx_laws.proofs.Preserving.{FitsButFaults}
 use Rattle.vx_laws.proofs.Structs.{members-fit, struct-fits}
 use Rattle.vx_laws.proofs.Paths.{in_option, path_in}
-use Rattle.vx_laws_passes.proofs.Observing.{Observes, breaking, is_column, breaking-observes, is_column-observes, breaks-kept, columns-kept, asked_columns-kept}
+use Rattle.vx_laws_simplifying.proofs.Observing.{Observes, breaking, is_column, breaking-observes, is_column-observes, breaks-kept, columns-kept, asked_columns-kept}
 use Rattle.vx_laws_simplifying.specs.Keeping.{Pass, has_path, KeepsType, KeepsColumns, KeepsAskedColumns, KeepsSlots, KeepsMeaning, KeepsBreaks}
 use Rattle.vx_laws_simplifying.proofs.Narrows.{narrow-narrows}
 use Rattle.vx_laws_simplifying.proofs.Kept.{Kept, kept-then, Made}

@@ -10,7 +10,7 @@ use Rattle.vx_semantics.specs.Meaning.{Slots, mean}
 use Rattle.vx_semantics.specs.Slots.{slots_fit}
 use Rattle.vx_semantics.specs.Breaks.{Cause}
 use Rattle.vx_semantics.specs.Asked.{asked_columns}
-use Rattle.vx_laws_passes.specs.Asking.{breaks_along, asks_along}
+use Rattle.vx_laws_simplifying.specs.Asking.{breaks_along, asks_along}
 use Rattle.vx_laws_simplifying.specs.Narrowing.{narrows}
 
 -- a pass over the expressions of a scope's type

@@ -21,7 +21,7 @@ use Rattle.vx_text.specs.declared.operators.Level.TheVariants as levels
 use Rattle.vx_text.specs.declared.steps.Step.{Step}
 use Rattle.vx_text.specs.declared.steps.Step.TheVariants as step_kinds
 use Rattle.vx_tokens.specs.Tokens.{◌>>=◌, is_sign, is_not}
-use Rattle.vx_text.specs.Readings.{Named, binary_of, negated, constant_of, and_one, and_argument, call_of, with_name, pack_of}
+use Rattle.vx_text.specs.NamedExpressions.{Named, binary_of, negated, constant_of, and_one, and_argument, call_of, with_name, pack_of}
 use Rattle.vx_text.specs.Grammar.{Read, after, choose, closed, most_tokens, more_parts, parts, and_then, name_at, names_at, labelled, and_field, struct_type, list_with, struct_with, plain_type, word_base, base_with, marked, type_with, type_at, type_front, list_item, struct_item, integer_item, negative_item, word_item, item_with, item_at, item_front, lit_behind, token_operator, operator_within, level_of, level_number, operator_at, next_operand, chain, chained, token_step, step_at, step_with, next_step, steps, negative_number, arguments_with, plain_call, named, all_named_with, pack_call, cast_call, word_atom, sign_atom, atom_with, post_with, sum_with, compared, compare_with, nots_at, one_more, not_with, and_with, or_with, query_at}
 
 -- two readings are the same, and leave so many tokens at most

@@ -4,7 +4,7 @@ use Rattle.std.specs.Prelude.{nat_lt, if◌then◌else◌}
 use Rattle.vx_dtype.specs.Types.{Bytes}
 use Rattle.vx_text.specs.declared.errors.TextError.TheVariants as errors
 use Rattle.vx_tokens.specs.declared.tokens.Token.{Token}
-use Rattle.vx_text.specs.Readings.{Named}
+use Rattle.vx_text.specs.NamedExpressions.{Named}
 use Rattle.vx_tokens.specs.Tokens.{tokens_of}
 use Rattle.vx_text.specs.Grammar.{most_tokens, query_of}
 use Rattle.vx_text.specs.Reading.{most_bytes, named_or_refused, query_or_refused, reading_of}

@@ -17,7 +17,7 @@ use Rattle.vx_tokens.specs.declared.tokens.Token.TheVariants.{Reserved, Word, Qu
 use Rattle.vx_text.specs.declared.operators.Level.{Level}
 use Rattle.vx_text.specs.declared.operators.Level.TheVariants as levels
 use Rattle.vx_tokens.specs.Tokens.{◌>>=◌}
-use Rattle.vx_text.specs.Readings.{Named, Arguments, binary_of, negated, constant_of, and_one, and_argument, call_of, with_name, pack_of}
+use Rattle.vx_text.specs.NamedExpressions.{Named, Arguments, binary_of, negated, constant_of, and_one, and_argument, call_of, with_name, pack_of}
 use Rattle.vx_text.specs.Grammar.{Read, after, closed, most_tokens, parts, names_at, type_front, item_front, lit_behind, token_operator, operator_within, level_number, operator_at, next_operand, chain, chained, field_of, included, excluded, column, step_at, steps, arguments_with, plain_call, named, all_named_with, pack_call, cast_call, word_atom, atom_with, post_with, sum_with, compared, compare_with, nots_at, one_more, not_with, and_with, or_with, query_at, whole, query_of}
 use Rattle.vx_laws_text.specs.Productions.{gathered, IsName, word_name, quoted_name, AreNames, IsType, IsItem, IsOperator, IsOr, one_or, more_or, IsAnd, one_and, more_and, IsNot, one_not, more_not, IsCompare, one_compare, two_compare, IsSum, one_sum, more_sum, IsPost, one_post, field_post, include_post, exclude_post, IsAtom, bracket_atom, row_atom, name_atom, number_atom, minus_atom, text_atom, true_atom, false_atom, lit_atom, cast_atom, pack_atom, pack_null_atom, call_atom, AreQueries, no_queries, one_query, more_queries, AreNamed, no_named, one_named, more_named, QueryIsRead}
 use Rattle.vx_laws_text.proofs.ReadParts.{closes_round}

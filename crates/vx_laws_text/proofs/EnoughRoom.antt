@@ -1,7 +1,7 @@
 -- As much room as there are tokens is enough.
 use Rattle.std.proofs.Common.{ℕ, List, length, refl, arith}
 use Rattle.vx_tokens.specs.declared.tokens.Token.{Token}
-use Rattle.vx_text.specs.Readings.{and_argument}
+use Rattle.vx_text.specs.NamedExpressions.{and_argument}
 use Rattle.vx_text.specs.Grammar.{Read, and_then, name_at}
 use Rattle.vx_laws_text.specs.Fuel.{Shrinks, QueriesHaveRoom, TypesHaveRoom, ItemsHaveRoom, NamesHaveRoom, ArgumentsHaveRoom, ChainsHaveRoom, StepsHaveRoom}
 use Rattle.vx_laws_text.proofs.Alike.{Alike, more-both, name-alike, no_name, types_alike, items_alike, chain-both, steps-both, queries_alike}

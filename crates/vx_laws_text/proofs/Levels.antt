@@ -9,7 +9,7 @@ use Rattle.vx_tokens.specs.declared.tokens.Token.TheVariants.{Reserved, Mark}
 use Rattle.vx_text.specs.declared.operators.Level.{Level}
 use Rattle.vx_text.specs.declared.operators.Level.TheVariants as levels
 use Rattle.vx_tokens.specs.Tokens.{◌>>=◌}
-use Rattle.vx_text.specs.Readings.{Named, binary_of, negated}
+use Rattle.vx_text.specs.NamedExpressions.{Named, binary_of, negated}
 use Rattle.vx_text.specs.Grammar.{Read, most_tokens, operator_at, next_operand, chain, chained, step_at, next_step, steps, post_with, sum_with, compared, compare_with, nots_at, one_more, not_with, and_with, or_with}
 use Rattle.vx_laws_text.specs.WrittenTokens.{operator_token}
 

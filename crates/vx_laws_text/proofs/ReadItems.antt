@@ -10,7 +10,7 @@ use Rattle.vx_tokens.specs.declared.tokens.Token.{Token}
 use Rattle.vx_tokens.specs.declared.tokens.Token.TheVariants.{Mark}
 use Rattle.vx_tokens.specs.Tokens.{◌>>=◌}
 use Rattle.vx_tokens.specs.Numbers.{signed, number_value}
-use Rattle.vx_text.specs.Readings.{and_one}
+use Rattle.vx_text.specs.NamedExpressions.{and_one}
 use Rattle.vx_text.specs.Grammar.{Read, after, more_parts, parts, list_item, struct_item, item_with, item_at, item_front}
 use Rattle.vx_laws_text.specs.WrittenTokens.{number_tokens, item_tokens, items_tokens}
 use Rattle.vx_laws_text.proofs.Sizes.{item_size, items_size}

@@ -21,7 +21,7 @@ use Rattle.vx_tokens.specs.declared.tokens.Token.{Token}
 use Rattle.vx_tokens.specs.declared.tokens.Token.TheVariants.{Reserved, Mark}
 use Rattle.vx_tokens.specs.Tokens.{◌>>=◌}
 use Rattle.vx_tokens.specs.Numbers.{signed}
-use Rattle.vx_text.specs.Readings.{Named, Arguments, constant_of, and_one, and_argument, call_of, with_name, pack_of}
+use Rattle.vx_text.specs.NamedExpressions.{Named, Arguments, constant_of, and_one, and_argument, call_of, with_name, pack_of}
 use Rattle.vx_text.specs.Grammar.{Read, after, closed, more_parts, type_front, item_front, lit_behind, field_of, included, excluded, step_at, steps, plain_call, arguments_with, named, all_named_with, pack_call, cast_call, atom_with, post_with, nots_at, query_at}
 use Rattle.vx_text.specs.Writing.{is_bare}
 use Rattle.vx_laws_text.specs.WrittenTokens.{name_token, name_tokens, choice_tokens, type_tokens, number_tokens, number_type, item_tokens, bare_tokens, literal_tokens, operator_token, range_keyword, query_tokens, listed_tokens, named_tokens}

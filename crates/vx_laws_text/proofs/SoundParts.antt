@@ -14,7 +14,7 @@ use Rattle.vx_tokens.specs.declared.tokens.Sign.TheVariants as signs
 use Rattle.vx_tokens.specs.declared.tokens.Token.{Token}
 use Rattle.vx_tokens.specs.declared.tokens.Token.TheVariants.{Reserved, Word, Quoted, Quote, Number, Mark}
 use Rattle.vx_tokens.specs.Tokens.{◌>>=◌}
-use Rattle.vx_text.specs.Readings.{and_one}
+use Rattle.vx_text.specs.NamedExpressions.{and_one}
 use Rattle.vx_text.specs.Grammar.{Read, after, choose, closed, most_tokens, parts, labelled, and_field, struct_type, list_with, struct_with, plain_type, word_base, base_with, marked, type_with, type_at, type_front, list_item, struct_item, integer_item, negative_item, word_item, item_with, item_at, item_front}
 use Rattle.vx_laws_text.specs.Productions.{IsType, plain_base, null_base, IsBase, named_base, list_base, struct_base, AreFields, no_fields, one_field, more_fields, IsItem, null_item, true_item, false_item, number_item, minus_item, text_item, square_item, curly_item, AreItems, no_items, one_item, more_items}
 use Rattle.vx_laws_text.proofs.Sound.{Front, Sound, bound, after_is, closed_is, PartsFrom, parts_sound, IsLabelled, labelled_sound}

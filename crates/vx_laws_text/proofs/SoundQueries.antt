@@ -15,7 +15,7 @@ use Rattle.vx_text.specs.declared.operators.Level.{Level}
 use Rattle.vx_text.specs.declared.operators.Level.TheVariants as levels
 use Rattle.vx_text.specs.declared.steps.Step.{Step}
 use Rattle.vx_tokens.specs.Tokens.{◌>>=◌, is_not}
-use Rattle.vx_text.specs.Readings.{Named, binary_of, negated, constant_of, and_one, and_argument, call_of, with_name, pack_of}
+use Rattle.vx_text.specs.NamedExpressions.{Named, binary_of, negated, constant_of, and_one, and_argument, call_of, with_name, pack_of}
 use Rattle.vx_text.specs.Grammar.{Read, after, closed, most_tokens, name_at, names_at, labelled, type_front, item_front, lit_behind, token_operator, operator_within, level_of, level_number, operator_at, next_operand, chain, chained, field_of, included, excluded, step_at, step_with, next_step, steps, negative_number, arguments_with, plain_call, named, all_named_with, pack_call, cast_call, word_atom, atom_with, post_with, sum_with, compared, compare_with, nots_at, one_more, column, not_with, and_with, or_with, query_at, whole, query_of}
 use Rattle.vx_laws_text.specs.Productions.{gathered, IsName, word_name, quoted_name, IsOperator, IsOr, one_or, more_or, IsAnd, one_and, more_and, IsNot, one_not, more_not, IsCompare, one_compare, two_compare, IsSum, one_sum, more_sum, IsPost, one_post, field_post, include_post, exclude_post, IsAtom, bracket_atom, row_atom, name_atom, number_atom, minus_atom, text_atom, true_atom, false_atom, lit_atom, cast_atom, pack_atom, pack_null_atom, call_atom, AreQueries, no_queries, one_query, more_queries, AreNamed, no_named, one_named, more_named, ReadIsQuery}
 use Rattle.vx_laws_text.proofs.Sound.{Front, Sound, bound, equal, after_is, closed_is, PartsFrom, parts_sound, names_sound_one, names_sound, IsLabelled, labelled_sound}

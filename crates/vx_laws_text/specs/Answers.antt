@@ -5,7 +5,7 @@ use Rattle.vx_expr.specs.Trees.{Tree}
 use Rattle.vx_text.specs.declared.errors.TextError.{TextError}
 use Rattle.vx_text.specs.declared.errors.TextError.TheVariants as errors
 use Rattle.vx_tokens.specs.declared.tokens.Token.{Token}
-use Rattle.vx_text.specs.Readings.{Named}
+use Rattle.vx_text.specs.NamedExpressions.{Named}
 use Rattle.vx_text.specs.Grammar.{most_tokens}
 use Rattle.vx_text.specs.Reading.{most_bytes, reading_of}
 use Rattle.vx_laws_text.specs.Cuts.{Cuts}

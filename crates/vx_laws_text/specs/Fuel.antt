@@ -4,7 +4,7 @@ use Rattle.vx_dtype.specs.Types.{Bytes}
 use Rattle.vx_tokens.specs.declared.tokens.Sign.{Sign}
 use Rattle.vx_tokens.specs.declared.tokens.Token.{Token}
 use Rattle.vx_text.specs.declared.operators.Level.{Level}
-use Rattle.vx_text.specs.Readings.{Named, Arguments, and_argument}
+use Rattle.vx_text.specs.NamedExpressions.{Named, Arguments, and_argument}
 use Rattle.vx_text.specs.Grammar.{Read, most_tokens, and_then, name_at, more_parts, chain, steps, type_at, item_at, query_at}
 
 -- what is read leaves no more tokens than there were

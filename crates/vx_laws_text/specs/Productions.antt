@@ -15,8 +15,8 @@ use Rattle.vx_tokens.specs.declared.tokens.Token.TheVariants.{Reserved, Word, Qu
 use Rattle.vx_text.specs.declared.operators.Level.{Level}
 use Rattle.vx_text.specs.declared.operators.Level.TheVariants as levels
 use Rattle.vx_tokens.specs.Numbers.{integer_of}
-use Rattle.vx_text.specs.Readings.{Named, binary_of, constant_of, number_literal, bool_literal}
-use Rattle.vx_text.specs.Readings.{text_literal, and_one, and_argument, call_of, with_name, pack_of}
+use Rattle.vx_text.specs.NamedExpressions.{Named, binary_of, constant_of, number_literal, bool_literal}
+use Rattle.vx_text.specs.NamedExpressions.{text_literal, and_one, and_argument, call_of, with_name, pack_of}
 use Rattle.vx_text.specs.Grammar.{most_tokens, and_field, struct_type, plain_type, list_item, struct_item}
 use Rattle.vx_text.specs.Grammar.{field_of, included, excluded, column, token_operator, level_of, query_of}
 

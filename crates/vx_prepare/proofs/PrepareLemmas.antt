@@ -16,7 +16,7 @@ use Rattle.vx_typing.specs.declared.errors.TypeError.TheVariants as refusals
 use Rattle.vx_passes.specs.Replacing.{root_replaced}
 use Rattle.vx_passes.specs.TypedSimplifying.{simplified_typed}
 use Rattle.vx_partition.specs.Splits.{split_view}
-use Rattle.vx_laws_preserving.proofs.Outcomes.{preserved_type}
+use Rattle.vx_laws_parts.proofs.Outcomes.{preserved_type}
 use Rattle.vx_laws_columns.specs.Columns.{Prepared, SplitByColumns, split_by_columns}
 use Rattle.vx_laws_columns.proofs.ByColumn.{splits_by_columns, partitions_of_asked_columns}
 use Rattle.vx_prepare.specs.Parts.{IsSplitAs}

@@ -37,7 +37,7 @@ pub struct PreparedExpr {
 ///
 /// Source of the rule: an expression is typed once, and evaluated for each block.
 ///
-/// Laws: those of `vx_laws_preserving` and `vx_laws_columns`.
+/// Laws: those of `vx_laws_parts` and `vx_laws_columns`.
 pub fn prepare(
     alloc: Global,
     expr: &ExprRef,

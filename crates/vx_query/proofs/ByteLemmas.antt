@@ -3,10 +3,10 @@ use Rattle.std.proofs.Common.{◌≡◌, subst, List, [], ◌∷◌, inl, inr}
 use Rattle.std.specs.List.{AllByRecursion}
 use Rattle.vx_dtype.specs.Types.{Bytes, Ty, bool_ty, int_ty, text_ty, list_ty, struct_ty, Fields, no_fields, field}
 use Rattle.vx_expr.specs.Trees.{Tree, root, literal, get_item, binary, not_of, is_null_of, like, between, cast, list_contains, pack, merge, select, dynamic}
-use Rattle.vx_wire_text.specs.Fields.{IsShort, IsText}
-use Rattle.vx_wire_text.specs.TypeForms.{NamesAre, FieldNamesAre}
-use Rattle.vx_wire_text.specs.Wires.{Wire, node, Wires, no_wires, first, Spells, IsSpellable, AreSpellable, HasShortParts, HaveShortParts}
-use Rattle.vx_wire_text.proofs.LengthLemmas.{texts_short}
+use Rattle.vx_wire_bytes.specs.Fields.{IsShort, IsText}
+use Rattle.vx_wire_bytes.specs.TypeForms.{NamesAre, FieldNamesAre}
+use Rattle.vx_wire_bytes.specs.Wires.{Wire, node, Wires, no_wires, first, Spells, IsSpellable, AreSpellable, HasShortParts, HaveShortParts}
+use Rattle.vx_wire_bytes.proofs.LengthLemmas.{texts_short}
 use Rattle.vx_wire.specs.Forms.{wire_of, Everywhere}
 use Rattle.vx_wire.specs.Metadata.{HasMetadata, IsSerializable, HasShortMetadata}
 use Rattle.vx_wire.proofs.EverywhereLemmas.{also_everywhere}

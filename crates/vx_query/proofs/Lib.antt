@@ -1,5 +1,5 @@
 mod CellLemmas
-pub mod ShapeLemmas
+pub mod BlockAgreementLemmas
 mod AnswerLemmas
 mod OutcomeLemmas
 mod RefusalLemmas

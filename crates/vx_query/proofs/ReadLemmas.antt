@@ -22,11 +22,11 @@ use Rattle.vx_scan.proofs.AmongLemmas.{among_nothing, among_all, among_append}
 use Rattle.vx_scan.proofs.AskedLemmas.{reads_are_asked}
 use Rattle.vx_scan.proofs.BlockLemmas.{table_lengths}
 use Rattle.vx_request.specs.Requests.{RequestedScan, request_of}
-use Rattle.vx_query.specs.Shapes.{agree}
+use Rattle.vx_query.specs.BlockAgreement.{agree}
 use Rattle.vx_query.specs.Running.{End, Form, scan_table, scan_reads, scanned_store, broken_store, Outcome, misused, helped, versioned, out_of_memory, unread, refused, unscanned, broken, answered, explained, undecoded, unshown, shown, unnamed, unserialized, overlong, named, IsOutcome, IsRun, used_by}
 use Rattle.vx_query.specs.Causes.{HasAskedReads}
 use Rattle.vx_query.proofs.CellLemmas.{and_left}
-use Rattle.vx_query.proofs.ShapeLemmas.{agree_in}
+use Rattle.vx_query.proofs.BlockAgreementLemmas.{agree_in}
 use Rattle.vx_query.proofs.RequestEnds.{not_none}
 
 -- ---- reads that are some of others

@@ -9,7 +9,7 @@ use Rattle.vx_semantics.specs.Tables.{Zones}
 use Rattle.vx_zones.specs.Zoning.{broken_rule}
 use Rattle.vx_zones.specs.declared.errors.ZoneError.{ZoneError}
 use Rattle.vx_zones.specs.declared.errors.ZoneError.TheVariants as rules
-use Rattle.vx_request.specs.Places.{columns_in, blocks_in, stats_in}
+use Rattle.vx_request.specs.RequestMembers.{columns_in, blocks_in, stats_in}
 use Rattle.vx_request.specs.Objects.{object_of}
 use Rattle.vx_request.specs.Cells.{blocks_of}
 use Rattle.serde_json.specs.Find.{as_str}

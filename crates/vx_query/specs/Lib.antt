@@ -1,5 +1,5 @@
 pub mod Reports
-pub mod Shapes
+pub mod BlockAgreement
 pub mod Refusals
 pub mod Running
 pub mod RunViews

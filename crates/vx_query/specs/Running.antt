@@ -8,7 +8,7 @@ use Rattle.vx_semantics.specs.Breaks.{Cause}
 use Rattle.vx_semantics.specs.Tables.{Table, row_type}
 use Rattle.vx_semantics.specs.Scans.{kept_rows_of, skipped_blocks, reads_of, reads_to_break, read_columns, Phase, phases_of, some_phase_breaks, first_breaks_by}
 use Rattle.hex.specs.Hex.{encode_lower}
-use Rattle.vx_wire_text.specs.Wires.{HasShortParts}
+use Rattle.vx_wire_bytes.specs.Wires.{HasShortParts}
 use Rattle.vx_wire.specs.Encodings.{is_default_kind}
 use Rattle.vx_wire.specs.Forms.{wire_of, wire_text, Everywhere}
 use Rattle.vx_wire.specs.Metadata.{IsSerializable, HasShortMetadata}

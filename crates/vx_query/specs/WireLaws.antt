@@ -2,7 +2,7 @@
 use Rattle.std.specs.Prelude.{◌≡◌, Bool}
 use Rattle.vx_dtype.specs.Types.{Bytes}
 use Rattle.vx_expr.specs.Trees.{Tree}
-use Rattle.vx_wire_text.specs.Wires.{Wire, Spells}
+use Rattle.vx_wire_bytes.specs.Wires.{Wire, Spells}
 use Rattle.vx_wire.specs.Building.{IsBuilt}
 use Rattle.vx_wire.specs.declared.encodings.ExprEncoding.{ExprEncoding}
 

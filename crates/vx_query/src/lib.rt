@@ -2,6 +2,7 @@
 #![tactic(auto)]
 
 mod answers;
+mod block_agreement;
 mod causes;
 mod endings;
 mod form_causes;
@@ -12,9 +13,9 @@ mod refusal_causes;
 mod refusals;
 mod reports;
 mod running;
-mod shapes;
 mod texts;
 
+pub use block_agreement::requested_blocks_agree;
 pub use causes::{
     answers_are_complete, breaks_exactly, honest_reports_are_whole, read_faults_are_counted,
     reads_are_asked, reports_are_of_the_request, reports_are_typed, statuses_have_their_causes,
@@ -32,4 +33,3 @@ pub use refusal_causes::{
 };
 pub use reports::report_text;
 pub use running::run;
-pub use shapes::requested_blocks_agree;

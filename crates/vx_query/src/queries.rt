@@ -4,7 +4,7 @@ ghost use Rattle.std.specs.String.{string_bytes};
 ghost use Rattle.hex.specs.Hex.{encode_lower};
 ghost use Rattle.vx_wire.specs.Forms.{wire_of, wire_text, Everywhere};
 ghost use Rattle.vx_wire.specs.Metadata.{HasShortMetadata};
-ghost use Rattle.vx_wire_text.specs.WireViews.{tree_view};
+ghost use Rattle.vx_wire_bytes.specs.WireViews.{tree_view};
 ghost use Rattle.vx_query.specs.RefusalViews.{IsUnspelled};
 ghost use Rattle.vx_query.specs.Running.{IsShallow, HasBytes};
 ghost use Rattle.vx_query.specs.TextViews.{AnswersQuery};
@@ -15,7 +15,7 @@ use vx_dtype::Mem;
 use vx_expr::ExprRef;
 use vx_text::read_query;
 use vx_wire::ExprSerializeProtoExt;
-use vx_wire_text::{WireError, WireTree, write_tree};
+use vx_wire_bytes::{WireError, WireTree, write_tree};
 
 /// The line of the bytes of the expression that a query names, or the one cause that there is none.
 pub(crate) fn query_bytes(alloc: Global, query: &str) -> Result<String, Refusal>

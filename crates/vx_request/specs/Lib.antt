@@ -1,6 +1,6 @@
 pub mod Objects
 pub mod WrittenTypes
-pub mod Places
+pub mod RequestMembers
 pub mod Cells
 pub mod Requests
 pub mod RequestViews

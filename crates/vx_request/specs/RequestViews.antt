@@ -14,10 +14,10 @@ use Rattle.vx_dtype.specs.Values.{Raw}
 use Rattle.vx_dtype.specs.RawViews.{raw_view}
 use Rattle.vx_dtype.specs.declared.values.ScalarValue.{ScalarValue}
 use Rattle.vx_column.specs.Columns.{Column}
-use Rattle.vx_request.specs.Places.{BlockText, StatText}
+use Rattle.vx_request.specs.RequestMembers.{BlockText, StatText}
 use Rattle.vx_request.specs.Requests.{RequestedScan}
-use Rattle.vx_request.specs.declared.places.Block.{Block}
-use Rattle.vx_request.specs.declared.places.Statistic.{Statistic}
+use Rattle.vx_request.specs.declared.request_members.Block.{Block}
+use Rattle.vx_request.specs.declared.request_members.Statistic.{Statistic}
 use Rattle.vx_request.specs.declared.requests.ScanRequest.{ScanRequest}
 use Rattle.vx_request.specs.declared.errors.RequestError.{RequestError}
 use Rattle.vx_request.specs.declared.errors.RequestError.TheVariants.{NoMemory}

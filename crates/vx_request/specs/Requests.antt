@@ -18,7 +18,7 @@ use Rattle.vx_zones.specs.Zoning.{broken_rule, leaf_type, statistic_type}
 use Rattle.vx_zones.specs.declared.errors.ZoneError.{ZoneError}
 use Rattle.vx_zones.specs.declared.errors.ZoneError.TheVariants as zones
 use Rattle.vx_request.specs.Objects.{object_of}
-use Rattle.vx_request.specs.Places.{BlockText, StatText, columns_in, blocks_in, stats_in}
+use Rattle.vx_request.specs.RequestMembers.{BlockText, StatText, columns_in, blocks_in, stats_in}
 use Rattle.vx_request.specs.Cells.{stat_cells, blocks_of}
 use Rattle.vx_request.specs.declared.errors.Place.{Place}
 use Rattle.vx_request.specs.declared.errors.Place.TheVariants.{Top, Columns, Blocks, Stats}

@@ -9,7 +9,7 @@ ghost use Rattle.vx_request.specs.Requests.{is_rectangle};
 ghost use Rattle.vx_request.specs.RequestViews.{cells_view, block_view, columns_view};
 
 use crate::cells::raws_in;
-use crate::places::Block;
+use crate::request_members::Block;
 use serde_json::Value;
 use std::alloc::Global;
 use vx_column::{ColumnError, ColumnRef};

@@ -5,7 +5,7 @@ mod cells;
 mod columns;
 mod errors;
 mod objects;
-mod places;
+mod request_members;
 mod requests;
 mod stats;
 mod types;

@@ -9,7 +9,7 @@ ghost use Rattle.vx_request.specs.RequestViews.{block_view, stat_view, scan_view
 use crate::columns::{are_rectangles, blocks_of};
 use crate::errors::{Place, RequestError, Side, TableRefusal};
 use crate::objects::has_members;
-use crate::places::{Block, Statistic, blocks_in, columns_in, stats_in};
+use crate::request_members::{Block, Statistic, blocks_in, columns_in, stats_in};
 use crate::stats::stats_of;
 use hex::FromHexError;
 use serde_json::Value;

@@ -9,7 +9,7 @@ ghost use Rattle.vx_request.specs.Requests.{no_stat, typed_stat, stat_of};
 ghost use Rattle.vx_request.specs.RequestViews.{name_view, stat_view};
 
 use crate::cells::raw_in;
-use crate::places::Statistic;
+use crate::request_members::Statistic;
 use serde_json::Value;
 use std::alloc::Global;
 use vx_dtype::{

@@ -2,10 +2,10 @@
 use Rattle.std.proofs.Common.{◌≡◌, ◌≢◌, refl, ap, sym, ◌∙◌, ℕ, Bool, [], ◌++◌, Option, Some, None, Result, Ok, Err, subst, arith, inl, inr}
 use Rattle.vx_dtype.specs.Types.{Bytes}
 use Rattle.vx_expr.specs.Trees.{Tree}
-use Rattle.vx_wire_text.specs.Openings.{IsTooDeep, IsTooMany}
-use Rattle.vx_wire_text.specs.Wires.{Wire, node, Wires, no_wires, first, number_of}
-use Rattle.vx_wire_text.specs.ReadAnswers.{IsRead, IsBadWire}
-use Rattle.vx_wire_text.proofs.ReadLemmas.{one_node}
+use Rattle.vx_wire_bytes.specs.Openings.{IsTooDeep, IsTooMany}
+use Rattle.vx_wire_bytes.specs.Wires.{Wire, node, Wires, no_wires, first, number_of}
+use Rattle.vx_wire_bytes.specs.ReadAnswers.{IsRead, IsBadWire}
+use Rattle.vx_wire_bytes.proofs.ReadLemmas.{one_node}
 use Rattle.vx_wire.specs.Registries.{held_named}
 use Rattle.vx_wire.specs.Building.{IsBuilt, AreBuilt, IsRefusedAt, IsRefusedFirst, IsOneRefused, IsUnbuilt}
 use Rattle.vx_wire.specs.declared.encodings.ExprEncoding.{ExprEncoding}

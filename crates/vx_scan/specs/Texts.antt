@@ -2,9 +2,9 @@
 use Rattle.std.specs.Prelude.{◌≡◌, ◌⊎◌, Bool}
 use Rattle.vx_dtype.specs.Types.{Bytes}
 use Rattle.vx_expr.specs.Trees.{Tree}
-use Rattle.vx_wire_text.specs.Wires.{Wire}
-use Rattle.vx_wire_text.specs.ReadAnswers.{IsRead, IsRefused}
-use Rattle.vx_wire_text.specs.declared.errors.WireError.TheVariants as wires
+use Rattle.vx_wire_bytes.specs.Wires.{Wire}
+use Rattle.vx_wire_bytes.specs.ReadAnswers.{IsRead, IsRefused}
+use Rattle.vx_wire_bytes.specs.declared.errors.WireError.TheVariants as wires
 use Rattle.vx_wire.specs.Building.{IsBuilt, IsUnbuilt}
 use Rattle.vx_wire.specs.declared.encodings.ExprEncoding.{ExprEncoding}
 use Rattle.vx_wire.specs.declared.errors.BuildError.{BuildError}

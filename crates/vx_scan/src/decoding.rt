@@ -1,7 +1,7 @@
 // The expressions that the two byte texts of a scan spell.
 ghost use Rattle.vx_dtype.specs.Types.{Bytes};
-ghost use Rattle.vx_wire_text.specs.ReadAnswers.{IsRead};
-ghost use Rattle.vx_wire_text.specs.WireViews.{tree_view};
+ghost use Rattle.vx_wire_bytes.specs.ReadAnswers.{IsRead};
+ghost use Rattle.vx_wire_bytes.specs.WireViews.{tree_view};
 ghost use Rattle.vx_wire.specs.Registries.{registered};
 ghost use Rattle.vx_scan.specs.Opening.{Decodes};
 

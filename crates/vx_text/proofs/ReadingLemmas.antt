@@ -4,7 +4,7 @@ use Rattle.vx_expr.specs.declared.operators.Operator.{Operator}
 use Rattle.vx_tokens.specs.declared.tokens.Token.{Token}
 use Rattle.vx_text.specs.declared.operators.Level.{Level}
 use Rattle.vx_tokens.specs.Tokens.{◌>>=◌}
-use Rattle.vx_text.specs.Readings.{Named, binary_of}
+use Rattle.vx_text.specs.NamedExpressions.{Named, binary_of}
 use Rattle.vx_text.specs.Grammar.{Read, operator_at, chain, next_operand}
 
 chain-suc : (level : Level) (operand : List Token → Read Named) (n : ℕ) (left : Named) (tokens : List Token) → chain level operand (suc n) left tokens ≡ next_operand (chain level operand n) operand left tokens (operator_at level tokens)

@@ -26,8 +26,8 @@ use Rattle.vx_text.specs.declared.steps.Step.{Step}
 use Rattle.vx_text.specs.declared.steps.Step.TheVariants as step_kinds
 use Rattle.vx_tokens.specs.Tokens.{◌>>=◌, integer_named, is_sign, is_not}
 use Rattle.vx_tokens.specs.Numbers.{integer_of}
-use Rattle.vx_text.specs.Readings.{Named, Arguments, binary_of, negated, constant_of, number_literal, bool_literal, text_literal}
-use Rattle.vx_text.specs.Readings.{and_one, and_argument, call_of, with_name, pack_of}
+use Rattle.vx_text.specs.NamedExpressions.{Named, Arguments, binary_of, negated, constant_of, number_literal, bool_literal, text_literal}
+use Rattle.vx_text.specs.NamedExpressions.{and_one, and_argument, call_of, with_name, pack_of}
 
 -- what a rule gives: a meaning, and the tokens behind the rule
 abbrev pub Read : Type 0 → Type 0

@@ -1,4 +1,4 @@
-pub mod Readings
+pub mod NamedExpressions
 pub mod Grammar
 pub mod Reading
 pub mod Writing

@@ -3,7 +3,7 @@ ghost use Rattle.std.specs.Prelude.{◌≡◌, ◌≤◌, ◌++◌, ◌∷◌, [
 ghost use Rattle.vx_dtype.specs.RawViews.{raw_view};
 ghost use Rattle.vx_tokens.specs.declared.tokens.Sign.TheVariants as signs;
 ghost use Rattle.vx_tokens.specs.Numbers.{digits_behind, number_value, signed, integer_of};
-ghost use Rattle.vx_text.specs.Readings.{and_one};
+ghost use Rattle.vx_text.specs.NamedExpressions.{and_one};
 ghost use Rattle.vx_text.specs.Grammar.{parts, more_parts, most_tokens, integer_item, negative_item, sign_item, word_item, item_with, item_at};
 ghost use Rattle.vx_text.specs.Grammar.{item_front, list_item, struct_item};
 

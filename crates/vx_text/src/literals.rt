@@ -3,7 +3,7 @@ ghost use Rattle.std.specs.Prelude.{◌≡◌, IfOk, option_map};
 ghost use Rattle.vx_dtype.specs.TypeViews.{type_view};
 ghost use Rattle.vx_dtype.specs.RawViews.{raw_view};
 ghost use Rattle.vx_tokens.specs.Numbers.{integer_of};
-ghost use Rattle.vx_text.specs.Readings.{constant, constant_of, integer_type, number_literal, bool_literal, text_literal};
+ghost use Rattle.vx_text.specs.NamedExpressions.{constant, constant_of, integer_type, number_literal, bool_literal, text_literal};
 
 use std::alloc::Global;
 use vx_dtype::{DType, Mem, Nullability, PType, Scalar, ScalarValue, Text, WrongValue};

@@ -3,8 +3,8 @@ ghost use Rattle.std.specs.Prelude.{◌≡◌, ◌<◌, ◌^◌, ◌+◌, IfOk, 
 ghost use Rattle.vx_dtype.specs.TypeViews.{type_view};
 ghost use Rattle.vx_expr.specs.declared.selections.FieldSelection.{FieldSelection};
 ghost use Rattle.vx_expr.specs.Trees as trees;
-ghost use Rattle.vx_text.specs.Readings.{binary_of, negated, takes, call_tree, called_with, call_of, is_null_call, contains_call, like_call};
-ghost use Rattle.vx_text.specs.Readings.{between_call, and_one, with_name, pack_of};
+ghost use Rattle.vx_text.specs.NamedExpressions.{binary_of, negated, takes, call_tree, called_with, call_of, is_null_call, contains_call, like_call};
+ghost use Rattle.vx_text.specs.NamedExpressions.{between_call, and_one, with_name, pack_of};
 ghost use Rattle.vx_text.specs.Grammar.{field_of, included, excluded};
 
 use std::alloc::Global;
@@ -19,7 +19,7 @@ use vx_expr::{
 use vx_tokens::Keyword;
 
 /// Two operands under an operator.
-#[tactic(auto, unfolding(crate::specs::Readings::binary_of))]
+#[tactic(auto, unfolding(crate::specs::NamedExpressions::binary_of))]
 pub(crate) fn binary_of(
     alloc: Global,
     left: Option<ExprRef>,
@@ -48,7 +48,7 @@ fn not_of(alloc: Global, operand: Option<ExprRef>) -> Mem<Option<ExprRef>>
 }
 
 /// An operand under so many `not`.
-#[tactic(auto, unfolding(crate::specs::Readings::negated))]
+#[tactic(auto, unfolding(crate::specs::NamedExpressions::negated))]
 pub(crate) fn negated(alloc: Global, count: usize, operand: Option<ExprRef>) -> Mem<Option<ExprRef>>
     ensures { IfOk result (λ made. made ≡ negated count operand) }
 {

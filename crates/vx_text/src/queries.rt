@@ -2,7 +2,7 @@
 ghost use Rattle.std.specs.Prelude.{◌≡◌, ◌≤◌, ◌+◌, [], Some, IfOk, option_map, map, length};
 ghost use Rattle.vx_dtype.specs.declared.Nullability.{Nullability};
 ghost use Rattle.vx_tokens.specs.declared.tokens.Sign.TheVariants as signs;
-ghost use Rattle.vx_text.specs.Readings.{and_one, and_argument, number_literal, call_of, pack_of};
+ghost use Rattle.vx_text.specs.NamedExpressions.{and_one, and_argument, number_literal, call_of, pack_of};
 ghost use Rattle.vx_text.specs.Grammar.{most_tokens, more_parts, parts, named, labelled, chain, arguments_with, all_named_with, lit_behind, column};
 ghost use Rattle.vx_text.specs.Grammar.{steps, steps_behind, negative_number, nots_at};
 ghost use Rattle.vx_text.specs.Grammar.{plain_call, pack_call, cast_call, word_atom, sign_atom, atom_with, post_with, operand_with, chained};

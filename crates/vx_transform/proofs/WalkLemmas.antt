@@ -15,8 +15,8 @@ use Rattle.vx_semantics.specs.Typing.{Refusal, nullable_select, and_then, unless
 use Rattle.vx_passes.specs.Simplifying.{field_of_pack}
 use Rattle.vx_passes.specs.Selecting.{fields_pack}
 use Rattle.vx_passes.specs.Merging.{Giving, giving_names, given_field, givings_pack}
-use Rattle.vx_laws_walking.specs.Walking.{StructHead, head_of, fields_taken, pack_taken, select_by_head, giving_by_head, givings_by_head, walked_node, walked, passed}
-use Rattle.vx_laws_walking.proofs.Walked.{walk_makes_the_passes}
+use Rattle.vx_laws_removing.specs.Walking.{StructHead, head_of, fields_taken, pack_taken, select_by_head, giving_by_head, givings_by_head, walked_node, walked, passed}
+use Rattle.vx_laws_removing.proofs.Walked.{walk_makes_the_passes}
 use Rattle.vx_transform.specs.Rebuilds.{each, children_taken}
 use Rattle.vx_transform.proofs.RebuildLemmas.{HasLength, each_length, with_as_many}
 

@@ -5,15 +5,15 @@ use Rattle.std.specs.Prelude.{ℕ, List, [], option_map, unwrap_or}
 use Rattle.std.specs.HashMap.{get}
 use Rattle.vx_expr.specs.Equal.{tree_eq}
 use Rattle.vx_expr.specs.Trees.{Tree}
-use Rattle.vx_transform.specs.declared.readings.Reading.{Reading as CodeReading}
-use Rattle.vx_transform.specs.declared.waiting.Places.{Places}
-use Rattle.vx_transform.specs.declared.waiting.Waiting.{Waiting}
+use Rattle.vx_transform.specs.declared.range_bounds.Reading.{Reading as CodeReading}
+use Rattle.vx_transform.specs.declared.unpaired_bounds.Places.{Places}
+use Rattle.vx_transform.specs.declared.unpaired_bounds.Waiting.{Waiting}
 use Rattle.vx_transform.specs.Pairs.{WaitsAt}
-use Rattle.vx_transform.specs.declared.givings.Giving.{Giving as CodeGiving}
+use Rattle.vx_transform.specs.declared.merged_structs.Giving.{Giving as CodeGiving}
 use Rattle.vx_passes.specs.Ranges.{Reading}
 use Rattle.vx_passes.specs.Merging.{Giving}
-use Rattle.vx_transform.specs.declared.heads.StructHead.{StructHead as CodeHead}
-use Rattle.vx_laws_walking.specs.Walking.{StructHead}
+use Rattle.vx_transform.specs.declared.struct_heads.StructHead.{StructHead as CodeHead}
+use Rattle.vx_laws_removing.specs.Walking.{StructHead}
 
 -- a comparison read with one of its operands on the left
 abbrev pub reading_view : CodeReading → Reading

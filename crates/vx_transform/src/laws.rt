@@ -22,7 +22,7 @@ use vx_expr::ExprRef;
 ///
 /// Source of the rule: a value lies in a range exactly where it is at or above the lower bound and at or below the upper one.
 ///
-/// Laws: `vx_laws_passes::ranges_keep_type`, `ranges_keep_meaning`, `ranges_keep_breaks` and `ranges_keep_columns`.
+/// Laws: `vx_laws_simplifying::ranges_keep_type`, `ranges_keep_meaning`, `ranges_keep_breaks` and `ranges_keep_columns`.
 pub fn find_between(alloc: Global, expr: ExprRef) -> Mem<ExprRef>
     ensures { IfOk result (λ made. made ≡ ranged expr) }
 {

@@ -3,20 +3,20 @@
 
 mod children;
 mod errors;
-mod givings;
-mod heads;
 pub mod laws;
+mod merged_structs;
 mod merges;
 mod pack_fields;
 mod packs;
 mod pairing;
-mod readings;
+mod range_bounds;
 mod rebuilding;
 mod replacing;
 mod selects;
 mod simplifying;
+mod struct_heads;
 mod types;
-mod waiting;
+mod unpaired_bounds;
 mod walking;
 
 pub use children::with_these;

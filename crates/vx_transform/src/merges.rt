@@ -8,7 +8,7 @@ ghost use Rattle.vx_passes.specs.Merging.{giving_names, given_field, givings_pac
 ghost use Rattle.vx_transform.specs.CodeViews.{giving_view};
 
 use crate::errors::TransformError;
-use crate::givings::{Giving, givings};
+use crate::merged_structs::{Giving, givings};
 use crate::packs::pack_of;
 use crate::rebuilding::Step;
 use std::alloc::Global;

@@ -8,8 +8,8 @@ ghost use Rattle.vx_passes.specs.Ranges.{range_of, with_ranges};
 ghost use Rattle.vx_transform.specs.CodeViews.{Waits};
 ghost use Rattle.vx_transform.specs.Pairs.{taken_in};
 
-use crate::readings::{bound_of, range_of};
-use crate::waiting::Waiting;
+use crate::range_bounds::{bound_of, range_of};
+use crate::unpaired_bounds::Waiting;
 use std::alloc::Global;
 use std::collections::VecDeque;
 use vx_dtype::Mem;

@@ -17,7 +17,7 @@ use vx_expr::ExprRef;
 ///
 /// Source of the rule: equals may stand for equals.
 ///
-/// Laws: `vx_laws_replacing::replacing_keeps_type` and `replacing_keeps_meaning`.
+/// Laws: `vx_laws_simplifying::replacing_keeps_type` and `replacing_keeps_meaning`.
 pub fn replace(alloc: Global, expr: ExprRef, needle: &ExprRef, replacement: ExprRef) -> Mem<ExprRef>
     ensures { IfOk result (λ made. made ≡ replaced needle.now replacement expr) }
 {
@@ -33,8 +33,8 @@ pub fn replace(alloc: Global, expr: ExprRef, needle: &ExprRef, replacement: Expr
 ///
 /// Source of the rule: a row is the struct of its fields.
 ///
-/// Laws: `vx_laws_passes::packed_rows_keep_type` and `packed_rows_keep_meaning`; of what is then simplified by types, all of
-/// `vx_laws_preserving`.
+/// Laws: `vx_laws_simplifying::packed_rows_keep_type` and `packed_rows_keep_meaning`; of what is then simplified by types, all of
+/// `vx_laws_parts`.
 pub fn replace_root_fields(alloc: Global, expr: ExprRef, fields: &StructFields) -> Mem<ExprRef>
     ensures { IfOk result (λ made. made ≡ root_replaced fields.now expr) }
 {

@@ -5,7 +5,7 @@ ghost use Rattle.vx_expr.specs.Nodes.{select_fields, select_child};
 ghost use Rattle.vx_expr.specs.Selections.{names_where_known};
 ghost use Rattle.vx_semantics.specs.Typing.{unknown_field};
 ghost use Rattle.vx_passes.specs.Selecting.{select_as_pack, select_removed};
-ghost use Rattle.vx_laws_walking.specs.Walking.{select_by_head};
+ghost use Rattle.vx_laws_removing.specs.Walking.{select_by_head};
 ghost use Rattle.vx_transform.specs.TransformAnswers.{AnswersBy, AnswersTree};
 
 use crate::errors::TransformError;

@@ -2,7 +2,7 @@
 ghost use Rattle.vx_dtype.specs.TypeViews.{type_view};
 ghost use Rattle.vx_passes.specs.Simplifying.{simplified};
 ghost use Rattle.vx_passes.specs.TypedSimplifying.{simplified_typed};
-ghost use Rattle.vx_laws_walking.specs.Walking.{passed};
+ghost use Rattle.vx_laws_removing.specs.Walking.{passed};
 ghost use Rattle.vx_transform.specs.TransformAnswers.{AnswersTree};
 
 use crate::errors::TransformError;
@@ -40,7 +40,7 @@ pub fn simplify(alloc: Global, e: ExprRef) -> Result<ExprRef, TransformError>
 /// Source of the rule: selects and merges are short for packs of fields, and fields of packs are the packs' values.
 ///
 /// Laws: `vx_laws_removing::simplified_typed_keeps`, `simplified_nodes_are_simple` and `simplified_stays`; of its size
-/// `vx_laws_sizes::simplified_stays_small`; where the row was replaced by its fields before, all of `vx_laws_preserving`.
+/// `vx_laws_removing::simplified_stays_small`; where the row was replaced by its fields before, all of `vx_laws_parts`.
 pub fn simplify_typed(alloc: Global, e: ExprRef, ctx: &DType) -> Result<ExprRef, TransformError>
     ensures { AnswersTree (simplified_typed (type_view ctx.now) e) result }
 {

@@ -10,7 +10,7 @@ use Rattle.vx_traversal.specs.declared.order.TraversalOrder.{TraversalOrder}
 use Rattle.vx_traversal.specs.declared.order.TraversalOrder.TheVariants.{Skip, Stop, Continue}
 use Rattle.vx_traversal.specs.declared.transform.Transformed.{Transformed}
 use Rattle.vx_traversal.specs.Rewrites.{Walk, RewriteStep, UnlessStopped, MapsInTurn, with_one}
-use Rattle.vx_traversal.specs.Shapes.{Shape}
+use Rattle.vx_traversal.specs.ContainerShapes.{Shape}
 use Rattle.vx_traversal.specs.Containers.{left_of_each, left_of_pair, MapsElements, none_after}
 use Rattle.vx_traversal.proofs.Steps.{drop-next, drop-past}
 use Rattle.vx_traversal.proofs.RewriteLemmas.{or-false}

@@ -3,8 +3,8 @@ pub mod Visits
 pub mod Rewrites
 pub mod Reaches
 pub mod Folds
-pub mod Shapes
-pub mod ShapeLaws
+pub mod ContainerShapes
+pub mod ContainerShapeLaws
 pub mod Containers
 pub mod Expressions
 pub mod ExpressionLaws

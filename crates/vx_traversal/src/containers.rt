@@ -7,8 +7,8 @@ ghost use Rattle.vx_traversal.specs.declared.errors.WalkError.{WalkError};
 ghost use Rattle.vx_traversal.specs.declared.transform.Transformed.{Transformed};
 ghost use Rattle.vx_traversal.specs.Containers.{MapsElements, left_of_each, left_of_pair};
 ghost use Rattle.vx_traversal.specs.Rewrites.{CalledWith, UnlessNoMemory};
-ghost use Rattle.vx_traversal.specs.Shapes.{Shape, made_of};
-ghost use Rattle.vx_traversal.specs.ShapeLaws.{pair-kept, each-kept};
+ghost use Rattle.vx_traversal.specs.ContainerShapes.{Shape, made_of};
+ghost use Rattle.vx_traversal.specs.ContainerShapeLaws.{pair-kept, each-kept};
 ghost use Rattle.std.proofs.Common.{ap};
 ghost use Rattle.vx_traversal.specs.Visits.{InTurn};
 

@@ -52,7 +52,7 @@ impl Node for ExprRef {
 /// An expression is a container of itself alone.
 impl Holds<ExprRef> for ExprRef {
     ghost use Rattle.std.specs.Prelude.{[], ◌∷◌};
-    ghost use Rattle.vx_traversal.specs.Shapes.{one_element};
+    ghost use Rattle.vx_traversal.specs.ContainerShapes.{one_element};
 
     ghost elements = { λ expr. expr ∷ [] };
 

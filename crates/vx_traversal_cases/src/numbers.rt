@@ -112,7 +112,7 @@ impl Node for Numbers {
 /// A tree of numbers is a container of itself alone.
 impl Holds<Numbers> for Numbers {
     ghost use Rattle.std.specs.Prelude.{[], ◌∷◌};
-    ghost use Rattle.vx_traversal.specs.Shapes.{one_element};
+    ghost use Rattle.vx_traversal.specs.ContainerShapes.{one_element};
 
     ghost elements = { λ it. it ∷ [] };
 

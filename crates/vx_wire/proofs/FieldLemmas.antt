@@ -4,15 +4,15 @@ use Rattle.std.specs.List.{AllByRecursion}
 use Rattle.std.proofs.lemmas.List.{append-nil, drop_all}
 use Rattle.std.proofs.lemmas.Option.{same_Some}
 use Rattle.vx_dtype.specs.Types.{Bytes}
-use Rattle.vx_wire_text.specs.Numbers.{number_bytes, piece_bytes}
-use Rattle.vx_wire_text.specs.Fields.{Stands, IsFieldAt, IsNumber, IsText}
-use Rattle.vx_wire_text.specs.Reading.{number_at, text_at}
-use Rattle.vx_wire_text.specs.TypeForms.{type_bytes, IsType}
+use Rattle.vx_wire_bytes.specs.Numbers.{number_bytes, piece_bytes}
+use Rattle.vx_wire_bytes.specs.Fields.{Stands, IsFieldAt, IsNumber, IsText}
+use Rattle.vx_wire_bytes.specs.Reading.{number_at, text_at}
+use Rattle.vx_wire_bytes.specs.TypeForms.{type_bytes, IsType}
 use Rattle.vx_dtype.specs.TypeRules.{most_deep}
-use Rattle.vx_wire_text.specs.TypeReading.{type_at}
-use Rattle.vx_wire_text.proofs.NumberLemmas.{number_again}
-use Rattle.vx_wire_text.proofs.HeadLemmas.{text_again}
-use Rattle.vx_wire_text.proofs.TypeLemmas.{type_again}
+use Rattle.vx_wire_bytes.specs.TypeReading.{type_at}
+use Rattle.vx_wire_bytes.proofs.NumberLemmas.{number_again}
+use Rattle.vx_wire_bytes.proofs.HeadLemmas.{text_again}
+use Rattle.vx_wire_bytes.proofs.TypeLemmas.{type_again}
 use Rattle.vx_wire.specs.Metadata.{texts_bytes, names_bytes, AreNames}
 use Rattle.vx_wire.specs.ReadBack.{IsReadBack}
 

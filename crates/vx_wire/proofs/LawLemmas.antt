@@ -20,14 +20,14 @@ use Rattle.vx_expr.specs.Codes.{operator_at, operator_at-number}
 use Rattle.vx_expr.specs.Trees.{Tree, root, literal, get_item, binary, not_of, is_null_of, like, between, cast, list_contains, pack, merge, select, dynamic, Trees, trees_of, listed, children_of}
 use Rattle.vx_expr.specs.Children.{id_of}
 use Rattle.vx_expr.proofs.TreeLemmas.{trees_of_listed}
-use Rattle.vx_wire_text.specs.Wires.{Wire, node, Wires, no_wires, first, number_of, wire_bytes, IsSpellable, AreSpellable, HasShortParts, HaveShortParts}
-use Rattle.vx_wire_text.specs.Openings.{IsTooDeep, IsTooMany}
-use Rattle.vx_wire_text.specs.ReadAnswers.{IsRead}
-use Rattle.vx_wire_text.specs.Numbers.{piece_bytes}
-use Rattle.vx_wire_text.specs.Fields.{IsText}
-use Rattle.vx_wire_text.specs.TypeForms.{type_bytes, IsType}
+use Rattle.vx_wire_bytes.specs.Wires.{Wire, node, Wires, no_wires, first, number_of, wire_bytes, IsSpellable, AreSpellable, HasShortParts, HaveShortParts}
+use Rattle.vx_wire_bytes.specs.Openings.{IsTooDeep, IsTooMany}
+use Rattle.vx_wire_bytes.specs.ReadAnswers.{IsRead}
+use Rattle.vx_wire_bytes.specs.Numbers.{piece_bytes}
+use Rattle.vx_wire_bytes.specs.Fields.{IsText}
+use Rattle.vx_wire_bytes.specs.TypeForms.{type_bytes, IsType}
 use Rattle.vx_dtype.specs.TypeRules.{null_number}
-use Rattle.vx_wire_text.specs.ValueForms.{truth_byte, value_bytes, IsValue}
+use Rattle.vx_wire_bytes.specs.ValueForms.{truth_byte, value_bytes, IsValue}
 use Rattle.vx_wire.specs.Encodings.{encoding_of, encoding_id, kind_named, kind_place, is_default_kind}
 use Rattle.vx_wire.specs.Registries.{held_named}
 use Rattle.vx_wire.specs.Metadata.{strictness_byte, texts_bytes, names_bytes, AreNames, metadata_bytes, HasMetadata, takes, HasForm}

@@ -3,12 +3,12 @@ use Rattle.std.proofs.Common.{◌≡◌, ℕ, ◌<◌, [], ◌++◌, length, dro
 use Rattle.std.proofs.lemmas.List.{append-nil}
 use Rattle.vx_dtype.specs.Types.{Bytes, Ty}
 use Rattle.vx_dtype.specs.Values.{Raw, Typed}
-use Rattle.vx_wire_text.specs.Fields.{IsFieldAt}
-use Rattle.vx_wire_text.specs.TypeForms.{type_bytes, IsType}
-use Rattle.vx_wire_text.specs.ValueForms.{value_bytes, IsValue}
+use Rattle.vx_wire_bytes.specs.Fields.{IsFieldAt}
+use Rattle.vx_wire_bytes.specs.TypeForms.{type_bytes, IsType}
+use Rattle.vx_wire_bytes.specs.ValueForms.{value_bytes, IsValue}
 use Rattle.vx_wire.specs.ReadBack.{IsReadBack, literal_bytes, IsLiteral}
-use Rattle.vx_wire_text.specs.ValueReading.{value_at}
-use Rattle.vx_wire_text.proofs.ValueLemmas.{value_again}
+use Rattle.vx_wire_bytes.specs.ValueReading.{value_at}
+use Rattle.vx_wire_bytes.proofs.ValueLemmas.{value_again}
 use Rattle.vx_wire.proofs.FieldLemmas.{IsPrefixFree, same_found, type_free}
 
 pub value_free : (t : Ty) → IsPrefixFree (value_bytes t) (IsValue t)

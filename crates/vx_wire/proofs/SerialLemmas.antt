@@ -9,13 +9,13 @@ use Rattle.vx_expr.specs.Packed.{Packed, pack_tree}
 use Rattle.vx_expr.proofs.TreeLemmas.{listed_trees_of}
 use Rattle.vx_dtype.specs.declared.Nullability.{Nullability}
 use Rattle.vx_dtype.specs.TypeRules.{null_number}
-use Rattle.vx_wire_text.specs.Wires.{Wire, node, first}
-use Rattle.vx_wire_text.specs.WireViews.{wires_in, tree_view, trees_view}
-use Rattle.vx_wire_text.specs.Numbers.{number_bytes, piece_bytes}
-use Rattle.vx_wire_text.specs.Fields.{IsShort, IsText}
-use Rattle.vx_wire_text.specs.declared.trees.WireTree.{WireTree}
-use Rattle.vx_wire_text.specs.declared.errors.WireError.{WireError}
-use Rattle.vx_wire_text.specs.declared.errors.WireError.TheVariants as errors
+use Rattle.vx_wire_bytes.specs.Wires.{Wire, node, first}
+use Rattle.vx_wire_bytes.specs.WireViews.{wires_in, tree_view, trees_view}
+use Rattle.vx_wire_bytes.specs.Numbers.{number_bytes, piece_bytes}
+use Rattle.vx_wire_bytes.specs.Fields.{IsShort, IsText}
+use Rattle.vx_wire_bytes.specs.declared.trees.WireTree.{WireTree}
+use Rattle.vx_wire_bytes.specs.declared.errors.WireError.{WireError}
+use Rattle.vx_wire_bytes.specs.declared.errors.WireError.TheVariants as errors
 use Rattle.vx_wire.specs.Encodings.{encoding_of, is_default_kind}
 use Rattle.vx_wire.specs.Metadata.{texts_bytes, names_bytes, AreNames, metadata_bytes, HasMetadata, HasForm, IsSerializable, HasShortMetadata, IsNoEmptyMerge}
 use Rattle.vx_wire.specs.Forms.{node_with, wire_of, wires_of, Everywhere, EverywhereIn}

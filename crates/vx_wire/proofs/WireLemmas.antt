@@ -7,11 +7,11 @@ use Rattle.vx_dtype.specs.Types.{Bytes}
 use Rattle.vx_expr.specs.Trees.{Tree, root, literal, get_item, binary, not_of, is_null_of, like, between, cast, list_contains, pack, merge, select, dynamic, trees_of, children_of}
 use Rattle.vx_expr.specs.Children.{id_of}
 use Rattle.vx_expr.proofs.TreeLemmas.{trees_of_listed}
-use Rattle.vx_wire_text.specs.Wires.{Wire, node, Wires, no_wires, first, number_of}
-use Rattle.vx_wire_text.specs.WireViews.{tree_view, trees_view}
-use Rattle.vx_wire_text.specs.declared.trees.WireTree.{WireTree}
-use Rattle.vx_wire_text.specs.declared.trees.WireTree.TheViews.{out-WireTree}
-use Rattle.vx_wire_text.proofs.TreeLemmas.{tree_view-out}
+use Rattle.vx_wire_bytes.specs.Wires.{Wire, node, Wires, no_wires, first, number_of}
+use Rattle.vx_wire_bytes.specs.WireViews.{tree_view, trees_view}
+use Rattle.vx_wire_bytes.specs.declared.trees.WireTree.{WireTree}
+use Rattle.vx_wire_bytes.specs.declared.trees.WireTree.TheViews.{out-WireTree}
+use Rattle.vx_wire_bytes.proofs.TreeLemmas.{tree_view-out}
 use Rattle.vx_wire.specs.Encodings.{encoding_of, encoding_id, kind_named}
 use Rattle.vx_wire.specs.Registries.{held_named}
 use Rattle.vx_wire.specs.Metadata.{takes, HasForm}

@@ -2,7 +2,7 @@
 use Rattle.std.specs.Prelude.{◌≡◌, ◌⊎◌, ℕ, Bool, true, false, List, length, Option, Some, None}
 use Rattle.vx_dtype.specs.Types.{Bytes}
 use Rattle.vx_expr.specs.Trees.{Tree, children_of}
-use Rattle.vx_wire_text.specs.Wires.{Wire, node, Wires, no_wires, first, number_of}
+use Rattle.vx_wire_bytes.specs.Wires.{Wire, node, Wires, no_wires, first, number_of}
 use Rattle.vx_wire.specs.Encodings.{encoding_of}
 use Rattle.vx_wire.specs.Registries.{held_named}
 use Rattle.vx_wire.specs.Metadata.{metadata_bytes, HasMetadata, takes, HasForm}

@@ -3,7 +3,7 @@ use Rattle.vx_dtype.specs.Types.{Bytes}
 use Rattle.vx_expr.specs.Children.{id_of}
 use Rattle.vx_expr.specs.Trees.{Tree, root, literal, get_item, binary, not_of, is_null_of, like, between, cast, list_contains, pack, merge, select}
 use Rattle.vx_expr.specs.Trees.{dynamic, Trees, no_trees, tree}
-use Rattle.vx_wire_text.specs.Wires.{Wire, node, Wires, no_wires, first, wire_bytes}
+use Rattle.vx_wire_bytes.specs.Wires.{Wire, node, Wires, no_wires, first, wire_bytes}
 use Rattle.vx_wire.specs.Metadata.{metadata_bytes}
 
 -- the wire node of an expression's node, with these children

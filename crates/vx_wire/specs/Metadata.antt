@@ -9,10 +9,10 @@ use Rattle.vx_expr.specs.Trees.{Tree, root, literal, get_item, binary, not_of, i
 use Rattle.vx_expr.specs.Trees.{dynamic, children_of}
 use Rattle.vx_expr.specs.Operators.{operator_number}
 use Rattle.vx_expr.specs.Selections.{is_included, listed_names}
-use Rattle.vx_wire_text.specs.Numbers.{number_bytes, piece_bytes}
-use Rattle.vx_wire_text.specs.Fields.{IsNumber, IsShort, IsText}
-use Rattle.vx_wire_text.specs.TypeForms.{type_bytes, NamesAre, IsType}
-use Rattle.vx_wire_text.specs.ValueForms.{truth_byte, value_bytes, TextsAre, IsValue}
+use Rattle.vx_wire_bytes.specs.Numbers.{number_bytes, piece_bytes}
+use Rattle.vx_wire_bytes.specs.Fields.{IsNumber, IsShort, IsText}
+use Rattle.vx_wire_bytes.specs.TypeForms.{type_bytes, NamesAre, IsType}
+use Rattle.vx_wire_bytes.specs.ValueForms.{truth_byte, value_bytes, TextsAre, IsValue}
 
 -- the byte of a bound: 1 where it is strict
 abbrev pub strictness_byte : StrictComparison → ℕ

@@ -8,9 +8,9 @@ use Rattle.vx_expr.specs.declared.operators.Operator.{Operator}
 use Rattle.vx_expr.specs.declared.selections.FieldSelection.{FieldSelection}
 use Rattle.vx_expr.specs.Operators.{operator_number}
 use Rattle.vx_expr.specs.Selections.{is_included, listed_names}
-use Rattle.vx_wire_text.specs.TypeForms.{type_bytes, IsType}
+use Rattle.vx_wire_bytes.specs.TypeForms.{type_bytes, IsType}
 use Rattle.vx_dtype.specs.TypeRules.{null_number}
-use Rattle.vx_wire_text.specs.ValueForms.{truth_byte, value_bytes, IsValue}
+use Rattle.vx_wire_bytes.specs.ValueForms.{truth_byte, value_bytes, IsValue}
 use Rattle.vx_wire.specs.Metadata.{strictness_byte, choice_byte, names_bytes, AreNames}
 
 -- the answer is the value that is spelled so, or none where none is

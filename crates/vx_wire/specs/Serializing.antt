@@ -1,8 +1,8 @@
 -- Wire trees of expressions: what is written, and why nothing is.
 use Rattle.std.specs.Prelude.{◌≡◌, true, length}
 use Rattle.vx_expr.specs.Trees.{Tree, children_of}
-use Rattle.vx_wire_text.specs.declared.errors.WireError.{WireError}
-use Rattle.vx_wire_text.specs.declared.errors.WireError.TheVariants as errors
+use Rattle.vx_wire_bytes.specs.declared.errors.WireError.{WireError}
+use Rattle.vx_wire_bytes.specs.declared.errors.WireError.TheVariants as errors
 use Rattle.vx_wire.specs.Metadata.{HasMetadata, takes, IsSerializable, HasShortMetadata, IsNoEmptyMerge}
 use Rattle.vx_wire.specs.Forms.{Everywhere}
 

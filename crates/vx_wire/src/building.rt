@@ -1,6 +1,6 @@
 // Expressions built from wire trees.
 ghost use Rattle.std.specs.Prelude.{IfOk, IfErr};
-ghost use Rattle.vx_wire_text.specs.WireViews.{tree_view};
+ghost use Rattle.vx_wire_bytes.specs.WireViews.{tree_view};
 ghost use Rattle.vx_wire.specs.Registries.{registered};
 ghost use Rattle.vx_wire.specs.Building.{IsBuilt, IsUnbuilt};
 
@@ -8,7 +8,7 @@ use crate::errors::BuildError;
 use crate::registries::ExprRegistry;
 use std::alloc::Global;
 use vx_expr::ExprRef;
-use vx_wire_text::WireTree;
+use vx_wire_bytes::WireTree;
 
 /// The expression that a wire tree builds, where the registry holds the kind of each node.
 ///

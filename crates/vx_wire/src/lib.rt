@@ -20,7 +20,7 @@ pub use laws::{
 };
 pub use registries::{ExprRegistry, ExprRegistryExt};
 pub use serializing::ExprSerializeProtoExt;
-pub use vx_wire_text::{
+pub use vx_wire_bytes::{
     LONG, WireError, WireTree, has_short_names, has_short_texts, no_text_begins_another, one_limit,
     one_tree, read_number, read_text, read_tree, read_type, read_value, write_number, write_text,
     write_tree, write_type, write_value,

@@ -1,12 +1,12 @@
 // Metadata of each kind, read as a whole: None where the bytes are no spelling.
 ghost use Rattle.std.specs.Prelude.{IfOk, option_map};
 ghost use Rattle.vx_dtype.specs.TypeViews.{type_view};
-ghost use Rattle.vx_wire_text.specs.Fields.{IsText};
-ghost use Rattle.vx_wire_text.specs.Numbers.{piece_bytes};
-ghost use Rattle.vx_wire_text.specs.TypeForms.{type_bytes, IsType};
+ghost use Rattle.vx_wire_bytes.specs.Fields.{IsText};
+ghost use Rattle.vx_wire_bytes.specs.Numbers.{piece_bytes};
+ghost use Rattle.vx_wire_bytes.specs.TypeForms.{type_bytes, IsType};
 ghost use Rattle.vx_dtype.specs.TypeRules.{null_number};
 ghost use Rattle.vx_expr.specs.Operators.{operator_number};
-ghost use Rattle.vx_wire_text.specs.ValueForms.{truth_byte};
+ghost use Rattle.vx_wire_bytes.specs.ValueForms.{truth_byte};
 ghost use Rattle.vx_wire.specs.Metadata.{strictness_byte, choice_byte, names_bytes, AreNames};
 ghost use Rattle.vx_wire.specs.ReadBack.{IsReadBack, IsAny, operator_bytes, bounds_bytes, truths_bytes, null_bytes, packing_bytes, IsPacking, selection_bytes, IsSelection, literal_bytes, IsLiteral};
 
@@ -16,7 +16,7 @@ use vx_dtype::{
     StrictComparison, WrongValue,
 };
 use vx_expr::{FieldSelection, Operator};
-use vx_wire_text::{read_number, read_text, read_type, read_value};
+use vx_wire_bytes::{read_number, read_text, read_type, read_value};
 
 /// The truth value of a byte.
 fn truth_of(byte: u8) -> Option<bool>

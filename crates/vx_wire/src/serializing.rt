@@ -3,7 +3,7 @@ ghost use Rattle.std.specs.Prelude.{◌≡◌, ◌≤◌, true, Decides, IfOk, I
 ghost use Rattle.vx_dtype.specs.TypeViews.{type_view};
 ghost use Rattle.vx_dtype.specs.TypeRules.{depth_of, most_deep};
 ghost use Rattle.vx_expr.specs.Trees.{Tree};
-ghost use Rattle.vx_wire_text.specs.WireViews.{tree_view};
+ghost use Rattle.vx_wire_bytes.specs.WireViews.{tree_view};
 ghost use Rattle.vx_wire.specs.Encodings.{is_default_kind};
 ghost use Rattle.vx_wire.specs.Forms.{wire_of, Everywhere};
 ghost use Rattle.vx_wire.specs.Metadata.{HasMetadata, IsSerializable, HasShortMetadata, IsNoEmptyMerge};
@@ -14,7 +14,7 @@ use crate::spelling::metadata_of;
 use std::alloc::Global;
 use vx_dtype::{DType, MOST_DEEP, Text};
 use vx_expr::{Expr, ExprRef, VortexExpr};
-use vx_wire_text::{WireError, WireTree};
+use vx_wire_bytes::{WireError, WireTree};
 
 /// Whether a type is no deeper than the wire form allows.
 fn is_shallow(dtype: &DType) -> bool

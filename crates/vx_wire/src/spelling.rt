@@ -5,10 +5,10 @@ ghost use Rattle.vx_dtype.specs.RawViews.{raw_view};
 ghost use Rattle.vx_dtype.specs.TypeRules.{depth_of, most_deep, null_number};
 ghost use Rattle.vx_expr.specs.Trees.{children_of};
 ghost use Rattle.vx_expr.specs.Selections.{listed_names};
-ghost use Rattle.vx_wire_text.specs.Fields.{IsShort, IsText};
-ghost use Rattle.vx_wire_text.specs.Numbers.{piece_bytes};
-ghost use Rattle.vx_wire_text.specs.TypeForms.{type_bytes, NamesAre, IsType};
-ghost use Rattle.vx_wire_text.specs.ValueForms.{truth_byte, value_bytes, TextsAre, IsValue};
+ghost use Rattle.vx_wire_bytes.specs.Fields.{IsShort, IsText};
+ghost use Rattle.vx_wire_bytes.specs.Numbers.{piece_bytes};
+ghost use Rattle.vx_wire_bytes.specs.TypeForms.{type_bytes, NamesAre, IsType};
+ghost use Rattle.vx_wire_bytes.specs.ValueForms.{truth_byte, value_bytes, TextsAre, IsValue};
 ghost use Rattle.vx_wire.specs.Metadata.{strictness_byte, choice_byte, texts_bytes, names_bytes, AreNames, AreShort, metadata_bytes, HasMetadata, takes, IsSerializable, HasShortMetadata, IsNoEmptyMerge};
 ghost use Rattle.vx_wire.specs.ReadBack.{literal_bytes, IsLiteral, packing_bytes, selection_bytes, IsSelection};
 ghost use Rattle.vx_wire.specs.Serializing.{IsWritten, IsUnwrittenLong};
@@ -16,7 +16,7 @@ ghost use Rattle.vx_wire.specs.Serializing.{IsWritten, IsUnwrittenLong};
 use std::alloc::Global;
 use vx_dtype::{DType, FieldName, FieldNames, Nullability, Scalar, StrictComparison};
 use vx_expr::{Expr, ExprRef, FieldSelection};
-use vx_wire_text::{
+use vx_wire_bytes::{
     LONG, WireError, has_short_names, has_short_texts, write_number, write_type, write_value,
 };
 

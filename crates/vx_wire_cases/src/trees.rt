@@ -1,6 +1,6 @@
 //! Trees of the wire form and their bytes, and whether an answer is the wanted one. Want of memory is never wanted.
 
-use vx_wire_text::{WireError, WireTree};
+use vx_wire_bytes::{WireError, WireTree};
 
 /// A tree, or why none is made.
 pub(crate) type Tree = Result<WireTree, WireError>;

@@ -11,7 +11,7 @@ use vx_wire::{
     BuildError, ExprEncoding, ExprRegistry, ExprRegistryExt, ExprSerializeProtoExt,
     deserialize_expr_proto,
 };
-use vx_wire_text::{WireError, read_tree, write_tree};
+use vx_wire_bytes::{WireError, read_tree, write_tree};
 
 /// What is built, or why nothing is.
 type Built = Result<ExprRef, BuildError>;

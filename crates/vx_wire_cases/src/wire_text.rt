@@ -1,9 +1,9 @@
-// Tests of vx_wire_text.
+// Tests of vx_wire_bytes.
 use crate::trees::{FILTER, Tree, Written, are_bytes, is_node, is_refused};
 use std::alloc::Global;
 use std::rc::Rc;
 use vx_dtype::{DType, Mem, Nullability, PType, ScalarValue, Text};
-use vx_wire_text::{
+use vx_wire_bytes::{
     WireError, WireTree, has_short_names, has_short_texts, read_number, read_text, read_tree,
     read_type, read_value, write_number, write_text, write_tree, write_type, write_value,
 };

@@ -4,8 +4,8 @@ use Rattle.vx_request.specs.RequestViews.{scan_view}
 use Rattle.vx_scan.specs.StoreViews.{store_seen}
 use Rattle.vx_query.specs.RefusalViews.{IsUnanswered, request_refusal}
 use Rattle.vx_query.specs.RunViews.{scan_of}
-use Rattle.vx_query.specs.Shapes.{agree}
-use Rattle.vx_query.proofs.ShapeLemmas.{agree_in}
+use Rattle.vx_query.specs.BlockAgreement.{agree}
+use Rattle.vx_query.proofs.BlockAgreementLemmas.{agree_in}
 use Rattle.vx_query.proofs.AnswerLemmas.{table_of_agreeing, if_ok_then, if_err_then, if_err, answered_by, unscanned_by, refused_by}
 use Rattle.vx_query.proofs.answers.answer.Goals as goal
 

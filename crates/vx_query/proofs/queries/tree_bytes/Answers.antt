@@ -1,4 +1,4 @@
-use Rattle.vx_wire_text.specs.WireViews.{tree_view}
+use Rattle.vx_wire_bytes.specs.WireViews.{tree_view}
 use Rattle.vx_query.proofs.ByteLemmas.{has_bytes}
 use Rattle.vx_query.proofs.queries.tree_bytes.Goals as goal
 

@@ -1,5 +1,5 @@
 use Rattle.std.proofs.Common.{rules, ◌≡◌, suc, ◌-◌, arith}
-use Rattle.vx_text.specs.Readings.{negated}
+use Rattle.vx_text.specs.NamedExpressions.{negated}
 use Rattle.vx_text.proofs.naming.+negated.Goals as goal
 
 pub returns : goal.returns

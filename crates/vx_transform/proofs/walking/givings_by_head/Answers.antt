@@ -5,7 +5,7 @@ use Rattle.vx_dtype.specs.TypeViews.{type_view}
 use Rattle.vx_expr.specs.Trees.{children_of}
 use Rattle.vx_transform.specs.CodeViews.{giving_view}
 use Rattle.vx_transform.specs.TransformAnswers.{Refuses}
-use Rattle.vx_laws_walking.specs.Walking.{giving_by_head}
+use Rattle.vx_laws_removing.specs.Walking.{giving_by_head}
 use Rattle.vx_transform.proofs.WalkLemmas.{givings_each}
 use Rattle.vx_transform.proofs.RebuildLemmas.{goes_on, stops_by, ends}
 use Rattle.vx_transform.proofs.walking.givings_by_head.Goals as goal

@@ -3,7 +3,7 @@ use Rattle.vx_dtype.specs.TypeViews.{type_view}
 use Rattle.vx_expr.specs.Trees.{children_of}
 use Rattle.vx_transform.specs.CodeViews.{giving_view}
 use Rattle.vx_transform.specs.Rebuilds.{each}
-use Rattle.vx_laws_walking.specs.Walking.{giving_by_head}
+use Rattle.vx_laws_removing.specs.Walking.{giving_by_head}
 use Rattle.vx_transform.proofs.RebuildLemmas.{before}
 use Rattle.vx_transform.proofs.walking.givings_by_head.Given as goal
 

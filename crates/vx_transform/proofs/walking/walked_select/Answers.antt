@@ -1,7 +1,7 @@
 use Rattle.std.proofs.Common.{◌≡◌, Ok, ap, sym, subst, ◌∙◌}
 use Rattle.vx_dtype.specs.TypeViews.{type_view}
 use Rattle.vx_expr.specs.Nodes.{select_fields, select_child}
-use Rattle.vx_laws_walking.specs.Walking.{head_of}
+use Rattle.vx_laws_removing.specs.Walking.{head_of}
 use Rattle.vx_transform.specs.CodeViews.{head_view}
 use Rattle.vx_transform.specs.TransformAnswers.{AnswersTree}
 use Rattle.vx_transform.proofs.WalkLemmas.{select_taken}

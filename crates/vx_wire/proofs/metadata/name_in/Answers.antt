@@ -1,5 +1,5 @@
-use Rattle.vx_wire_text.specs.Numbers.{piece_bytes}
-use Rattle.vx_wire_text.specs.Fields.{IsText}
+use Rattle.vx_wire_bytes.specs.Numbers.{piece_bytes}
+use Rattle.vx_wire_bytes.specs.Fields.{IsText}
 use Rattle.vx_wire.proofs.FieldLemmas.{text_free, none_there, some_behind}
 use Rattle.vx_wire.proofs.metadata.name_in.Goals as goal
 

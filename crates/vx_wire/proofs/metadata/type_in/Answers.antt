@@ -1,5 +1,5 @@
 use Rattle.vx_dtype.specs.TypeViews.{type_view}
-use Rattle.vx_wire_text.specs.TypeForms.{type_bytes, IsType}
+use Rattle.vx_wire_bytes.specs.TypeForms.{type_bytes, IsType}
 use Rattle.vx_wire.proofs.FieldLemmas.{type_free, some_behind}
 use Rattle.vx_wire.proofs.metadata.type_in.Goals as goal
 

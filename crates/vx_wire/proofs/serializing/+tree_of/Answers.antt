@@ -1,6 +1,6 @@
 use Rattle.std.proofs.Common.{◌∙◌, arith}
 use Rattle.std.proofs.lemmas.Result.{err_from_is_err_and}
-use Rattle.vx_wire_text.proofs.TreeLemmas.{tree_view-roll}
+use Rattle.vx_wire_bytes.proofs.TreeLemmas.{tree_view-roll}
 use Rattle.vx_wire.specs.Metadata.{IsSerializable}
 use Rattle.vx_wire.proofs.EverywhereLemmas.{child_lower, in_child}
 use Rattle.vx_wire.proofs.SerialLemmas.{children_go_on, children_form, children_written, long_child}

@@ -1,7 +1,7 @@
 use Rattle.std.proofs.Common.{◌≡◌, ◌++◌, true, length, ap, subst, ◌∙◌, append_assoc, arith}
 use Rattle.std.specs.Str.{is_utf8}
 use Rattle.std.proofs.lemmas.Str.{is_utf8-from_IsUtf8}
-use Rattle.vx_wire_text.specs.Numbers.{number_bytes}
+use Rattle.vx_wire_bytes.specs.Numbers.{number_bytes}
 use Rattle.vx_dtype.specs.Types.{Bytes}
 use Rattle.vx_wire.proofs.spelling.push_name.Goals as goal
 

@@ -5,7 +5,7 @@ use Rattle.vx_expr.specs.Nodes.{node_tree, merge_values, merge_nullability}
 use Rattle.vx_expr.specs.Trees.{merge, trees_of, children_of}
 use Rattle.vx_semantics.specs.Typing.{and_then}
 use Rattle.vx_passes.specs.Merging.{givings_pack}
-use Rattle.vx_laws_walking.specs.Walking.{pack_taken, givings_by_head}
+use Rattle.vx_laws_removing.specs.Walking.{pack_taken, givings_by_head}
 use Rattle.vx_transform.specs.TransformAnswers.{Refuses}
 use Rattle.vx_transform.proofs.WalkLemmas.{merge_by_children}
 use Rattle.vx_transform.proofs.walking.WalkedNodeStep.at.Goals as goal

@@ -1,5 +1,5 @@
 use Rattle.std.proofs.Common.{◌≡◌, ◌∙◌, refl, sym, ap}
-use Rattle.vx_traversal.specs.ShapeLaws.{owned-kept}
+use Rattle.vx_traversal.specs.ContainerShapeLaws.{owned-kept}
 use Rattle.vx_traversal.proofs.ContainerLemmas.{MapsElements-as}
 use Rattle.vx_traversal.proofs.containers.RcNodeContainer.map_elements_after.Goals as goal
 

@@ -3,7 +3,7 @@ use Rattle.std.specs.List.{flat_map}
 use Rattle.std.specs.Vec.Iter.{into_iter_items}
 use Rattle.vx_traversal.specs.declared.transform.Transformed.{Transformed}
 use Rattle.vx_traversal.specs.Containers.{MapsElements}
-use Rattle.vx_traversal.specs.Shapes.{made_of}
+use Rattle.vx_traversal.specs.ContainerShapes.{made_of}
 use Rattle.vx_traversal.proofs.RewriteLemmas.{unless-err}
 use Rattle.vx_traversal.proofs.ContainerLemmas.{maps-along, maps-from, flat_map-push, none-left, shapes-push, MapsEach-next, MapsEach-error, MapsElements-refilled}
 use Rattle.vx_traversal.proofs.containers.VecNodeContainer.map_elements_after.Goals as goal

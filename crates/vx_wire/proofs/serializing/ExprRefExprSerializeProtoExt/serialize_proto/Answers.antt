@@ -1,4 +1,4 @@
-use Rattle.vx_wire_text.specs.WireViews.{tree_view}
+use Rattle.vx_wire_bytes.specs.WireViews.{tree_view}
 use Rattle.vx_wire.proofs.SerialLemmas.{spelled_again, all_built_again}
 use Rattle.vx_wire.proofs.serializing.ExprRefExprSerializeProtoExt.serialize_proto.Goals as goal
 

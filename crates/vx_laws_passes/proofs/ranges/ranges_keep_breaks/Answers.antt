@@ -1,5 +1,0 @@
-use Rattle.vx_laws_passes.proofs.RangedLaws.{ranges_break}
-use Rattle.vx_laws_passes.proofs.ranges.ranges_keep_breaks.Goals as goal
-
-pub returns : goal.returns
-returns c = ranges_break

@@ -1,5 +1,0 @@
-use Rattle.vx_laws_passes.proofs.PackedRows.{packed_rows_typed}
-use Rattle.vx_laws_passes.proofs.replacing.packed_rows_keep_type.Goals as goal
-
-pub returns : goal.returns
-returns c = packed_rows_typed

@@ -1,4 +1,0 @@
-pub mod RootKept
-pub mod Shown
-pub mod Rowless
-pub mod Outcomes

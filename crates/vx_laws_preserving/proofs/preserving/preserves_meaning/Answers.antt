@@ -1,5 +1,0 @@
-use Rattle.vx_laws_preserving.proofs.Outcomes.{preserved_meaning}
-use Rattle.vx_laws_preserving.proofs.preserving.preserves_meaning.Goals as goal
-
-pub returns : goal.returns
-returns c = preserved_meaning

@@ -1,5 +1,0 @@
-use Rattle.vx_laws_replacing.proofs.Alike.{replacing_typed}
-use Rattle.vx_laws_replacing.proofs.replacing.replacing_keeps_type.Goals as goal
-
-pub returns : goal.returns
-returns c = replacing_typed

@@ -1,5 +1,0 @@
-use Rattle.vx_laws_sizes.proofs.SmallTrees.{simplified_stays_small}
-use Rattle.vx_laws_sizes.proofs.sizes.simplified_stays_small.Goals as goal
-
-pub returns : goal.returns
-returns c = simplified_stays_small

@@ -1,5 +1,0 @@
-use Rattle.vx_laws_walking.proofs.Walked.{walk_makes_the_passes}
-use Rattle.vx_laws_walking.proofs.walking.walk_makes_the_passes.Goals as goal
-
-pub returns : goal.returns
-returns c = walk_makes_the_passes

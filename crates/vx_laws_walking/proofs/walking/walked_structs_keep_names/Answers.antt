@@ -1,5 +1,0 @@
-use Rattle.vx_laws_walking.proofs.Walked.{walked_structs_keep_names}
-use Rattle.vx_laws_walking.proofs.walking.walked_structs_keep_names.Goals as goal
-
-pub returns : goal.returns
-returns c = walked_structs_keep_names

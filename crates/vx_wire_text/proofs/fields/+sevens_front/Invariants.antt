@@ -1,4 +1,0 @@
-use Rattle.vx_wire_text.proofs.fields.+sevens_front.Given as goal
-
-abbrev pub decreases-sevens_front : goal.decreases-sevens_front
-decreases-sevens_front l = l.more

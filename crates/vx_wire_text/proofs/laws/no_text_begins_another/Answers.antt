@@ -1,5 +1,0 @@
-use Rattle.vx_wire_text.proofs.ReadLemmas.{one_node}
-use Rattle.vx_wire_text.proofs.laws.no_text_begins_another.Goals as goal
-
-pub returns : goal.returns
-returns c = one_node

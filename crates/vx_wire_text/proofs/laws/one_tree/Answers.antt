@@ -1,7 +1,0 @@
-use Rattle.std.proofs.Common.{sym, ap, ◌∙◌, ◌++◌, []}
-use Rattle.vx_dtype.specs.Types.{Bytes}
-use Rattle.vx_wire_text.proofs.ReadLemmas.{one_node}
-use Rattle.vx_wire_text.proofs.laws.one_tree.Goals as goal
-
-pub returns : goal.returns
-returns c = λ bytes a b p q. (one_node a b [] [] p.spellable q.spellable (ap (λ (x : Bytes). x ++ []) (sym p.spelled ∙ q.spelled))).0
