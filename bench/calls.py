@@ -5,6 +5,7 @@ import subprocess
 import sys
 import tempfile
 
+import tables  # noqa: F401: brings wire and rows into reach
 from wire import between, binary, item, lit
 
 HERE = os.path.dirname(os.path.dirname(os.path.abspath(__file__)))

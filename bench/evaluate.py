@@ -4,6 +4,7 @@ columns that it needs.
 
 usage: bench/evaluate.py        (first build the program: cd crates/vx_bench && rt run)
 """
+import tables  # noqa: F401: brings wire and rows into reach
 from calls import X, Y_IS_A, beside_calls, x_between
 from wire import binary, lit, request
 

@@ -7,6 +7,7 @@ usage: bench/rewrite.py         (first build the program: cd crates/vx_bench && 
 import json
 import os
 
+import tables  # noqa: F401: brings wire and rows into reach
 from calls import HERE, X, Y_IS_A, joined, told, x_between
 from wire import ROOT, merge, request, select
 

@@ -17,6 +17,7 @@ import sys
 import tempfile
 import time
 
+import tables  # noqa: F401: brings wire and rows into reach
 from calls import beside_calls
 from rows import X
 from wire import ROOT, binary, item, lit, merge, node, request, select, struct

@@ -1,21 +1,30 @@
-//! Cases that were worked out by hand, through the public calls that answer them. Each file of data/ is a table of cases; printed are
-//! the answers that differ from those that a case holds, and how many agreed.
+//! Cases that were worked out by hand, or by a script outside, through the public calls that answer them. Each file of data/ is a table of cases;
+//! printed are the answers that differ from those that a case holds, and how many agreed.
 #![tactic(auto)]
 
 mod answers;
+mod columns;
 mod errors;
+mod expressions;
+mod numbers;
 mod opening;
 mod pruning;
 mod queries;
+mod rows;
 mod scanning;
 mod subjects;
 mod tables;
 mod untold_store;
+mod values;
+mod wire_bytes;
+mod words;
+mod zones;
 
+use rows::{Rows, try_rows};
 use std::fs;
 use tables::try_table;
 
-/// The files of data/.
+/// The files of data/ whose cases have a request or a query.
 const TABLES: [&str; 8] = [
     "texts.json",
     "typing.json",
@@ -27,10 +36,29 @@ const TABLES: [&str; 8] = [
     "queries.json",
 ];
 
+/// The files of data/ whose rows are calls of one crate, with what they ask.
+const ROWS: [(&str, Rows); 7] = [
+    ("values.json", Rows::Values),
+    ("expressions.json", Rows::Expressions),
+    ("words.json", Rows::Words),
+    ("numbers.json", Rows::Numbers),
+    ("columns.json", Rows::Columns),
+    ("wire_bytes.json", Rows::WireBytes),
+    ("zones.json", Rows::Zones),
+];
+
 fn main(rt: HostRuntime) -> anyhow::Result<()> {
     for table in TABLES {
         let text = fs::read_to_string(&rt, table)?;
         let tried = try_table(rt.alloc(), text.as_str())?;
+        for difference in tried.differences.iter() {
+            println!(rt; "{table}: {difference}")?;
+        }
+        println!(rt; "{table}: {} answers agree", tried.agreed)?;
+    }
+    for (table, rows) in ROWS {
+        let text = fs::read_to_string(&rt, table)?;
+        let tried = try_rows(rt.alloc(), text.as_str(), rows)?;
         for difference in tried.differences.iter() {
             println!(rt; "{table}: {difference}")?;
         }

@@ -100,7 +100,7 @@ fn member_text(alloc: Global, object: &Value, name: &str) -> Mem<String> {
 }
 
 /// The elements of a list, none where it is no list.
-fn list_of(value: Option<&Value>) -> &[Value] {
+pub(crate) fn list_of(value: Option<&Value>) -> &[Value] {
     match value.and_then(Value::as_array) {
         Some(values) => values.as_slice(),
         None => &[],

@@ -1,10 +1,10 @@
 #!/usr/bin/env python3
 """Runs requests that were worked out by hand through the built program, and compares what it prints and its exit status.
 
-usage: bench/rows.py [PROGRAM]     (first build the program: cd crates/vx && rt run)
+usage: crates/vx_cases/tables/rows.py [PROGRAM]     (first build the program: cd crates/vx && rt run)
 
 Prints a line for each row that differs, and how many agreed; the exit status is 1 where one differs. The bytes of expressions
-are made by bench/wire.py, by the wire form in docs/FORMATS.md, and the answers are written out.
+are made by wire.py, by the wire form in docs/FORMATS.md, and the answers are written out.
 """
 import json
 import os
@@ -13,8 +13,8 @@ import sys
 
 from wire import ROOT, TRUE, binary, cast, contains, item, like, lit, merge, negated, node, pack, request, select, struct
 
-HERE = os.path.dirname(os.path.dirname(os.path.abspath(__file__)))
-PROGRAM = os.path.join(HERE, "crates", "vx", "out", "vx")
+CRATES = os.path.dirname(os.path.dirname(os.path.dirname(os.path.abspath(__file__))))
+PROGRAM = os.path.join(CRATES, "vx", "out", "vx")
 
 X = item("x")
 ABOVE_TEN = binary(X, ">", lit("i32", 10))

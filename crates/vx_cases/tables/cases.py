@@ -1,10 +1,10 @@
 #!/usr/bin/env python3
 """Writes the tables of cases in crates/vx_cases/data, each answer of which was worked out by hand.
 
-usage: bench/cases.py
+usage: crates/vx_cases/tables/cases.py
 
 A case has a filter and a projection over the table of its group, or an input, and answers to questions about them, which the program
-vx_cases compares with those of the public calls. The bytes of expressions are made by bench/wire.py; the answers are written out here.
+vx_cases compares with those of the public calls. The bytes of expressions are made by wire.py; the answers are written out here.
 """
 import json
 import os
@@ -13,8 +13,7 @@ from inputs import INPUTS
 from rows import ABOVE_TEN, EMPTY_LIST, NEXT, NEXT_POSITIVE, NULL_OR_LESS, PQ, PQ_ROW, TWO, X, X32, X8, nots, realistic
 from wire import ROOT, TRUE, between, binary, cast, contains, item, like, lit, many, merge, negated, node, null_test, pack, request, select, struct
 
-HERE = os.path.dirname(os.path.dirname(os.path.abspath(__file__)))
-DATA = os.path.join(HERE, "crates", "vx_cases", "data")
+DATA = os.path.join(os.path.dirname(os.path.dirname(os.path.abspath(__file__))), "data")
 
 
 def group(columns, blocks, *cases, stats=()):

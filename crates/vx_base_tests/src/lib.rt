@@ -1,0 +1,2 @@
+//! Tests of types, expressions, constructors, displays and walks.
+#![tactic(auto)]

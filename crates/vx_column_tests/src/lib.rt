@@ -1,0 +1,2 @@
+//! Tests of words, numbers and columns.
+#![tactic(auto)]

@@ -1,0 +1,2 @@
+//! Tests of evaluation, passes, partition, pruning and zones.
+#![tactic(auto)]

@@ -1,0 +1,2 @@
+//! Tests of requests, scans and the program.
+#![tactic(auto)]

@@ -1,0 +1,2 @@
+//! Tests of the wire form and queries.
+#![tactic(auto)]
