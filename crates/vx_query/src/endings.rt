@@ -2,6 +2,8 @@
 ghost use Rattle.std.specs.Prelude.{◌≡◌};
 ghost use Rattle.vx_query.specs.EndingViews.{ending_status, ending_text};
 
+use crate::statuses::{BROKEN, WRITTEN};
+
 /// How the scan of a request ends.
 #[derive(Drop)]
 pub(crate) enum Ending {
@@ -19,8 +21,8 @@ impl Ending {
         ensures { result ≡ ending_status self.now }
     {
         match self {
-            Ending::Report(_) => 0,
-            Ending::Overflow | Ending::BadCast => 5,
+            Ending::Report(_) => WRITTEN,
+            Ending::Overflow | Ending::BadCast => BROKEN,
         }
     }
 

@@ -13,6 +13,7 @@ mod refusal_causes;
 mod refusals;
 mod reports;
 mod running;
+mod statuses;
 mod texts;
 
 pub use block_agreement::requested_blocks_agree;

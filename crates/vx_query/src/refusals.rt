@@ -4,6 +4,7 @@ ghost use Rattle.vx_request.specs.declared.errors.RequestError.TheVariants as re
 ghost use Rattle.vx_query.specs.Refusals.{refusal_line, request_refusal_name, scan_refusal_name, text_refusal_name};
 ghost use Rattle.vx_query.specs.RefusalViews.{refusal_status, refusal_text};
 
+use crate::statuses::{NO_REQUEST, OUT_OF_MEMORY, REFUSED, UNREAD};
 use vx_dtype::NoMemory;
 use vx_io::InputError;
 use vx_request::{Place, RequestError, Side, TableRefusal};
@@ -45,16 +46,17 @@ impl Refusal {
         ensures { result ≡ refusal_status self.now }
     {
         match self {
-            Refusal::NoMemory => 8,
-            Refusal::ReadFault => 6,
+            Refusal::NoMemory => OUT_OF_MEMORY,
+            Refusal::ReadFault => UNREAD,
             Refusal::InputTooLong
             | Refusal::BadJson
             | Refusal::BadRequest(_)
             | Refusal::BadHex(_)
             | Refusal::BadTable(_)
-            | Refusal::BadHexText => 3,
-            Refusal::Scan(_) | Refusal::Query(_) | Refusal::NotSerializable | Refusal::LongPart =>
-                4,
+            | Refusal::BadHexText => NO_REQUEST,
+            Refusal::Scan(_) | Refusal::Query(_) | Refusal::NotSerializable | Refusal::LongPart => {
+                REFUSED
+            }
         }
     }
 

@@ -12,6 +12,7 @@ use crate::endings::Ending;
 use crate::forms::{Form, form_of};
 use crate::queries::query_bytes;
 use crate::refusals::Refusal;
+use crate::statuses::{MISUSED, UNWRITTEN, WRITTEN};
 use crate::texts::{explanation, shown};
 use std::alloc::Global;
 use vx_io::{Sink, Source, read_up_to, write_whole};
@@ -69,9 +70,9 @@ pub fn run<I: Source, O: Sink>(
 {
     *used = None;
     match form_of(arguments) {
-        None => write(output, USAGE, 2),
-        Some(Form::Help) => write(output, HELP, 0),
-        Some(Form::Version) => write(output, VERSION, 0),
+        None => write(output, USAGE, MISUSED),
+        Some(Form::Help) => write(output, HELP, WRITTEN),
+        Some(Form::Version) => write(output, VERSION, WRITTEN),
         Some(Form::Explain) => write_answer(output, &explain_input(alloc, input)),
         Some(Form::Show(showing, hex)) => write_answer(output, &shown(alloc, showing, hex)),
         Some(Form::Text(query)) => write_answer(output, &query_bytes(alloc, query)),
@@ -116,7 +117,7 @@ fn write_answer<O: Sink>(output: &mut O, answer: &Result<String, Refusal>) -> u8
         × IsWriting (sink output.old) (sink output.new) (answer_text answer.now) (answer_status answer.now) result writing }
 {
     match answer {
-        Ok(text) => write(output, text.as_str(), 0),
+        Ok(text) => write(output, text.as_str(), WRITTEN),
         Err(refusal) => write(output, refusal.line(), refusal.status()),
     }
 }
@@ -127,6 +128,6 @@ fn write<O: Sink>(output: &mut O, text: &str, told: u8) -> u8
 {
     match write_whole(output, text.as_bytes()) {
         Ok(()) => told,
-        Err(_) => 7,
+        Err(_) => UNWRITTEN,
     }
 }
