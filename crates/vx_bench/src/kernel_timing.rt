@@ -1,26 +1,49 @@
-// Times of calls, and their answers kept.
-use crate::kernels::is_truth;
+// Times of the kernels of columns and of words of bits, and their answers kept.
+use crate::timing::print_since;
+use crate::types::is_truth;
 use crate::word_lists::{Logic, Sides};
 use crate::works::Work;
-use anyhow::Result;
+use anyhow::{Result, bail};
 use std::time::Instant;
 use vx_column::ColumnRef;
 
+/// Does what a word names with a work: a kernel, how many rows, and how many times.
+pub(crate) fn run(rt: &HostRuntime, what: &str, work: &str) -> Result<()> {
+    let mut words = work.split(' ');
+    let (Some(kernel), Some(rows), Some(times)) = (words.next(), words.next(), words.next()) else {
+        bail!("a kernel, its rows and how many times are needed")
+    };
+    time_or_keep(
+        rt,
+        what,
+        kernel,
+        rows.parse::<usize>()?,
+        times.parse::<usize>()?,
+    )
+}
+
+/// Times a kernel, or keeps its answers, as a word says.
+fn time_or_keep(
+    rt: &HostRuntime,
+    what: &str,
+    kernel: &str,
+    rows: usize,
+    times: usize,
+) -> Result<()> {
+    match what {
+        "keep" => keep(rt, kernel, rows, times),
+        _ => time(rt, kernel, rows, times),
+    }
+}
+
 /// Times a kernel over so many rows, so many times.
-pub(crate) fn time(rt: &HostRuntime, kernel: &str, rows: usize, times: usize) -> Result<()> {
+fn time(rt: &HostRuntime, kernel: &str, rows: usize, times: usize) -> Result<()> {
     match kernel {
         "and_words" => time_words(rt, kernel, Logic::And, rows, times),
         "or_words" => time_words(rt, kernel, Logic::Or, rows, times),
         "not_words" => time_words(rt, kernel, Logic::Not, rows, times),
         _ => time_columns(rt, kernel, rows, times),
     }
-}
-
-/// Prints the nanoseconds since a start under a name.
-fn print_since(rt: &HostRuntime, name: &str, start: &Instant) -> Result<()> {
-    let nanoseconds = start.elapsed(rt)?.as_nanos();
-    println!(rt; "{name} {nanoseconds}")?;
-    Ok(())
 }
 
 /// Times a kernel of words of bits.
@@ -94,7 +117,7 @@ fn size(column: &ColumnRef) -> usize {
 }
 
 /// Keeps the answers of so many calls of a kernel of columns until it has printed how many rows each has.
-pub(crate) fn keep(rt: &HostRuntime, kernel: &str, rows: usize, times: usize) -> Result<()> {
+fn keep(rt: &HostRuntime, kernel: &str, rows: usize, times: usize) -> Result<()> {
     let work = Work::named(rt.alloc(), kernel, rows)?;
     keep_answers(rt, &work, times)
 }

@@ -1,9 +1,11 @@
 // The kernels of columns by their names, with what they are called on.
 use crate::columns::{numbers, structs, structs_of_values, truths};
-use crate::kernels::{above, both, constant, first, kept, masked};
+use crate::kernels::Constant::Number;
+use crate::kernels::{both, compared, item, kept, masked, rows_of};
 use anyhow::{Result, bail};
 use std::alloc::Global;
 use vx_column::ColumnRef;
+use vx_dtype::CompareOperator::Gt;
 
 /// A kernel of columns, and the columns that it is called on.
 #[derive(Drop)]
@@ -83,11 +85,11 @@ impl Work {
         match self {
             Work::Numbers(rows) => numbers(alloc, *rows),
             Work::Truths(rows) => truths(alloc, *rows, 0),
-            Work::Constant(rows) => constant(alloc, *rows),
-            Work::Compare(column) => above(alloc, column),
+            Work::Constant(rows) => rows_of(alloc, Number(50), *rows),
+            Work::Compare(column) => compared(alloc, column, Gt, Number(50)),
             Work::AndKleene(left, right) => both(alloc, left, right),
             Work::Filter(column, keep) => kept(alloc, column, keep),
-            Work::Field(column) => first(alloc, column),
+            Work::Field(column) => item(alloc, column, "x"),
             Work::Mask(column, nulls) => masked(alloc, column, nulls),
         }
     }

@@ -1,5 +1,5 @@
 use Rattle.std.proofs.Common.{◌≡◌, length}
-use Rattle.vx_zones_cases.proofs.zones.numbered.Given as goal
+use Rattle.vx_pass_tests.proofs.zones.numbered.Given as goal
 
 -- there is a name for each type before the place
 abbrev pub invariant-loop-i : goal.invariant-loop-i
