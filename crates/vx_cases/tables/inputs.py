@@ -278,7 +278,7 @@ def stat_texts(*stats):
 X_TWICE = X[:-1] + "," + X[1:]
 XT = '[{"name":"x","type":"i64"},{"name":"t","type":%s}]' % struct(("a", '"utf8?"'))
 XT_CELLS = '[{"rows":1,"values":[[1],[{"a":null}]]}]'
-NO_OBJECTS = ["{}", '{"columns":[],"blocks":[],"stats":[],"filter":""}', '{"columns":[],"blocks":[],"stats":[],"filter":"","projection":"","more":1}',
+NO_OBJECTS = ['{"columns":[],"blocks":[],"stats":[],"filter":""}', '{"columns":[],"blocks":[],"stats":[],"filter":"","projection":"","more":1}',
               '{"columns":[],"blocks":[],"stats":[],"filter":"","Projection":""}']
 BLOCKS_OF_ONE = ["{}", "[1]", '[{"rows":1}]', '[{"rows":1,"values":{}}]', '[{"rows":1,"values":[1]}]']
 ROWS_OF_ONE = ['"1"', "-1", "1.5", "1e3", "18446744073709551616", "1048577"]
