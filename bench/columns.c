@@ -2,7 +2,7 @@
 // of their own width, truths as two lists of words, the bits of validity and those of the values.
 //
 // columns KERNEL ROWS TIMES prints the kernel's name and nanoseconds for each call, a line each, and then how many rows the answer has, or
-// has true: as the program vx_column_bench does, over the same rows.
+// has true: as the program vx_bench does, over the same rows.
 #include <inttypes.h>
 #include <stdint.h>
 #include <stdio.h>

@@ -1,7 +1,7 @@
 #!/usr/bin/env python3
 """Times the kernels of columns, and those of words of bits, over 1,000,000 rows beside plain C loops, and tells the bytes of a row.
 
-usage: bench/columns.py         (first build the program: cd crates/vx_column_bench && rt run)
+usage: bench/columns.py         (first build the program: cd crates/vx_bench && rt run)
 
 The loops are those of bench/columns.c, built by `cc -O2`, over the layout that columns aim at: numbers of i64 in eight bytes, truths in
 two bits. Each kernel is called a hundred times in each of three runs, in turn with its loop; the least time of each counts. Where the
@@ -18,7 +18,7 @@ import sys
 import tempfile
 
 HERE = os.path.dirname(os.path.dirname(os.path.abspath(__file__)))
-PROGRAM = os.path.join(HERE, "crates", "vx_column_bench", "out", "vx_column_bench")
+PROGRAM = os.path.join(HERE, "crates", "vx_bench", "out", "vx_bench")
 ROWS, TIMES, RUNS = 1_000_000, 100, 3
 FEW_ROWS = 1_000
 # Rows at which words take far more memory than the programs themselves, and the pairs of lists that are made of so many rows.
@@ -65,10 +65,10 @@ def least_and_answer(kernel, *command):
 
 def timed(kernel, beside, loops):
     """The least microseconds of a kernel, and of what it is timed beside."""
-    other = [PROGRAM, "time", f"{kernel} {FEW_ROWS} {TIMES}"] if beside == FEW else [loops, kernel, ROWS, TIMES]
+    other = [PROGRAM, "kernel", f"{kernel} {FEW_ROWS} {TIMES}"] if beside == FEW else [loops, kernel, ROWS, TIMES]
     ours, theirs = [], []
     for _ in range(RUNS):
-        least, answer = least_and_answer(kernel, PROGRAM, "time", f"{kernel} {ROWS} {TIMES}")
+        least, answer = least_and_answer(kernel, PROGRAM, "kernel", f"{kernel} {ROWS} {TIMES}")
         other_least, other_answer = least_and_answer(kernel, *other)
         if beside == LOOP and answer != other_answer:
             sys.exit(f"{kernel}: the answers differ, {answer} and {other_answer}")
@@ -79,8 +79,8 @@ def timed(kernel, beside, loops):
 
 def bytes_of_words(kernel):
     """The bytes of a row of truths as words, by the growth from so many rows to twice as many."""
-    _, before = ran(PROGRAM, "time", f"{kernel} {MANY_ROWS} 1")
-    _, after = ran(PROGRAM, "time", f"{kernel} {2 * MANY_ROWS} 1")
+    _, before = ran(PROGRAM, "kernel", f"{kernel} {MANY_ROWS} 1")
+    _, after = ran(PROGRAM, "kernel", f"{kernel} {2 * MANY_ROWS} 1")
     return (after - before) / MANY_ROWS / PAIRS
 
 
@@ -110,7 +110,7 @@ def told(number, aim, form):
 
 def main():
     if not os.path.exists(PROGRAM):
-        sys.exit("the program isn't built: cd crates/vx_column_bench && rt run")
+        sys.exit("the program isn't built: cd crates/vx_bench && rt run")
     aims = met = 0
     print("%-12s%12s%22s  %-32s%s" % ("kernel", "us", "beside, us", "ratio", "bytes of a row"))
     with tempfile.TemporaryDirectory() as folder:

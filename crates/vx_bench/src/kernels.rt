@@ -27,7 +27,7 @@ fn scalar(alloc: Global, constant: Constant) -> Mem<Scalar> {
 }
 
 /// A constant as a column of so many rows.
-fn rows_of(alloc: Global, constant: Constant, len: usize) -> Result<ColumnRef> {
+pub(crate) fn rows_of(alloc: Global, constant: Constant, len: usize) -> Result<ColumnRef> {
     match ColumnRef::constant(alloc, &scalar(alloc, constant)?, len) {
         Ok(column) => Ok(column),
         Err(_) => bail!("no constant"),
@@ -128,6 +128,17 @@ pub(crate) fn kept(alloc: Global, column: &ColumnRef, keep: &ColumnRef) -> Resul
         bail!("other rows")
     }
     Ok(column.filter(alloc, keep)?)
+}
+
+/// The values of a column, null where one of truths is true.
+pub(crate) fn masked(alloc: Global, column: &ColumnRef, nulls: &ColumnRef) -> Result<ColumnRef> {
+    if !is_truth(nulls.dtype()) {
+        bail!("no truths")
+    }
+    if column.len() != nulls.len() {
+        bail!("other rows")
+    }
+    Ok(column.mask(alloc, nulls)?)
 }
 
 /// The values of a field of a column of structs.

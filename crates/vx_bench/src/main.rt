@@ -1,8 +1,13 @@
-//! Times calls of the library over the table of a request, beside the calls on columns that they need: `vx_bench WHAT FILE` prints a name
-//! and nanoseconds for each call, a line each, some rounds in turn.
+//! Times calls of the library. `vx_bench evaluate|prune|rewrite|scan REQUEST` times calls over the table of a request, beside the calls on
+//! columns that they need: it prints a name and nanoseconds for each call, a line each, some rounds in turn. `vx_bench kernel 'KERNEL ROWS
+//! TIMES'` times a kernel of columns or of words of bits: it prints the kernel's name and nanoseconds for each call, a line each, and then
+//! how many rows the answer has, or has true. With `keep` the answers of so many calls are kept to the end, so that the memory that they
+//! take can be measured.
 #![tactic(auto)]
 
+mod columns;
 mod evaluating;
+mod kernel_timing;
 mod kernels;
 mod opening;
 mod pruning;
@@ -10,6 +15,8 @@ mod rewriting;
 mod scanning;
 mod timing;
 mod types;
+mod word_lists;
+mod works;
 
 use anyhow::Result;
 use opening::{Opened, open};
@@ -17,17 +24,26 @@ use std::{env, fs};
 
 fn main(rt: HostRuntime) -> Result<()> {
     let mut words = env::args(&rt)?.skip(1);
-    let (Some(what), Some(file)) = (words.next(), words.next()) else {
-        return print_usage(&rt);
-    };
-    let opened = read(&rt, file.as_str())?;
-    time(&rt, what.as_str(), opened)
+    match (words.next(), words.next()) {
+        (Some(what), Some(over)) => run(&rt, what.as_str(), over.as_str()),
+        _ => print_usage(&rt),
+    }
 }
 
 /// Prints how the program is called.
 fn print_usage(rt: &HostRuntime) -> Result<()> {
     println!(rt; "usage: vx_bench evaluate|prune|rewrite|scan REQUEST")?;
+    println!(rt; "       vx_bench kernel|keep 'KERNEL ROWS TIMES'")?;
     Ok(())
+}
+
+/// Times what a word names, over a work or over the request of a file.
+fn run(rt: &HostRuntime, what: &str, over: &str) -> Result<()> {
+    match what {
+        "kernel" => kernel_timing::run(rt, what, over),
+        "keep" => kernel_timing::run(rt, what, over),
+        _ => time(rt, what, read(rt, over)?),
+    }
 }
 
 /// What the request of a file holds.

@@ -18,7 +18,6 @@ mod untold_store;
 mod values;
 mod wire_bytes;
 mod words;
-mod zones;
 
 use rows::{Rows, try_rows};
 use std::fs;
@@ -37,14 +36,13 @@ const TABLES: [&str; 8] = [
 ];
 
 /// The files of data/ whose rows are calls of one crate, with what they ask.
-const ROWS: [(&str, Rows); 7] = [
+const ROWS: [(&str, Rows); 6] = [
     ("values.json", Rows::Values),
     ("expressions.json", Rows::Expressions),
     ("words.json", Rows::Words),
     ("numbers.json", Rows::Numbers),
     ("columns.json", Rows::Columns),
     ("wire_bytes.json", Rows::WireBytes),
-    ("zones.json", Rows::Zones),
 ];
 
 fn main(rt: HostRuntime) -> anyhow::Result<()> {

@@ -1,7 +1,7 @@
 // Tables of calls as JSON: a list of rows, each of which names a call and holds its arguments and the answer that is wanted.
 use crate::errors::CaseError;
 use crate::tables::{Tried, list_of};
-use crate::{columns, expressions, numbers, values, wire_bytes, words, zones};
+use crate::{columns, expressions, numbers, values, wire_bytes, words};
 use serde_json::Value;
 use std::alloc::Global;
 
@@ -20,8 +20,6 @@ pub(crate) enum Rows {
     Columns,
     /// Wire texts.
     WireBytes,
-    /// Zones of a table.
-    Zones,
 }
 
 /// Tries each row of a table.
@@ -54,7 +52,6 @@ fn answer_to(alloc: Global, row: &Value, rows: Rows) -> Result<String, CaseError
         Rows::Numbers => numbers::answer(alloc, row),
         Rows::Columns => columns::answer(alloc, row),
         Rows::WireBytes => wire_bytes::answer(alloc, row),
-        Rows::Zones => zones::answer(alloc, row),
     }
 }
 

@@ -167,6 +167,9 @@ OTHER_TYPES = [
     group([("array", many("i32", True))], [[[None]]], of(contains(item("array"), i32(2)), loose_type="bool?", strict_type="bool?")),
     group(PQ, PQ_ROW, of(item("a", item("p")), strict_type="i32?", loose_type="i32?"),
           of(merge(item("p"), item("q")), strict_type="{a=i32?, b=i32}", loose_type="{a=i32?, b=i32}")),
+    group([("p", struct(True, a="i32", b="i32"))], [[[None]]], {**of(select(ROOT, "b", exclude=True), strict_type="NullableSelect"), "over": "p"},
+          {**of(A, strict_type="i32?"), "over": "p"}),
+    group(X32, [[[1]]], {**of(A, strict_type="NotStruct"), "over": "x"}),
 ]
 
 # Values: at each row, and what breaks.
@@ -283,6 +286,9 @@ REWRITING = [
           of(item("x", select(merge(A, pack(("x", B))), "x", "y")), simplified_typed="$.b")),
     group([("x", "i32")], [[[1]]],
           of(ABOVE_TEN, parts="root: $.x.x_0 {x: pack(x_0: ($.x > 10i32))}"), of(X, parts="root: $.x.x_0 {x: pack(x_0: $.x)}")),
+    group([("x", "i32"), ("y", "i32")], [[[1], [1]]],
+          of(binary(ABOVE_TEN, "and", binary(item("y"), "=", i32(1))),
+             parts="root: ($.x.x_0 and $.y.y_0) {x: pack(x_0: ($.x > 10i32)), y: pack(y_0: ($.y = 1i32))}")),
 ]
 
 SIX = ["id", "name", "price", "tags", "address", "active"]

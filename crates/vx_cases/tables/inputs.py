@@ -251,4 +251,105 @@ SIDES = [
     *of(STATS, asked(stats="7", filter_text="7", projection="7")),
 ]
 
-INPUTS = [{"cases": [*TEXTS, *TYPES, *BLOCK_TEXTS, *CELLS, *STAT_TEXTS, *SIDES]}]
+# Requests whose texts spell no expression: answered is what is refused before them, or else that the filter is no wire text.
+
+NO_TEXTS = ('"00ff"', '""')
+DECODED = "BadWire(Filter) / reads"
+
+
+def decoded(table, stats="[]", texts=NO_TEXTS):
+    """A request of this table, which is a text of columns and one of blocks."""
+    return asked(*table, stats, *texts)
+
+
+def same_names(number):
+    return "[" + ",".join(['{"name":"x","type":"bool"}'] * number) + "]"
+
+
+def of_value(kind, text):
+    """A table of a column with one cell."""
+    return column(kind), '[{"rows":1,"values":[[%s]]}]' % text
+
+
+def stat_texts(*stats):
+    return "[" + ",".join(stats) + "]"
+
+
+X_TWICE = X[:-1] + "," + X[1:]
+XT = '[{"name":"x","type":"i64"},{"name":"t","type":%s}]' % struct(("a", '"utf8?"'))
+XT_CELLS = '[{"rows":1,"values":[[1],[{"a":null}]]}]'
+NO_OBJECTS = ['{"columns":[],"blocks":[],"stats":[],"filter":""}', '{"columns":[],"blocks":[],"stats":[],"filter":"","projection":"","more":1}',
+              '{"columns":[],"blocks":[],"stats":[],"filter":"","Projection":""}']
+BLOCKS_OF_ONE = ["{}", "[1]", '[{"rows":1}]', '[{"rows":1,"values":{}}]', '[{"rows":1,"values":[1]}]']
+ROWS_OF_ONE = ['"1"', "-1", "1.5", "1e3", "18446744073709551616", "1048577"]
+STATS_OF_NONE = ["{}", "[1]", '[{"path":["x"],"stat":"min"}]', '[{"path":"x","stat":"min","values":[]}]', '[{"path":[1],"stat":"min","values":[]}]',
+                 stat_texts(stat(["x"], "nan_count")), stat_texts(stat(["x"], "Min")), '[{"path":["x"],"stat":"min","values":1}]']
+SHAPES = ['[{"rows":1,"values":[[1]]}]', '[{"rows":2,"values":[[1,2],[null]]}]', '[{"rows":1,"values":[[null],[null]]},{"rows":0,"values":[]}]']
+STRUCT_CELLS = ['[{"rows":1,"values":[[null],[null]]}]', '[{"rows":1,"values":[[1],[{"a":1}]]}]', '[{"rows":1,"values":[[1],[{}]]}]',
+                '[{"rows":1,"values":[[1],[{"a":"","b":1}]]}]']
+
+# a type, a value of it, and what is none, with its refusal
+VALUES = [
+    ('"bool"', "true", "0", WRONG_VALUE), ('"u8"', "255", "256", WRONG_VALUE), ('"u16"', "65535", "65536", WRONG_VALUE),
+    ('"u32"', "4294967295", "4294967296", WRONG_VALUE), ('"u64"', "18446744073709551615", "18446744073709551616", BLOCKS), ('"u64"', "0", "-0", BLOCKS),
+    ('"u64"', "1", "-1", WRONG_VALUE), ('"i8"', "-128", "-129", WRONG_VALUE), ('"i16"', "32767", "32768", WRONG_VALUE),
+    ('"i32"', "-2147483648", "-2147483649", WRONG_VALUE), ('"i64"', "9223372036854775807", "9223372036854775808", WRONG_VALUE),
+    ('"i64"', "-9223372036854775808", "-9223372036854775809", BLOCKS), ('"i64"', "1", "1.0", BLOCKS), ('"i64"', "1000", "1e3", BLOCKS),
+    ('"i64?"', "null", '"1"', WRONG_VALUE), ('"utf8"', '"\\u00e9"', "null", WRONG_VALUE),
+    ('{"list":"u8?","nullable":false}', "[1,null]", "[1,256]", WRONG_VALUE), ('{"list":"u8","nullable":true}', "null", "[null]", WRONG_VALUE),
+    ('{"struct":[],"nullable":false}', "{}", "[]", WRONG_VALUE)]
+
+DECODING = [
+    *of("BadJson", '{"columns":[],}', "[1e999]"),
+    *of(TOP, "1", *NO_OBJECTS),
+    *of(NAME_TWICE, decoded((same_names(1024), "[]"))),
+    *of(COLUMNS, decoded((same_names(1025), "[]"))),
+    *of(DECODED, decoded((column(lists(63, '"i64"')), "[]"))),
+    *of(DEEP, *[decoded((column(lists(levels, '"i64"')), "[]")) for levels in (64, 124)]),
+    *of(BLOCKS, *[decoded((X, text), "1") for text in BLOCKS_OF_ONE]),
+    *of(BLOCKS, *[decoded((X, '[{"rows":%s,"values":[[1]]}]' % number), "1") for number in ROWS_OF_ONE], decoded((X, '[{"rows":-0,"values":[[]]}]'), "1"),
+        decoded((X, '[{"rows":1048576,"values":[]},{"rows":1,"values":[]}]'), "1")),
+    *of(DECODED, decoded(("[]", '[{"rows":1048575,"values":[]},{"rows":1,"values":[]}]'))),
+    *of(STATS, *[decoded((X, "[]"), text, ("1", "1")) for text in STATS_OF_NONE]),
+    *of("BadRequest(Filter)", decoded((X_TWICE, "[]"), texts=("1", "1"))),
+    *of("BadRequest(Projection)", decoded((X_TWICE, "[]"), texts=('"0"', "1"))),
+    *of("BadHex(Filter)", *[decoded((X_TWICE, "[]"), texts=texts) for texts in [('"0"', '"0"'), ('"0g"', '""')]]),
+    *of("BadHex(Projection)", *[decoded((X_TWICE, "[]"), texts=texts) for texts in [('"0F"', '"000"'), ('""', '"\\u00e9"')]]),
+    *of(NAME_TWICE, decoded((X_TWICE, "[]"), texts=('""', '""'))),
+    *of(BAD_PATH, *[decoded((XT, XT_CELLS), stat_texts(stat(path, kind, "[1]"))) for path, kind in
+                    [(["y"], "min"), ([], "min"), (["t"], "null_count"), (["x", "a"], "min")]]),
+    *of(STAT_TWICE, decoded((XT, XT_CELLS), stat_texts(stat(["x"]), stat(["x"], values="[1]")))),
+    *of(STAT_COUNT, decoded((XT, XT_CELLS), stat_texts(stat(["x"])))),
+    *of(STAT_TYPE, decoded((XT, XT_CELLS), stat_texts(stat(["x"], values='["a"]'))), decoded((XT, XT_CELLS), stat_texts(stat(["x"], "null_count", "[-1]")))),
+    *of(WRONG_LENGTH, *[decoded((XT, text)) for text in SHAPES]),
+    *of(WRONG_VALUE, *[decoded((XT, text)) for text in STRUCT_CELLS]),
+    *of(DECODED, decoded((XT, XT_CELLS))),
+    *[case for kind, value, other, refused in VALUES for case in of(DECODED, decoded(of_value(kind, value))) + of(refused, decoded(of_value(kind, other)))],
+    *of('rows 1 -2 / skipped / reads 0 x', asked(XT, '[{"rows":2,"values":[[1,-2],[{"a":"b"},null]]}]',
+                                                 stat_texts(stat(["t", "a"], "null_count", "[1]"), stat(["x"], values="[null]")))),
+    *of('rows {"a":"b"} null / skipped / reads 0 t', asked(XT, '[{"rows":2,"values":[[1,-2],[{"a":"b"},null]]}]', projection=quoted(item("t").hex()))),
+]
+
+
+# Zones: statistics of two blocks, over a number, a struct that may be missing, and a list.
+
+ZONED = '[{"name":"a","type":"i32"},{"name":"home","type":{"struct":[{"name":"city","type":"utf8?"},{"name":"zip","type":"i32"}],"nullable":true}},' \
+        '{"name":"tags","type":{"list":"i32","nullable":false}}]'
+ZONED_BLOCKS = '[{"rows":2,"values":[[1,2],[null,null],[[],[]]]},{"rows":3,"values":[[3,4,5],[null,null,null],[[],[],[]]]}]'
+TWO_NULLS, THREE_NULLS = "[null,null]", "[null,null,null]"
+
+
+def zoned(*stats):
+    return asked(ZONED, ZONED_BLOCKS, stat_texts(*stats), projection=quoted(item("a").hex()))
+
+
+ZONES = [
+    *of("rows 1 2 3 4 5 / skipped / reads 0 a 1 a", *[zoned(stat(path, kind, TWO_NULLS)) for path, kind in
+                                                    [(["a"], "min"), (["home", "zip"], "max"), (["home", "zip"], "null_count")]]),
+    *of(BAD_PATH, *[zoned(stat(path, kind, TWO_NULLS)) for path, kind in [(["b"], "min"), (["a", "b"], "min"), (["home"], "min"), (["tags"], "null_count")]]),
+    *of(STAT_COUNT, zoned(stat(["a"], "max", THREE_NULLS)), zoned(stat(["a"], "max", '["a","b","c"]'))),
+    *of(STAT_TYPE, zoned(stat(["a"], "max", '[null,"a"]')), zoned(stat(["a"], "null_count", "[null,-1]"))),
+    *of(STAT_TWICE, zoned(stat(["a"], values=THREE_NULLS), stat(["a"], values=THREE_NULLS))),
+]
+
+INPUTS = [{"cases": [*TEXTS, *TYPES, *BLOCK_TEXTS, *CELLS, *STAT_TEXTS, *SIDES, *DECODING, *ZONES]}]

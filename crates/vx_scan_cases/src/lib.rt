@@ -1,5 +1,0 @@
-//! Tests of stores and scans.
-#![tactic(auto)]
-
-#[cfg(test)]
-mod scan;

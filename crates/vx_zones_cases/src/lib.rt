@@ -1,5 +1,0 @@
-//! Tests of the statistics of tables.
-#![tactic(auto)]
-
-#[cfg(test)]
-mod zones;
