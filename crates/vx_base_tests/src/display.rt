@@ -118,7 +118,10 @@ fn shown_tree(alloc: Global) -> Mem<String> {
 fn ample(rt: HostRuntime) -> Result<(), Fail> {
     let alloc = rt.alloc();
     let rows = with_row(String::from_str(alloc, "rows\n")?, &Scalar::from(true))?;
-    assert_eq!(rt; with_row(rows, &Scalar::from(-7i64))?.as_str(), "rows\ntrue-7");
+    assert_eq!(rt;
+        with_row(rows, &Scalar::from(-7i64))?.as_str(),
+        "rows\ntrue-7"
+    );
     assert_eq!(rt; both_forms(alloc)?.as_str(), "$.a GetItem(a)");
     assert_eq!(rt; shown_tree(alloc)?.as_str(), "GetItem(a)\n└── Root\n");
     Ok(())

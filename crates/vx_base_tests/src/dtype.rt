@@ -48,10 +48,22 @@ fn name_of_wrong_value(alloc: Global) -> Mem<String> {
 fn errors_have_texts(rt: HostRuntime) -> Result<(), Fail> {
     let alloc = rt.alloc();
     assert_eq!(rt; text_of_no_memory(alloc)?.as_str(), "NoMemory");
-    assert_eq!(rt; text_of_fields_error(alloc, FieldsError::NoMemory)?.as_str(), "NoMemory");
-    assert_eq!(rt; text_of_fields_error(alloc, FieldsError::UnknownField)?.as_str(), "UnknownField");
-    assert_eq!(rt; name_of_scalar_error(alloc, ScalarError::NoMemory)?.as_str(), "NoMemory");
-    assert_eq!(rt; name_of_scalar_error(alloc, ScalarError::WrongValue)?.as_str(), "WrongValue");
+    assert_eq!(rt;
+        text_of_fields_error(alloc, FieldsError::NoMemory)?.as_str(),
+        "NoMemory"
+    );
+    assert_eq!(rt;
+        text_of_fields_error(alloc, FieldsError::UnknownField)?.as_str(),
+        "UnknownField"
+    );
+    assert_eq!(rt;
+        name_of_scalar_error(alloc, ScalarError::NoMemory)?.as_str(),
+        "NoMemory"
+    );
+    assert_eq!(rt;
+        name_of_scalar_error(alloc, ScalarError::WrongValue)?.as_str(),
+        "WrongValue"
+    );
     assert_eq!(rt; name_of_wrong_value(alloc)?.as_str(), "WrongValue");
     Ok(())
 }

@@ -49,10 +49,25 @@ fn text_of(alloc: Global, error: ExprError) -> Mem<String> {
 fn errors_have_texts(rt: HostRuntime) -> Result<(), Fail> {
     let alloc = rt.alloc();
     assert_eq!(rt; text_of(alloc, ExprError::NoMemory)?.as_str(), "NoMemory");
-    assert_eq!(rt; text_of(alloc, ExprError::WrongChildren)?.as_str(), "WrongChildren");
-    assert_eq!(rt; text_of(alloc, ExprError::WrongLength)?.as_str(), "WrongLength");
-    assert_eq!(rt; text_of(alloc, ExprError::UnknownField)?.as_str(), "UnknownField");
-    assert_eq!(rt; text_of(alloc, ExprError::UnknownOperator)?.as_str(), "UnknownOperator");
-    assert_eq!(rt; text_of(alloc, ExprError::NotComparison)?.as_str(), "NotComparison");
+    assert_eq!(rt;
+        text_of(alloc, ExprError::WrongChildren)?.as_str(),
+        "WrongChildren"
+    );
+    assert_eq!(rt;
+        text_of(alloc, ExprError::WrongLength)?.as_str(),
+        "WrongLength"
+    );
+    assert_eq!(rt;
+        text_of(alloc, ExprError::UnknownField)?.as_str(),
+        "UnknownField"
+    );
+    assert_eq!(rt;
+        text_of(alloc, ExprError::UnknownOperator)?.as_str(),
+        "UnknownOperator"
+    );
+    assert_eq!(rt;
+        text_of(alloc, ExprError::NotComparison)?.as_str(),
+        "NotComparison"
+    );
     Ok(())
 }

@@ -216,11 +216,7 @@ fn same_columns_and_two(alloc: Global) -> Mem<ExprRef> {
 }
 
 /// A constant in place of a field access, which is how many were replaced before it.
-fn counted(
-    alloc: Global,
-    count: &mut i32,
-    node: ExprRef,
-) -> Walk<Transformed<ExprRef>, NoMemory> {
+fn counted(alloc: Global, count: &mut i32, node: ExprRef) -> Walk<Transformed<ExprRef>, NoMemory> {
     if !GetItemExpr::is(&node) {
         return Ok(Transformed::no(node));
     }

@@ -222,7 +222,10 @@ fn of_expression(alloc: Global, call: Call, expr: &ExprRef) -> Mem<String> {
         Call::Children => listed(alloc, expr.children(alloc)?),
         Call::ChildList => listed(alloc, child_list(alloc, expr.expr())?),
         Call::Conjuncts => listed(alloc, conjuncts(alloc, expr)?.iter().collect(alloc)?),
-        _ => listed(alloc, split_conjunction(alloc, expr)?.iter().collect(alloc)?),
+        _ => listed(
+            alloc,
+            split_conjunction(alloc, expr)?.iter().collect(alloc)?,
+        ),
     }
 }
 
@@ -374,12 +377,7 @@ fn made_of_none(alloc: Global, row: &Value, call: Call) -> Result<ExprRef, CaseE
 }
 
 /// What is made of one operand.
-fn made_of_one(
-    alloc: Global,
-    row: &Value,
-    call: Call,
-    of: ExprRef,
-) -> Result<ExprRef, CaseError> {
+fn made_of_one(alloc: Global, row: &Value, call: Call, of: ExprRef) -> Result<ExprRef, CaseError> {
     match call {
         Call::Not => Ok(not(alloc, of)?),
         Call::IsNull => Ok(is_null(alloc, of)?),

@@ -173,7 +173,8 @@ fn new_paths(alloc: Global, names: &[FieldName]) -> Mem<String> {
     let mut text = String::new(alloc);
     for name in names {
         let path = FieldPath::from_name(alloc, name.clone()?)?;
-        text.push_str(if paths.insert(path)? { "new;" } else { "old;" })?;
+        let is_new = paths.insert(path.clone()?)?;
+        text.push_str(if is_new { "new;" } else { "old;" })?;
     }
     Ok(format!(in alloc; "{text}{}", paths.len())?)
 }
@@ -231,7 +232,12 @@ fn scalar_of(
     Ok(match call {
         Call::List => {
             let element = type_in(alloc, row)?;
-            Scalar::list(alloc, element, scalars_in(alloc, row)?, Nullability::NonNullable)
+            Scalar::list(
+                alloc,
+                element,
+                scalars_in(alloc, row)?,
+                Nullability::NonNullable,
+            )
         }
         Call::Struct => {
             let dtype = type_in(alloc, row)?;

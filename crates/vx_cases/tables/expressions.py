@@ -150,6 +150,8 @@ def conjunct_rows():
 LONG = "$" + " and $" * 2047
 
 PARTS = [
+    row("into_expr", "pack_null()", "pack_null()"),
+    row("id", "pack", "pack_null()"),
     row("is_root", "true", "$"),
     row("is_root", "false", "1i32"),
     row("is_root", "false", "a"),
