@@ -4,8 +4,10 @@ use std::alloc::{AllocError, AllocFailed};
 use thiserror::Error;
 use vx_column::ColumnError;
 use vx_dtype::NoMemory;
+use vx_expr::ExprError;
 use vx_request::RequestError;
 use vx_scan::{ScanError, TableError};
+use vx_text::TextError;
 use vx_wire::BuildError;
 use vx_wire_bytes::WireError;
 
@@ -27,6 +29,12 @@ pub(crate) enum CaseError {
     /// A tree of the case builds no expression.
     #[error("{0}")]
     Build(BuildError),
+    /// A text of the row is no query, or none of the kind that its call asks.
+    #[error("{0}")]
+    Text(TextError),
+    /// The expression of the row isn't made.
+    #[error("{0}")]
+    Expr(ExprError),
     /// The columns of the case make no rows.
     #[error("{0:?}")]
     Column(ColumnError),
@@ -74,5 +82,23 @@ impl From<WireError> for CaseError {
 impl From<BuildError> for CaseError {
     fn from(error: BuildError) -> CaseError {
         CaseError::Build(error)
+    }
+}
+
+impl From<TextError> for CaseError {
+    fn from(error: TextError) -> CaseError {
+        match error {
+            TextError::NoMemory => CaseError::NoMemory,
+            _ => CaseError::Text(error),
+        }
+    }
+}
+
+impl From<ExprError> for CaseError {
+    fn from(error: ExprError) -> CaseError {
+        match error {
+            ExprError::NoMemory => CaseError::NoMemory,
+            _ => CaseError::Expr(error),
+        }
     }
 }

@@ -9,11 +9,20 @@ vx_cases compares with those of the public calls. The bytes of expressions are m
 import json
 import os
 
+import expressions
+import values
 from inputs import INPUTS
 from rows import ABOVE_TEN, EMPTY_LIST, NEXT, NEXT_POSITIVE, NULL_OR_LESS, PQ, PQ_ROW, TWO, X, X32, X8, nots, realistic
 from wire import ROOT, TRUE, between, binary, cast, contains, item, like, lit, many, merge, negated, node, null_test, pack, request, select, struct
 
 DATA = os.path.join(os.path.dirname(os.path.dirname(os.path.abspath(__file__))), "data")
+
+
+def write(name, table):
+    """Writes a table."""
+    with open(os.path.join(DATA, name + ".json"), "w", encoding="utf-8") as out:
+        json.dump(table, out, ensure_ascii=False, separators=(",", ":"))
+        out.write("\n")
 
 
 def group(columns, blocks, *cases, stats=()):
@@ -571,15 +580,22 @@ TABLES = {
     "queries": QUERIES,
 }
 
+# rows of calls, a table for each subject
+ROWS = {
+    "values": values.ROWS,
+    "expressions": expressions.ROWS,
+}
+
 
 def main():
     os.makedirs(DATA, exist_ok=True)
+    for name, rows in ROWS.items():
+        write(name, rows)
+        print("%s.json: %d answers agree" % (name, len(rows)))
     for name, groups in TABLES.items():
         cases = [case for table in groups for case in table["cases"]]
         answers = sum(len(case) - len({"filter", "projection", "over", "query", "input"} & set(case)) for case in cases)
-        with open(os.path.join(DATA, name + ".json"), "w", encoding="utf-8") as out:
-            json.dump(groups, out, ensure_ascii=False, separators=(",", ":"))
-            out.write("\n")
+        write(name, groups)
         print("%s.json: %d answers agree" % (name, answers))
 
 

@@ -1,5 +1,0 @@
-//! Tests of vx_dtype.
-
-mod pairs;
-pub mod scalars;
-mod types;

@@ -1,8 +1,0 @@
-use Rattle.std.proofs.Common.{suc, ◌∙◌}
-use Rattle.vx_traversal_cases.specs.Numbers.{number_height}
-use Rattle.vx_traversal_cases.specs.Zeros.{holds_zero}
-use Rattle.vx_traversal_cases.proofs.CallLemmas.{unless, tells-zero, told-value}
-use Rattle.vx_traversal_cases.proofs.zeros.holds_zero.Goals as goal
-
-pub returns : goal.returns
-returns c = c.value.ensures ∙ told-value c.fold.result c.in_ok-folded.folded (holds_zero c.args.tree) c.in_ok-folded.was (unless c.fold.result _ _ (tells-zero (suc (number_height c.args.tree)) _ tt c.args.tree c.fold.result _) c.fold.ensures)
