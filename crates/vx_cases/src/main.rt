@@ -37,11 +37,13 @@ const TABLES: [&str; 8] = [
 ];
 
 /// The files of data/ whose rows are calls of one crate, with what they ask.
-const ROWS: [(&str, Rows); 7] = [
+const ROWS: [(&str, Rows); 9] = [
     ("values.json", Rows::Values),
     ("expressions.json", Rows::Expressions),
     ("words.json", Rows::Words),
     ("numbers.json", Rows::Numbers),
+    ("number_totals.json", Rows::Numbers),
+    ("number_comparisons.json", Rows::Numbers),
     ("columns.json", Rows::Columns),
     ("wire_bytes.json", Rows::WireBytes),
     ("zones.json", Rows::Zones),

@@ -9,6 +9,8 @@ vx_cases compares with those of the public calls. The bytes of expressions are m
 import json
 import os
 
+import integers
+import words
 from inputs import INPUTS
 from rows import ABOVE_TEN, EMPTY_LIST, NEXT, NEXT_POSITIVE, NULL_OR_LESS, PQ, PQ_ROW, TWO, X, X32, X8, nots, realistic
 from wire import ROOT, TRUE, between, binary, cast, contains, item, like, lit, many, merge, negated, node, null_test, pack, request, select, struct
@@ -565,16 +567,31 @@ TABLES = {
     "queries": QUERIES,
 }
 
+# Tables whose rows are calls of one crate; the answers are worked out by hand, or by plain loops in the module that is named.
+ROWS = {
+    "words": words.ROWS,
+    "numbers": integers.NUMBERS,
+    "number_totals": integers.TOTALS,
+    "number_comparisons": integers.COMPARISONS,
+}
+
+
+def written(name, table, answers):
+    """Writes a table, and prints the line of it that vx_cases prints."""
+    with open(os.path.join(DATA, name + ".json"), "w", encoding="utf-8") as out:
+        json.dump(table, out, ensure_ascii=False, separators=(",", ":"))
+        out.write("\n")
+    print("%s.json: %d answers agree" % (name, answers))
+
 
 def main():
     os.makedirs(DATA, exist_ok=True)
     for name, groups in TABLES.items():
         cases = [case for table in groups for case in table["cases"]]
         answers = sum(len(case) - len({"filter", "projection", "over", "query", "input"} & set(case)) for case in cases)
-        with open(os.path.join(DATA, name + ".json"), "w", encoding="utf-8") as out:
-            json.dump(groups, out, ensure_ascii=False, separators=(",", ":"))
-            out.write("\n")
-        print("%s.json: %d answers agree" % (name, answers))
+        written(name, groups, answers)
+    for name, rows in ROWS.items():
+        written(name, rows, len(rows))
 
 
 if __name__ == "__main__":
