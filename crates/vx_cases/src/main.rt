@@ -36,11 +36,13 @@ const TABLES: [&str; 8] = [
 ];
 
 /// The files of data/ whose rows are calls of one crate, with what they ask.
-const ROWS: [(&str, Rows); 6] = [
+const ROWS: [(&str, Rows); 8] = [
     ("values.json", Rows::Values),
     ("expressions.json", Rows::Expressions),
     ("words.json", Rows::Words),
     ("numbers.json", Rows::Numbers),
+    ("number_totals.json", Rows::Numbers),
+    ("number_comparisons.json", Rows::Numbers),
     ("columns.json", Rows::Columns),
     ("wire_bytes.json", Rows::WireBytes),
 ];

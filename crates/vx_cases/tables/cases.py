@@ -10,7 +10,9 @@ import json
 import os
 
 import expressions
+import integers
 import values
+import words
 from inputs import INPUTS
 from rows import ABOVE_TEN, EMPTY_LIST, NEXT, NEXT_POSITIVE, NULL_OR_LESS, PQ, PQ_ROW, TWO, X, X32, X8, nots, realistic
 from wire import ROOT, TRUE, between, binary, cast, contains, item, like, lit, many, merge, negated, node, null_test, pack, request, select, struct
@@ -580,23 +582,33 @@ TABLES = {
     "queries": QUERIES,
 }
 
-# rows of calls, a table for each subject
+# Tables whose rows are calls of one crate; the answers are worked out by hand, or by plain loops in the module that is named.
 ROWS = {
     "values": values.ROWS,
     "expressions": expressions.ROWS,
+    "words": words.ROWS,
+    "numbers": integers.NUMBERS,
+    "number_totals": integers.TOTALS,
+    "number_comparisons": integers.COMPARISONS,
 }
+
+
+def written(name, table, answers):
+    """Writes a table, and prints the line of it that vx_cases prints."""
+    with open(os.path.join(DATA, name + ".json"), "w", encoding="utf-8") as out:
+        json.dump(table, out, ensure_ascii=False, separators=(",", ":"))
+        out.write("\n")
+    print("%s.json: %d answers agree" % (name, answers))
 
 
 def main():
     os.makedirs(DATA, exist_ok=True)
-    for name, rows in ROWS.items():
-        write(name, rows)
-        print("%s.json: %d answers agree" % (name, len(rows)))
     for name, groups in TABLES.items():
         cases = [case for table in groups for case in table["cases"]]
         answers = sum(len(case) - len({"filter", "projection", "over", "query", "input"} & set(case)) for case in cases)
-        write(name, groups)
-        print("%s.json: %d answers agree" % (name, answers))
+        written(name, groups, answers)
+    for name, rows in ROWS.items():
+        written(name, rows, len(rows))
 
 
 if __name__ == "__main__":

@@ -1,2 +1,7 @@
 //! Tests of words, numbers and columns.
 #![tactic(auto)]
+
+#[cfg(test)]
+mod numbers_ample;
+#[cfg(test)]
+mod words_ample;
