@@ -2,7 +2,7 @@
 use crate::errors::CaseError;
 use crate::opening::{Opened, open_case};
 use crate::pruning::{pruning, required, ruled_out_blocks};
-use crate::queries::{read, read_and_written, written, written_dynamic};
+use crate::queries::{read, read_and_written, tokens, written, written_dynamic};
 use crate::scanning::{scan_failing, scan_of, scan_untold};
 use crate::subjects::Subject;
 use crate::tables::Case;
@@ -25,6 +25,7 @@ pub(crate) fn answer(
     subject: Subject,
 ) -> Result<String, CaseError> {
     match subject {
+        Subject::Tokens => Ok(tokens(alloc, case.query)?),
         Subject::Read => Ok(read(alloc, case.query)?),
         Subject::ReadAndWritten => Ok(read_and_written(alloc, case.query)?),
         Subject::Scan => scan_of(alloc, case),
@@ -114,7 +115,7 @@ fn child_names(alloc: Global, expr: &ExprRef) -> Mem<String> {
 }
 
 /// The hexadecimal digits of the bytes that an expression is written as.
-fn bytes_of(alloc: Global, expr: &ExprRef) -> Result<String, CaseError> {
+pub(crate) fn bytes_of(alloc: Global, expr: &ExprRef) -> Result<String, CaseError> {
     let tree = expr.serialize_proto(alloc)?;
     Ok(hex::encode(alloc, write_tree(alloc, &tree)?.as_slice())?)
 }

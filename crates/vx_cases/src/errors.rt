@@ -1,4 +1,5 @@
 // Why a case can't be tried.
+use hex::FromHexError;
 use serde_json::Error as JsonError;
 use std::alloc::{AllocError, AllocFailed};
 use thiserror::Error;
@@ -23,6 +24,9 @@ pub(crate) enum CaseError {
     /// The request of the case is refused.
     #[error("{0:?}")]
     Request(RequestError),
+    /// A text of the case is no hexadecimal digits of bytes.
+    #[error("no bytes")]
+    NoBytes,
     /// A text of the case is no expression.
     #[error("{0}")]
     Wire(WireError),
@@ -70,6 +74,17 @@ impl From<AllocError> for CaseError {
 impl From<JsonError> for CaseError {
     fn from(error: JsonError) -> CaseError {
         CaseError::Json(error)
+    }
+}
+
+impl From<FromHexError> for CaseError {
+    fn from(error: FromHexError) -> CaseError {
+        match error {
+            FromHexError::OutOfMemory => CaseError::NoMemory,
+            FromHexError::OddLength => CaseError::NoBytes,
+            FromHexError::InvalidHexCharacter { .. } => CaseError::NoBytes,
+            FromHexError::InvalidStringLength => CaseError::NoBytes,
+        }
     }
 }
 

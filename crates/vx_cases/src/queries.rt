@@ -3,6 +3,7 @@ use std::alloc::Global;
 use vx_dtype::{CompareOperator, DType, Mem, NoMemory, Nullability};
 use vx_expr::{DynamicComparisonExpr, ExprRef, NotExpr};
 use vx_text::{TextError, read_query, write_query};
+use vx_tokens::tokens_of;
 
 /// The compact text of the expression that a query names, or its refusal.
 pub(crate) fn read(alloc: Global, query: &str) -> Mem<String> {
@@ -10,6 +11,14 @@ pub(crate) fn read(alloc: Global, query: &str) -> Mem<String> {
         Ok(expr) => expr.compact(alloc),
         Err(TextError::NoMemory) => Err(NoMemory),
         Err(error) => Ok(format!(in alloc; "{error}")?),
+    }
+}
+
+/// The tokens of a query, or `None`.
+pub(crate) fn tokens(alloc: Global, query: &str) -> Mem<String> {
+    match tokens_of(alloc, query.as_bytes())? {
+        Some(tokens) => Ok(format!(in alloc; "{tokens:?}")?),
+        None => Ok(String::from_str(alloc, "None")?),
     }
 }
 

@@ -3,6 +3,8 @@
 /// A question about the expressions of a case.
 #[derive(Clone, Copy)]
 pub(crate) enum Subject {
+    /// The tokens of the query.
+    Tokens,
     /// The compact text of the expression that the query names, or its refusal.
     Read,
     /// The query that this expression is written as, or a refusal; and whether it is read as another expression.
@@ -54,7 +56,8 @@ pub(crate) enum Subject {
 }
 
 /// The members of a case that hold an answer, each with its question.
-pub(crate) const SUBJECTS: [(&str, Subject); 24] = [
+pub(crate) const SUBJECTS: [(&str, Subject); 25] = [
+    ("tokens", Subject::Tokens),
     ("read", Subject::Read),
     ("read_and_written", Subject::ReadAndWritten),
     ("written", Subject::Written),

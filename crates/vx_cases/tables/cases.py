@@ -16,15 +16,9 @@ import words
 from inputs import INPUTS
 from rows import ABOVE_TEN, EMPTY_LIST, NEXT, NEXT_POSITIVE, NULL_OR_LESS, PQ, PQ_ROW, TWO, X, X32, X8, nots, realistic
 from wire import ROOT, TRUE, between, binary, cast, contains, item, like, lit, many, merge, negated, node, null_test, pack, request, select, struct
+from wire_bytes import WIRE_BYTES
 
 DATA = os.path.join(os.path.dirname(os.path.dirname(os.path.abspath(__file__))), "data")
-
-
-def write(name, table):
-    """Writes a table."""
-    with open(os.path.join(DATA, name + ".json"), "w", encoding="utf-8") as out:
-        json.dump(table, out, ensure_ascii=False, separators=(",", ":"))
-        out.write("\n")
 
 
 def group(columns, blocks, *cases, stats=()):
@@ -446,12 +440,53 @@ SCANS = [
     group([("x", "i32?")], [[[1, None]], [[2]]], scanned(null_test(X), X, "rows null / skipped 1 / reads 0 x"), stats=[(["x"], "null_count", [1, 0])]),
 ]
 
+# Tokens: the longest that stands at each place, or none where a place has none.
+
+SIGNS = [("(", "RoundOpen"), (")", "RoundClose"), ("[", "SquareOpen"), ("]", "SquareClose"), ("{", "CurlyOpen"), ("}", "CurlyClose"), (",", "Comma"),
+         (":", "Colon"), (".", "Dot"), ("$", "Dollar"), ("?", "Question"), ("~", "Tilde"), ("+", "Plus"), ("-", "Minus"), ("=", "Eq"), ("!=", "NotEq"),
+         (">", "Gt"), (">=", "Gte"), ("<", "Lt"), ("<=", "Lte")]
+KEYWORDS = [("or", "Or"), ("and", "And"), ("not", "Not"), ("true", "True"), ("false", "False"), ("null", "Null"), ("lit", "Lit"), ("is_null", "IsNull"),
+            ("cast", "Cast"), ("contains", "Contains"), ("like", "Like"), ("not_like", "NotLike"), ("ilike", "Ilike"), ("not_ilike", "NotIlike"),
+            ("between", "Between"), ("between_oo", "BetweenOo"), ("between_oc", "BetweenOc"), ("between_co", "BetweenCo"), ("pack", "Pack"),
+            ("pack_null", "PackNull"), ("merge", "Merge"), ("merge_null", "MergeNull")]
+
+
+def held(kind, text, behind=""):
+    """A token that holds a text."""
+    return '%s(Text { text: "%s" }%s)' % (kind, text, behind)
+
+
+CUT = [
+    ("a>=not 'it''s' 10u8 \"o r\"",
+     [held("Word", "a"), "Mark(Gte)", "Reserved(Not)", held("Quote", "it's"), held("Number", "10", ", Some(U8)"), held("Quoted", "o r")]),
+    *[(sign, ["Mark(%s)" % name]) for sign, name in SIGNS],
+    *[(word, ["Reserved(%s)" % name]) for word, name in KEYWORDS],
+    *[("0" + t, [held("Number", "0", ", Some(%s)" % t.upper())]) for t in ["u8", "u16", "u32", "u64", "i8", "i16", "i32", "i64"]],
+    ("", []),
+    (" \t\n", []),
+    ("orx or_ Or", [held("Word", "orx"), held("Word", "or_"), held("Word", "Or")]),
+    ("12 0", [held("Number", "12", ", None"), held("Number", "0", ", None")]),
+    ("<==", ["Mark(Lte)", "Mark(Eq)"]),
+    (">>=", ["Mark(Gt)", "Mark(Gte)"]),
+    ("'''' \"\"", [held("Quote", "'"), held("Quoted", "")]),
+    ("--1", ["Mark(Minus)", "Mark(Minus)", held("Number", "1", ", None")]),
+    *[(text, None) for text in ["'a", "\"a", "007", "1u9", "12x", "!", "a # b", "é"]],
+]
+
 # Queries: what each rule and each call names, and what is refused.
 
 READ = [
     ("x > 10i32", "($.x > 10i32)"),
     ("a or b or c", "(($.a or $.b) or $.c)"),
     ("a or b and c", "($.a or ($.b and $.c))"),
+    ("a and b or c", "(($.a and $.b) or $.c)"),
+    ("a and b and c", "(($.a and $.b) and $.c)"),
+    ("a - b - c", "(($.a - $.b) - $.c)"),
+    ("a - (b - c)", "($.a - ($.b - $.c))"),
+    ("a + b > c - d", "(($.a + $.b) > ($.c - $.d))"),
+    ("a = b and c", "(($.a = $.b) and $.c)"),
+    ("a - b.c", "($.a - $.b.c)"),
+    ("not a = b or c", "((!($.a = $.b)) or $.c)"),
     ("not not a and b", "((!(!$.a)) and $.b)"),
     ("not a = b", "(!($.a = $.b))"),
     ("a + b - c <= d", "((($.a + $.b) - $.c) <= $.d)"),
@@ -486,10 +521,12 @@ READ = [
     ("(" * 2046 + "$.x" + ")" * 2046, "$.x"),
     ("(" * 4096, "BadQuery"),
     ("(" * 4097, "TooManyTokens"),
-    *[(text, "BadToken") for text in ["'a", "\"a", "007", "1u9", "12x", "a ! b", "é"]],
-    *[(text, "BadQuery") for text in ["", "1 +", "or", "a = b = c", "a{x,}", "is_null(a, b)", "between(300u8, a)", "lit(u8, 1u8)", "300u8 +"]],
-    *[(text, "BadValue") for text in ["300u8", "256u8", "-1u8", "9223372036854775808", "9" * 41, "lit(u8, null)", "lit({a: u8}, [1])"]],
+    *[(text, "BadToken") for text in ["'a", "\"a", "007", "01", "1u9", "12x", "a ! b", "a # b", "é"]],
+    *[(text, "BadQuery") for text in ["", "1 +", "or", "a b", "a = b = c", "a{x,}", "is_null(a, b)", "between(300u8, a)", "lit(u8, 1u8)", "300u8 +"]],
+    *[(text, "BadValue") for text in ["300u8", "256u8", "-1u8", "9223372036854775808", "18446744073709551616u64", "9" * 41]],
+    *[(text, "BadValue") for text in ["lit(u8, null)", "lit(bool, null)", "lit({a: u8}, [1])"]],
     ("x " * 4097, "TooManyTokens"),
+    ("not " * 4096 + "a", "TooManyTokens"),
     ("x " * 4096, "BadQuery"),
 ]
 
@@ -497,7 +534,7 @@ READ = [
 
 RESERVED = ["or", "and", "not", "true", "false", "null", "lit", "is_null", "cast", "contains", "like", "not_like", "ilike", "not_ilike",
             "between", "between_oo", "between_oc", "between_co", "pack", "pack_null", "merge", "merge_null"]
-WORDS = ["a", "_", "_1", "x9", "Or", "nots", "bool", "u8", "list", "i64"]
+WORDS = ["a", "a_1", "_", "_1", "x9", "Or", "nots", "bool", "u8", "list", "i64"]
 QUOTED = [("", ""), ("1a", "1a"), ("a b", "a b"), ("a\"b", "a\"\"b"), ("\"", "\"\""), ("it's", "it's"), ("é", "é"), ("a.b", "a.b"), ("x\n", "x\n")]
 MANY_FIELDS = pack(*(("f%d" % i, ROOT) for i in range(1025)))
 
@@ -532,12 +569,14 @@ WRITTEN = [
     (merge(A, nullable=True), "merge_null($.a)"),
     (select(A), "$.a{}"),
     (select(A, "x", "y z", "x"), "$.a{x, \"y z\", x}"),
+    (select(ROOT, "a", "b c"), "${a, \"b c\"}"),
     (select(select(A, exclude=True), "or", "x", exclude=True), "$.a~{}~{\"or\", x}"),
     (TRUE, "true"),
     (lit("bool", False), "false"),
     *[(lit(t, n), "%d%s" % (n, t)) for t, n in [("u8", 0), ("u16", 65535), ("u32", 10), ("u64", 18446744073709551615),
                                                 ("i8", -128), ("i16", -5), ("i32", 2147483647), ("i64", -9223372036854775808)]],
-    *[(lit("utf8", s), "'%s'" % inner) for s, inner in [("", ""), ("a", "a"), ("it's", "it''s"), ("'", "''"), ("a\"b é\n", "a\"b é\n")]],
+    *[(lit("utf8", s), "'%s'" % inner) for s, inner in [("", ""), ("a", "a"), ("it's", "it''s"), ("'", "''"), ("a\"b é\n", "a\"b é\n"),
+                                                        ("it's \"é\"", "it''s \"é\"")]],
     *[(lit(t + "?", None), "lit(%s?, null)" % t) for t in ["bool", "i32", "utf8"]],
     (lit("bool?", True), "lit(bool?, true)"),
     (lit("i8?", -5), "lit(i8?, -5)"),
@@ -565,8 +604,20 @@ READ_AND_WRITTEN = [
     ("merge()", "merge()"),
     ("merge_null()", "merge_null()"),
     ("pack_null()", "pack_null()"),
+    ("a", "$.a"),
+    ("\"or\" = 'it''s'", "($.\"or\" = 'it''s')"),
+    ("-5i8 <= a", "(-5i8 <= $.a)"),
+    ("lit(i64?, null)", "lit(i64?, null)"),
+    ("lit(i64?, 5)", "lit(i64?, 5)"),
+    ("lit({a: list(bool)}, {[true, false]})", "lit({a: list(bool)}, {[true, false]})"),
+    ("pack_null(a: $, b: merge($))", "pack_null(a: $, b: merge($))"),
+    ("between_oc(a, 1, 2)", "between_oc($.a, 1i64, 2i64)"),
+    ("not_ilike(a, 'x%')", "not_ilike($.a, 'x%')"),
+    ("cast(a, u8?){b, c}", "cast($.a, u8?){b, c}"),
+    ("$~{\"\"}", "$~{\"\"}"),
 ]
 QUERIES = [
+    group([], [], *[{"query": text, "tokens": "None" if told is None else "[%s]" % ", ".join(told)} for text, told in CUT]),
     group([], [], *[{"query": text, "read": told} for text, told in READ], *[{"query": text, "read_and_written": told} for text, told in READ_AND_WRITTEN]),
     group(X32, [[[]]], *[of(projection, written=told) for projection, told in WRITTEN], of(X, written_dynamic="NotWritable")),
 ]
@@ -590,6 +641,7 @@ ROWS = {
     "numbers": integers.NUMBERS,
     "number_totals": integers.TOTALS,
     "number_comparisons": integers.COMPARISONS,
+    "wire_bytes": WIRE_BYTES,
 }
 
 

@@ -1,4 +1,4 @@
-"""Inputs at the edges of what a request is, each with what a scan of it answers, worked out by hand. bench/cases.py writes them as cases.
+"""Inputs at the edges of what a request is, each with what a scan of it answers, worked out by hand. cases.py writes them as cases.
 
 An input is written as a text, since Python's numbers and objects hold less than JSON's. An answer is the refusal, or the scan's rows,
 the blocks that it skipped and its reads.
