@@ -6,6 +6,7 @@ use vx_column::ColumnError;
 use vx_dtype::NoMemory;
 use vx_request::RequestError;
 use vx_scan::{ScanError, TableError};
+use vx_text::TextError;
 use vx_wire::BuildError;
 use vx_wire_bytes::WireError;
 
@@ -39,6 +40,12 @@ pub(crate) enum CaseError {
     /// The table of the case has no block, or not the column that the expressions are to stand over.
     #[error("no rows")]
     NoRows,
+    /// A text of the row is no query.
+    #[error("{0}")]
+    Text(TextError),
+    /// The row asks what the call's arguments don't allow, or names no call.
+    #[error("not asked")]
+    NotAsked,
 }
 
 impl From<NoMemory> for CaseError {
@@ -74,5 +81,23 @@ impl From<WireError> for CaseError {
 impl From<BuildError> for CaseError {
     fn from(error: BuildError) -> CaseError {
         CaseError::Build(error)
+    }
+}
+
+impl From<TextError> for CaseError {
+    fn from(error: TextError) -> CaseError {
+        match error {
+            TextError::NoMemory => CaseError::NoMemory,
+            error => CaseError::Text(error),
+        }
+    }
+}
+
+impl From<ColumnError> for CaseError {
+    fn from(error: ColumnError) -> CaseError {
+        match error {
+            ColumnError::NoMemory => CaseError::NoMemory,
+            error => CaseError::Column(error),
+        }
     }
 }

@@ -9,6 +9,7 @@ vx_cases compares with those of the public calls. The bytes of expressions are m
 import json
 import os
 
+import columns
 from inputs import INPUTS
 from rows import ABOVE_TEN, EMPTY_LIST, NEXT, NEXT_POSITIVE, NULL_OR_LESS, PQ, PQ_ROW, TWO, X, X32, X8, nots, realistic
 from wire import ROOT, TRUE, between, binary, cast, contains, item, like, lit, many, merge, negated, node, null_test, pack, request, select, struct
@@ -565,16 +566,28 @@ TABLES = {
     "queries": QUERIES,
 }
 
+# Lists of calls, each with the answer that is wanted.
+
+ROWS = {
+    "columns": columns.ROWS,
+}
+
+
+def written(name, table, answers):
+    with open(os.path.join(DATA, name + ".json"), "w", encoding="utf-8") as out:
+        json.dump(table, out, ensure_ascii=False, separators=(",", ":"))
+        out.write("\n")
+    print("%s.json: %d answers agree" % (name, answers))
+
 
 def main():
     os.makedirs(DATA, exist_ok=True)
     for name, groups in TABLES.items():
         cases = [case for table in groups for case in table["cases"]]
         answers = sum(len(case) - len({"filter", "projection", "over", "query", "input"} & set(case)) for case in cases)
-        with open(os.path.join(DATA, name + ".json"), "w", encoding="utf-8") as out:
-            json.dump(groups, out, ensure_ascii=False, separators=(",", ":"))
-            out.write("\n")
-        print("%s.json: %d answers agree" % (name, answers))
+        written(name, groups, answers)
+    for name, rows in ROWS.items():
+        written(name, rows, len(rows))
 
 
 if __name__ == "__main__":

@@ -1,2 +1,5 @@
 //! Tests of words, numbers and columns.
 #![tactic(auto)]
+
+#[cfg(test)]
+mod columns_ample;
