@@ -139,7 +139,7 @@ fn values(alloc: Global, case: &Opened) -> Mem<String> {
 }
 
 /// The values of a column with ` / ` between.
-fn column_text(alloc: Global, column: &ColumnRef) -> Mem<String> {
+pub(crate) fn column_text(alloc: Global, column: &ColumnRef) -> Mem<String> {
     let mut text = String::new(alloc);
     for i in 0..column.len() {
         if i > 0 {

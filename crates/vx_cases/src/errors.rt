@@ -51,6 +51,12 @@ pub(crate) enum CaseError {
     /// The table of the case has no block, or not the column that the expressions are to stand over.
     #[error("no rows")]
     NoRows,
+    /// A text of the row is no query.
+    #[error("{0}")]
+    Text(TextError),
+    /// The row asks what the call's arguments don't allow, or names no call.
+    #[error("not asked")]
+    NotAsked,
 }
 
 impl From<NoMemory> for CaseError {
@@ -114,6 +120,15 @@ impl From<ExprError> for CaseError {
         match error {
             ExprError::NoMemory => CaseError::NoMemory,
             _ => CaseError::Expr(error),
+        }
+    }
+}
+
+impl From<ColumnError> for CaseError {
+    fn from(error: ColumnError) -> CaseError {
+        match error {
+            ColumnError::NoMemory => CaseError::NoMemory,
+            error => CaseError::Column(error),
         }
     }
 }

@@ -3,6 +3,8 @@
 #![tactic(auto)]
 
 mod answers;
+mod column_calls;
+mod column_values;
 mod columns;
 mod errors;
 mod expressions;

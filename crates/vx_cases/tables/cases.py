@@ -9,6 +9,7 @@ vx_cases compares with those of the public calls. The bytes of expressions are m
 import json
 import os
 
+import columns
 import expressions
 import integers
 import values
@@ -641,6 +642,7 @@ ROWS = {
     "numbers": integers.NUMBERS,
     "number_totals": integers.TOTALS,
     "number_comparisons": integers.COMPARISONS,
+    "columns": columns.ROWS,
     "wire_bytes": WIRE_BYTES,
 }
 

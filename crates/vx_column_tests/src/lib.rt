@@ -2,6 +2,8 @@
 #![tactic(auto)]
 
 #[cfg(test)]
+mod columns_ample;
+#[cfg(test)]
 mod numbers_ample;
 #[cfg(test)]
 mod words_ample;
