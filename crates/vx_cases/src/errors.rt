@@ -51,12 +51,6 @@ pub(crate) enum CaseError {
     /// The table of the case has no block, or not the column that the expressions are to stand over.
     #[error("no rows")]
     NoRows,
-    /// A text of the row is no query.
-    #[error("{0}")]
-    Text(TextError),
-    /// The row asks what the call's arguments don't allow, or names no call.
-    #[error("not asked")]
-    NotAsked,
 }
 
 impl From<NoMemory> for CaseError {
@@ -120,15 +114,6 @@ impl From<ExprError> for CaseError {
         match error {
             ExprError::NoMemory => CaseError::NoMemory,
             _ => CaseError::Expr(error),
-        }
-    }
-}
-
-impl From<ColumnError> for CaseError {
-    fn from(error: ColumnError) -> CaseError {
-        match error {
-            ColumnError::NoMemory => CaseError::NoMemory,
-            error => CaseError::Column(error),
         }
     }
 }

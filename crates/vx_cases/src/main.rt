@@ -3,12 +3,8 @@
 #![tactic(auto)]
 
 mod answers;
-mod column_calls;
-mod column_values;
-mod columns;
 mod errors;
 mod expressions;
-mod numbers;
 mod opening;
 mod pruning;
 mod queries;
@@ -19,7 +15,6 @@ mod tables;
 mod untold_store;
 mod values;
 mod wire_bytes;
-mod words;
 
 use rows::{Rows, try_rows};
 use std::fs;
@@ -38,14 +33,9 @@ const TABLES: [&str; 8] = [
 ];
 
 /// The files of data/ whose rows are calls of one crate, with what they ask.
-const ROWS: [(&str, Rows); 8] = [
+const ROWS: [(&str, Rows); 3] = [
     ("values.json", Rows::Values),
     ("expressions.json", Rows::Expressions),
-    ("words.json", Rows::Words),
-    ("numbers.json", Rows::Numbers),
-    ("number_totals.json", Rows::Numbers),
-    ("number_comparisons.json", Rows::Numbers),
-    ("columns.json", Rows::Columns),
     ("wire_bytes.json", Rows::WireBytes),
 ];
 

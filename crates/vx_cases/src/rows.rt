@@ -1,7 +1,7 @@
 // Tables of calls as JSON: a list of rows, each of which names a call and holds its arguments and the answer that is wanted.
 use crate::errors::CaseError;
 use crate::tables::{Tried, list_of};
-use crate::{columns, expressions, numbers, values, wire_bytes, words};
+use crate::{expressions, values, wire_bytes};
 use serde_json::Value;
 use std::alloc::Global;
 
@@ -12,12 +12,6 @@ pub(crate) enum Rows {
     Values,
     /// Expressions and their constructors.
     Expressions,
-    /// Words of bits and lists of truths.
-    Words,
-    /// Lists of integers.
-    Numbers,
-    /// Columns.
-    Columns,
     /// Wire texts.
     WireBytes,
 }
@@ -48,9 +42,6 @@ fn answer_to(alloc: Global, row: &Value, rows: Rows) -> Result<String, CaseError
     match rows {
         Rows::Values => values::answer(alloc, row),
         Rows::Expressions => expressions::answer(alloc, row),
-        Rows::Words => words::answer(alloc, row),
-        Rows::Numbers => numbers::answer(alloc, row),
-        Rows::Columns => columns::answer(alloc, row),
         Rows::WireBytes => wire_bytes::answer(alloc, row),
     }
 }

@@ -9,11 +9,8 @@ vx_cases compares with those of the public calls. The bytes of expressions are m
 import json
 import os
 
-import columns
 import expressions
-import integers
 import values
-import words
 from inputs import INPUTS
 from rows import ABOVE_TEN, EMPTY_LIST, NEXT, NEXT_POSITIVE, NULL_OR_LESS, PQ, PQ_ROW, TWO, X, X32, X8, nots, realistic
 from wire import ROOT, TRUE, between, binary, cast, contains, item, like, lit, many, merge, negated, node, null_test, pack, request, select, struct
@@ -634,15 +631,10 @@ TABLES = {
     "queries": QUERIES,
 }
 
-# Tables whose rows are calls of one crate; the answers are worked out by hand, or by plain loops in the module that is named.
+# Tables whose rows are calls of one crate; the answers are worked out by hand in the module that is named.
 ROWS = {
     "values": values.ROWS,
     "expressions": expressions.ROWS,
-    "words": words.ROWS,
-    "numbers": integers.NUMBERS,
-    "number_totals": integers.TOTALS,
-    "number_comparisons": integers.COMPARISONS,
-    "columns": columns.ROWS,
     "wire_bytes": WIRE_BYTES,
 }
 

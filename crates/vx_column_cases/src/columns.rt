@@ -2,7 +2,6 @@
 ghost use Rattle.std.specs.Prelude.{◌≡◌, ◌<◌, length};
 ghost use Rattle.vx_dtype.specs.TypeRules.{is_bool_ty};
 
-use crate::answers::column_text;
 use crate::column_calls::all_made;
 use crate::errors::CaseError;
 use crate::rows::text_in;
@@ -10,6 +9,7 @@ use serde_json::Value;
 use std::alloc::Global;
 use std::hash::{DefaultHasher, Hash, Hasher};
 use vx_column::ColumnRef;
+use vx_display::row_text;
 use vx_dtype::Mem;
 use vx_typing::is_bool;
 
@@ -50,6 +50,19 @@ fn of_column(alloc: Global, call: &str, column: &ColumnRef) -> Result<String, Ca
 fn typed_text(alloc: Global, column: &ColumnRef) -> Mem<String> {
     let rows = column_text(alloc, column)?;
     Ok(format!(in alloc; "{}: {rows}", column.dtype())?)
+}
+
+/// The values of a column with ` / ` between.
+fn column_text(alloc: Global, column: &ColumnRef) -> Mem<String> {
+    let mut text = String::new(alloc);
+    for i in 0..column.len() {
+        if i > 0 {
+            text.push_str(" / ")?;
+        }
+        let scalar = column.scalar_at(alloc, i)?;
+        text.push_str(row_text(alloc, scalar.dtype(), scalar.value())?.as_str())?;
+    }
+    Ok(text)
 }
 
 /// Whether the value isn't null, row by row.
