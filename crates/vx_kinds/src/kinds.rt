@@ -146,9 +146,9 @@ impl VTable for CastVTable {
 
 /// The kind of comparisons with the value of a slot.
 #[derive(Debug)]
-pub struct DynamicVTable;
+pub struct DynamicComparisonVTable;
 
-impl VTable for DynamicVTable {
+impl VTable for DynamicComparisonVTable {
     type Expr = DynamicComparisonExpr;
 
     ghost kind = { encodings.Dynamic };

@@ -6,9 +6,9 @@ use vx_dtype::{CompareOperator, DType, Mem, Nullability, PType, Scalar};
 use vx_eval::Scope;
 use vx_expr::{DynamicComparisonExpr, ExprRef, VortexExpr};
 use vx_kinds::{
-    AsKind, BetweenVTable, BinaryVTable, CastVTable, DynamicVTable, GetItemVTable, IsNullVTable,
-    LikeVTable, ListContainsVTable, LiteralVTable, MergeVTable, NotVTable, OfKind, PackVTable,
-    RootVTable, SelectVTable, VTable, VTableEval, VTableWire,
+    AsKind, BetweenVTable, BinaryVTable, CastVTable, DynamicComparisonVTable, GetItemVTable,
+    IsNullVTable, LikeVTable, ListContainsVTable, LiteralVTable, MergeVTable, NotVTable, OfKind,
+    PackVTable, RootVTable, SelectVTable, VTable, VTableEval, VTableWire,
 };
 use vx_text::read_query;
 use vx_wire::{BuildError, WireError, encoding};
@@ -242,8 +242,8 @@ fn six_kinds_are_written(rt: HostRuntime) -> Result<(), Fail> {
 fn dynamic_comparisons_are_viewed_and_evaluated(rt: HostRuntime) -> Result<(), Fail> {
     let alloc = rt.alloc();
     let expr = dynamic(alloc)?;
-    assert!(rt; is_viewed::<DynamicVTable>(alloc, &expr, "dynamic", 1));
-    assert!(rt; gives::<DynamicVTable>(alloc, &expr, &Scalar::from(true)));
+    assert!(rt; is_viewed::<DynamicComparisonVTable>(alloc, &expr, "dynamic", 1));
+    assert!(rt; gives::<DynamicComparisonVTable>(alloc, &expr, &Scalar::from(true)));
     Ok(())
 }
 
@@ -251,12 +251,12 @@ fn dynamic_comparisons_are_viewed_and_evaluated(rt: HostRuntime) -> Result<(), F
 fn dynamic_comparisons_are_neither_written_nor_built(rt: HostRuntime) -> Result<(), Fail> {
     let alloc = rt.alloc();
     let expr = dynamic(alloc)?;
-    let Some(node) = expr.as_opt::<DynamicVTable>() else {
+    let Some(node) = expr.as_opt::<DynamicComparisonVTable>() else {
         assert!(rt; false);
         return Ok(());
     };
-    assert!(rt; DynamicVTable::metadata(node, alloc) == Err(WireError::NotSerializable));
-    assert!(rt; refuses::<DynamicVTable>(alloc));
+    assert!(rt; DynamicComparisonVTable::metadata(node, alloc) == Err(WireError::NotSerializable));
+    assert!(rt; refuses::<DynamicComparisonVTable>(alloc));
     Ok(())
 }
 
