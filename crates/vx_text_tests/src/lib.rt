@@ -1,6 +1,8 @@
-//! Tests of the wire form and queries, a module for each crate: what no row of a table can hold.
+//! Tests of the wire form and queries.
 #![tactic(auto)]
 
+#[cfg(test)]
+mod kinds;
 #[cfg(test)]
 mod text;
 #[cfg(test)]

@@ -19,7 +19,8 @@ pub use laws::{
     written_is_read_and_built_again,
 };
 pub use registries::{ExprRegistry, ExprRegistryExt};
-pub use serializing::ExprSerializeProtoExt;
+pub use serializing::{ExprSerializeProtoExt, is_node_serializable};
+pub use spelling::metadata_of;
 pub use vx_wire_bytes::{
     LONG, WireError, WireTree, has_short_names, has_short_texts, no_text_begins_another, one_limit,
     one_tree, read_number, read_text, read_tree, read_type, read_value, write_number, write_text,

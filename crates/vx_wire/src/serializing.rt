@@ -23,8 +23,8 @@ fn is_shallow(dtype: &DType) -> bool
     dtype.depth() <= MOST_DEEP
 }
 
-/// Whether a node is of a kind that is written, with no type that is too deep.
-fn is_node_serializable(expr: &ExprRef) -> bool
+/// Whether a node is of a kind that is written, with no type of its own deeper than 64, whatever stands below it.
+pub fn is_node_serializable(expr: &ExprRef) -> bool
     ensures { Decides result (IsSerializable expr.now) }
 {
     match expr.expr() {

@@ -142,8 +142,10 @@ fn named_bytes(
     Ok(out)
 }
 
-/// The metadata of a node.
-pub(crate) fn metadata_of(alloc: Global, expr: &ExprRef) -> Result<Vec<u8>, WireError>
+/// The metadata of a node, whatever stands below it.
+///
+/// Refuses with TooLong exactly where a text or a list in it has 2^32 or more.
+pub fn metadata_of(alloc: Global, expr: &ExprRef) -> Result<Vec<u8>, WireError>
     requires { IsSerializable expr.now }
     ensures ok { IfOk result (λ bytes. IsWritten expr.now × (bytes.items ≡ metadata_bytes expr.now)) }
     ensures err { IfErr result (IsUnwrittenLong (HasShortMetadata expr.now)) }

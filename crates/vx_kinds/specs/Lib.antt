@@ -1,0 +1,13 @@
+pub mod Picking
+pub mod Refusals
+pub use Rattle.vx_dtype.specs.TypeViews
+pub use Rattle.vx_expr.specs.Trees
+pub use Rattle.vx_expr.specs.Children
+pub use Rattle.vx_expr.specs.Answers
+pub use Rattle.vx_semantics.specs.LooseTyping
+pub use Rattle.vx_typing.specs.TypingAnswers
+pub use Rattle.vx_eval.specs.Scopes
+pub use Rattle.vx_eval.specs.Evaluating
+pub use Rattle.vx_wire.specs.Encodings
+pub use Rattle.vx_wire.specs.Metadata
+pub use Rattle.vx_wire.specs.Building
