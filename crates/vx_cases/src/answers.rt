@@ -128,12 +128,13 @@ fn type_text(alloc: Global, answer: Result<DType, TypeError>) -> Mem<String> {
     }
 }
 
-/// The values of the projection over the first block, or why there are none.
+/// The values of the projection over the first block, or why there are none: of a refusal of typing its own name.
 fn values(alloc: Global, case: &Opened) -> Mem<String> {
     let scope = Scope::new(case.rows.clone()?);
     match case.projection.evaluate(alloc, &scope) {
         Ok(column) => column_text(alloc, &column),
         Err(EvalError::NoMemory) => Err(NoMemory),
+        Err(EvalError::Typing(error)) => Ok(format!(in alloc; "{error}")?),
         Err(error) => Ok(format!(in alloc; "{error}")?),
     }
 }

@@ -14,3 +14,4 @@ pub mod Sizes
 pub mod RowValues
 pub mod Splits
 pub mod Connectives
+pub use Rattle.vx_words.specs.Words

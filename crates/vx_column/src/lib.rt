@@ -29,3 +29,4 @@ pub use errors::ColumnError;
 pub use likes::like;
 pub use logic::{and_kleene, invert, is_null, or_kleene};
 pub use sums::{checked_add, checked_sub};
+pub use vx_words::{and_words, not_words, or_words};

@@ -7,7 +7,7 @@ use std::fmt;
 use vx_dtype::{FieldName, FieldNames};
 
 /// Names that print as they are, with `, ` between any two.
-#[derive(Clone, Copy)]
+#[derive(Clone, Copy, Debug)]
 pub struct DisplayFieldNames<'a>(pub &'a FieldNames);
 
 impl<'a> fmt::Display for DisplayFieldNames<'a> {

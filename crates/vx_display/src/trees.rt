@@ -14,7 +14,7 @@ use vx_expr::{DisplayAs, DisplayFormat, Expr, ExprRef, VortexExpr};
 
 /// An expression that prints as a tree: the node at its head in a line, and its children in order below it, each behind a branch,
 /// with its name where the kind names its children.
-#[derive(Clone, Copy)]
+#[derive(Clone, Copy, Debug)]
 pub struct DisplayTreeExpr<'a>(pub &'a ExprRef);
 
 impl<'a> fmt::Display for DisplayTreeExpr<'a> {

@@ -14,7 +14,7 @@ pub enum EvalError {
     #[error("NoMemory")]
     NoMemory,
     /// The expression has no type over the rows, or the slot of a comparison doesn't fit. Never holds want of memory.
-    #[error("{0}")]
+    #[error("Typing")]
     Typing(TypeError),
     /// A sum or difference has no value at a row at which its operands have one.
     #[error("Overflow")]

@@ -2,7 +2,7 @@
 ghost use Rattle.std.specs.Prelude.{◌≡◌, length, [], IfOk};
 ghost use Rattle.vx_eval.specs.Scopes.{scope_rows, scope_slots, empty_rows};
 
-use std::alloc::Global;
+use std::alloc::{AllocError, Global};
 use vx_column::{ColumnError, ColumnRef};
 use vx_dtype::{FieldNames, Mem, NoMemory, Scalar};
 
@@ -69,6 +69,28 @@ impl Scope {
             None => &[],
         }
     }
+}
+
+impl Clone for Scope {
+    ghost is_clone = { λ scope copy. (scope_rows copy ≡ scope_rows scope) × (scope_slots copy ≡ scope_slots scope) };
+
+    fn clone(&self) -> Result<Scope, AllocError> {
+        let root = self.root.clone()?;
+        match &self.slots {
+            Some(slots) => Ok(Scope {
+                root,
+                slots: Some(copied(slots)?),
+            }),
+            None => Ok(Scope { root, slots: None }),
+        }
+    }
+}
+
+/// The slots again.
+fn copied(slots: &Vec<Option<Scalar>>) -> Result<Vec<Option<Scalar>>, AllocError>
+    ensures { IfOk result (λ copy. copy.items ≡ slots.now.items) }
+{
+    slots.clone()
 }
 
 impl From<ColumnRef> for Scope {

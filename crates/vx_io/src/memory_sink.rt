@@ -11,7 +11,7 @@ use vx_dtype::Mem;
 
 /// Memory as a sink that takes at most so many bytes a call and so many in all, and fails at the calls whose numbers
 /// are listed. Its room is reserved when it is made, so a write takes no memory.
-#[derive(Drop)]
+#[derive(Debug, Drop)]
 pub struct MemorySink {
     bytes: Vec<u8>,
     room: usize,

@@ -8,7 +8,7 @@ use crate::sources::{ReadFailed, Source};
 use std::marker::Model;
 
 /// Bytes in memory as a source that gives at most so many a call, and fails at the calls whose numbers are listed.
-#[derive(Drop)]
+#[derive(Debug, Drop)]
 pub struct MemorySource {
     bytes: Vec<u8>,
     at: usize,

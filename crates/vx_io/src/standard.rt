@@ -3,6 +3,7 @@ ghost use Rattle.std.specs.Prelude.{◌≡◌, ◌≤◌, length, None, IfSome};
 
 use crate::sinks::{Sink, WriteFailed};
 use crate::sources::{ReadFailed, Source};
+use std::fmt;
 use std::io::{Read, Stdin, Stdout, Write};
 
 /// Standard input as a source. It tells no bytes, and counts its errors.
@@ -18,6 +19,24 @@ pub struct StdinSource {
 pub struct StdoutSink {
     stdout: Stdout,
     faults: u64,
+}
+
+/// Without the end itself, which has no text.
+impl fmt::Debug for StdinSource {
+    fn fmt<W: fmt::Write>(&self, f: &mut fmt::Formatter<W>) -> fmt::Result {
+        f.debug_struct("StdinSource")
+            .field("faults", &self.faults)
+            .finish_non_exhaustive()
+    }
+}
+
+/// Without the end itself, which has no text.
+impl fmt::Debug for StdoutSink {
+    fn fmt<W: fmt::Write>(&self, f: &mut fmt::Formatter<W>) -> fmt::Result {
+        f.debug_struct("StdoutSink")
+            .field("faults", &self.faults)
+            .finish_non_exhaustive()
+    }
 }
 
 impl StdinSource {

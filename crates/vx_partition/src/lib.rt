@@ -4,6 +4,7 @@
 mod annotating;
 mod annotation;
 mod annotations;
+mod numbered;
 mod numbers;
 mod partitions;
 mod scope_access;
@@ -16,6 +17,7 @@ pub use annotating::descendent_annotations;
 pub use annotation::{Annotation, AnnotationFn};
 pub use annotations::Annotations;
 pub use scope_access::{
-    ScopeAccess, annotate_scope_access, immediate_scope_access, immediate_scope_accesses,
+    FieldAccesses, ScopeAccess, annotate_scope_access, immediate_scope_access,
+    immediate_scope_accesses,
 };
 pub use splitting::{PartitionedExpr, partition};

@@ -22,7 +22,7 @@ use vx_partition::PartitionedExpr;
 
 /// An expression over the rows of a table that is ready to be evaluated block by block, over the columns that it asks alone: its parts,
 /// each of which touches one column, and a root that puts together what the parts give.
-#[derive(Drop)]
+#[derive(Debug, Drop)]
 pub struct PreparedExpr {
     dtype: DType,
     columns: FieldNames,

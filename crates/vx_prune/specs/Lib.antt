@@ -8,3 +8,7 @@ pub use Rattle.vx_passes.specs.Catalogs
 pub use Rattle.vx_passes.specs.Falsifying
 pub use Rattle.vx_passes.specs.PruningTables
 pub use Rattle.vx_semantics.specs.Paths
+pub use Rattle.vx_semantics.specs.Tables
+pub use Rattle.vx_zones.specs.Zoning
+pub use Rattle.vx_zones.specs.ZoneViews
+pub use Rattle.vx_zones.specs.ZoneAnswers

@@ -19,3 +19,4 @@ pub use catalogs::{ScopeStatsCatalog, StatsCatalog, TrackingStatsCatalog};
 pub use joined_names::field_path_stat_field_name;
 pub use pruning::checked_pruning_expr;
 pub use relations::{Relation, RequiredStats, is_required};
+pub use vx_zones::{Scalars, ZoneError, ZoneMap, ZoneStat};

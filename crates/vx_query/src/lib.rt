@@ -34,3 +34,4 @@ pub use refusal_causes::{
 };
 pub use reports::report_text;
 pub use running::run;
+pub use vx_io::{Sink, Source};

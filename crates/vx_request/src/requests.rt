@@ -23,7 +23,7 @@ pub const MOST_BYTES: usize = 16777216;
 
 /// What a request holds: a scan of the zones of a table and the columns of its blocks, with the bytes of the filter
 /// and of the projection.
-#[derive(Drop)]
+#[derive(Debug, Drop)]
 pub struct ScanRequest {
     /// The zones of the table.
     pub zones: ZoneMap,

@@ -17,7 +17,7 @@ use vx_dtype::FieldName;
 use vx_zones::ZoneMap;
 
 /// The columns of a table in memory as a store that tells it, and that fails at the reads whose numbers are listed.
-#[derive(Drop)]
+#[derive(Debug, Drop)]
 pub struct MemoryStore {
     zones: ZoneMap,
     blocks: Vec<Vec<ColumnRef>>,

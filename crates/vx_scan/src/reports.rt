@@ -6,7 +6,7 @@ use std::marker::Model;
 use vx_dtype::{DType, FieldNames, ScalarValue};
 
 /// The values of rows, in order. They are seen as the list of their raw values.
-#[derive(Drop)]
+#[derive(Debug, Drop)]
 pub struct RowValues {
     values: Vec<ScalarValue>,
 }
@@ -42,7 +42,7 @@ impl RowValues {
 }
 
 /// The numbers of blocks, in order. They are seen as a list.
-#[derive(Drop)]
+#[derive(Debug, Drop)]
 pub struct BlockNumbers {
     numbers: Vec<u32>,
 }
@@ -73,7 +73,7 @@ impl BlockNumbers {
 
 /// What a scan reports: the projection's type, its value at each row at which the filter is true, the blocks that were
 /// kept and those that the statistics ruled out, and the columns that the filter and the projection ask, in table order.
-#[derive(Drop)]
+#[derive(Debug, Drop)]
 pub struct ScanReport {
     pub dtype: DType,
     pub rows: RowValues,

@@ -1,4 +1,4 @@
-//! Tests of ends, requests, scans and the program, a module for what is tested.
+//! Tests of requests, scans and the program.
 #![tactic(auto)]
 
 #[cfg(test)]
@@ -11,3 +11,5 @@ mod requests;
 mod running;
 #[cfg(test)]
 mod scanning;
+#[cfg(test)]
+mod surface;

@@ -11,7 +11,7 @@ use std::fmt;
 use vx_dtype::FieldName;
 
 /// A text that prints between `'`, each `'` in it twice: `'it''s'`. Fails only where the writer does.
-#[derive(Clone, Copy)]
+#[derive(Clone, Copy, Debug)]
 pub struct Quote<'a>(pub &'a str);
 
 impl<'a> fmt::Display for Quote<'a> {
@@ -24,7 +24,7 @@ impl<'a> fmt::Display for Quote<'a> {
 
 /// A name that prints as a word where it can be one, else between `"`, each `"` in it twice: `a_1`, `"or"`, `"a b"`.
 /// Fails only where the writer does.
-#[derive(Clone, Copy)]
+#[derive(Clone, Copy, Debug)]
 pub struct Name<'a>(pub &'a str);
 
 impl<'a> fmt::Display for Name<'a> {
@@ -36,7 +36,7 @@ impl<'a> fmt::Display for Name<'a> {
 }
 
 /// Names that print as [`Name`] does, with `, ` between any two: `a, "b c"`. Fails only where the writer does.
-#[derive(Clone, Copy)]
+#[derive(Clone, Copy, Debug)]
 pub struct Names<'a>(pub &'a [FieldName]);
 
 impl<'a> fmt::Display for Names<'a> {

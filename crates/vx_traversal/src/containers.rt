@@ -35,6 +35,7 @@ pub trait ElementMapper<M, T> {
 }
 
 /// The calls of a closure.
+#[derive(Debug)]
 pub struct ByCall;
 
 impl<T, E, F: FnMut(T) -> Walk<Transformed<T>, E>> ElementMapper<ByCall, T> for F {
@@ -227,7 +228,7 @@ impl<'a, T: 'a, C: NodeContainer<'a, T> + CloneContainer<T> + 'a> NodeContainer<
 }
 
 /// A place between two elements of a pair.
-#[derive(Drop)]
+#[derive(Debug, Drop)]
 pub struct PairCursor<K> {
     in_second: bool,
     inner: K,
@@ -288,7 +289,7 @@ fn paired<C>(first: Transformed<C>, second: Transformed<C>) -> Transformed<(C, C
 }
 
 /// A place between two elements of the containers of a vector.
-#[derive(Drop)]
+#[derive(Debug, Drop)]
 pub struct EachCursor<K> {
     index: usize,
     inner: K,

@@ -7,7 +7,7 @@ ghost use Rattle.vx_wire.specs.declared.encodings.ExprEncoding.{ExprEncoding};
 use crate::encodings::{ExprEncoding, kind_of_name};
 
 /// Which kinds of expressions are built from wire trees.
-#[derive(Drop)]
+#[derive(Debug, Drop)]
 pub struct ExprRegistry {
     /// Whether each kind is held, in the order of the names.
     held: [bool; 14],

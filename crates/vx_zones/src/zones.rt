@@ -15,7 +15,7 @@ use vx_dtype::{
 };
 
 /// Scalars in order. They are seen as the list of their values beside their types.
-#[derive(Drop)]
+#[derive(Debug, Drop)]
 pub struct Scalars {
     values: Vec<Scalar>,
 }
@@ -57,7 +57,7 @@ impl Scalars {
 }
 
 /// One statistic of one path: its value in each block.
-#[derive(Drop)]
+#[derive(Debug, Drop)]
 pub struct ZoneStat {
     /// The path from a column on.
     pub path: FieldPath,
@@ -69,7 +69,7 @@ pub struct ZoneStat {
 
 /// The statistics of a table: its columns, the number of rows of each block, and the statistics. They break no rule that
 /// [`ZoneError`] tells of.
-#[derive(Drop)]
+#[derive(Debug, Drop)]
 pub struct ZoneMap {
     dtype: DType,
     lengths: Vec<u32>,
@@ -143,7 +143,8 @@ impl ZoneMap {
         self.stats.as_slice()
     }
 
-    /// The paths that stand for the statistics: of each its path with its name at the end, in order.
+    /// The paths that stand for the statistics: of each its path with its name at the end, in order. Those of one joined name are listed
+    /// too, as `a`, `b` beside `a_b`: a catalog over these paths answers none of them, since their columns would have one name.
     pub fn available(&self, alloc: Global) -> Mem<FieldPathSet>
         ensures { IfOk result (λ paths. paths ≡ statistic_paths self.now.stats) }
     {
