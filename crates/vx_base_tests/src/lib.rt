@@ -1,4 +1,5 @@
-//! Tests of types, expressions, constructors, displays and walks: what stands in no table of vx_cases.
+//! Tests of types, expressions, constructors, displays and walks: what stands in no table of vx_cases. And each name of the public surface,
+//! imported from the crate that has it.
 #![tactic(auto)]
 
 #[cfg(test)]
@@ -23,5 +24,7 @@ mod ones;
 mod readme;
 #[cfg(test)]
 mod samples;
+#[cfg(test)]
+mod surface;
 #[cfg(test)]
 mod zeros;

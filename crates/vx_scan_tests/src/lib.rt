@@ -11,5 +11,3 @@ mod requests;
 mod running;
 #[cfg(test)]
 mod scanning;
-#[cfg(test)]
-mod surface;
