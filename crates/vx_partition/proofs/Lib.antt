@@ -1,7 +1,6 @@
 mod NumberLemmas
 mod TableLemmas
 mod EntryLemmas
-mod KeyLemmas
 mod VisitLemmas
 mod ScopeLemmas
 mod ShareLemmas

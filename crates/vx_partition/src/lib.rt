@@ -4,7 +4,6 @@
 mod annotating;
 mod annotation;
 mod annotations;
-mod numbered;
 mod numbers;
 mod partitions;
 mod scope_access;
