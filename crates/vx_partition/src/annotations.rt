@@ -14,7 +14,7 @@ use vx_dtype::Mem;
 use vx_expr::ExprRef;
 
 /// An expression and the set of its annotations.
-#[derive(Drop)]
+#[derive(Debug, Drop)]
 pub(crate) struct Annotated<A> {
     expr: ExprRef,
     annotations: Vec<A>,
@@ -22,7 +22,7 @@ pub(crate) struct Annotated<A> {
 
 /// Expressions and the set of annotations of each, in the order in which they came. Equal expressions share an entry, which stands under
 /// their number.
-#[derive(Drop)]
+#[derive(Debug, Drop)]
 pub struct Annotations<A> {
     pub(crate) numbers: Numbers,
     entries: IndexMap<usize, Annotated<A>>,

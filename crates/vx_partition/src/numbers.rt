@@ -13,7 +13,7 @@ use vx_expr::{ExprRef, LiteralExpr, VortexExpr};
 use vx_transform::with_these;
 
 /// An expression and the numbers of its children.
-#[derive(Drop)]
+#[derive(Debug, Drop)]
 pub(crate) struct Numbered {
     expr: ExprRef,
     below: Vec<usize>,
@@ -21,7 +21,7 @@ pub(crate) struct Numbered {
 
 /// Expressions by number, counted from 0 in the order in which they came. Equal expressions have the same number. Each stands under its
 /// node with the numbers of its children in the children's place, so that the node alone is hashed and compared, and nothing below it.
-#[derive(Drop)]
+#[derive(Debug, Drop)]
 pub(crate) struct Numbers {
     nodes: IndexMap<ExprRef, Numbered>,
 }

@@ -20,7 +20,7 @@ pub type FieldAccesses = Annotations<FieldName>;
 
 /// The rule that annotates a node by the columns of a scope that it touches itself: a field of the row by its name, the row by all of
 /// the scope's names, and any other node by none.
-#[derive(Drop)]
+#[derive(Debug, Drop)]
 pub struct ScopeAccess<'a> {
     scope: &'a StructFields,
 }

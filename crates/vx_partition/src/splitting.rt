@@ -19,7 +19,7 @@ use vx_transform::{TransformError, simplify_typed};
 
 /// An expression in parts: the root, which reads the fields that the partitions give, and for each annotation, in order of first use,
 /// the partition's expression, the name of its field in the root's scope, its type and the annotation.
-#[derive(Drop)]
+#[derive(Debug, Drop)]
 pub struct PartitionedExpr<A> {
     pub root: ExprRef,
     pub partitions: Vec<ExprRef>,

@@ -38,7 +38,7 @@ pub trait StatsCatalog {
 }
 
 /// The catalog that answers every statistic: its column of a row of statistics, under its joined name.
-#[derive(Drop)]
+#[derive(Debug, Drop)]
 pub struct TrackingStatsCatalog {
     asked: Vec<(FieldPath, Stat)>,
 }
@@ -81,7 +81,7 @@ impl StatsCatalog for TrackingStatsCatalog {
 
 /// The catalog that answers the statistics of a set of paths: a statistic is available where its path, with its name behind, is in
 /// the set, and no other path of the set has the same joined name.
-#[derive(Drop)]
+#[derive(Debug, Drop)]
 pub struct ScopeStatsCatalog<'a> {
     available: &'a FieldPathSet,
     asked: Vec<(FieldPath, Stat)>,

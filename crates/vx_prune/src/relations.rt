@@ -11,7 +11,7 @@ use std::hash::Hash;
 use vx_dtype::{FieldPath, Mem, Stat};
 
 /// A relation between keys and values: a map from each key to the set of values that stand beside it.
-#[derive(Drop)]
+#[derive(Debug, Drop)]
 pub struct Relation<K: Eq + Hash, V: Eq + Hash> {
     map: HashMap<K, HashSet<V>>,
 }
