@@ -20,12 +20,9 @@ pub(crate) fn all_made(
     levels: usize,
     words: &Value,
 ) -> Result<Vec<ColumnRef>, CaseError> {
-    if levels == 0 {
-        return Err(CaseError::NotAsked);
-    }
     let mut columns = Vec::new(alloc);
     for part in list_in(words, "of") {
-        columns.push(made(alloc, levels - 1, part)?)?;
+        columns.push(made(alloc, levels, part)?)?;
     }
     Ok(columns)
 }
@@ -33,7 +30,10 @@ pub(crate) fn all_made(
 /// The column that words tell.
 #[cycle(made)]
 fn made(alloc: Global, levels: usize, words: &Value) -> Result<ColumnRef, CaseError> {
-    let columns = all_made(alloc, levels, words)?;
+    if levels == 0 {
+        return Err(CaseError::NotAsked);
+    }
+    let columns = all_made(alloc, levels - 1, words)?;
     if text_in(words, "call") == "struct" {
         return structs(alloc, words, columns);
     }

@@ -157,16 +157,29 @@ fn on_pair(alloc: Global, row: &Value, call: OnPair) -> Mem<String> {
     if left.len() != right.len() {
         return not_asked(alloc);
     }
+    of_pair(alloc, row, &left, &right, call)
+}
+
+/// A call on two lists of one type and length.
+fn of_pair(alloc: Global, row: &Value, left: &Numbers, right: &Numbers, call: OnPair) -> Mem<String>
+    requires types { right.now.ptype ≡ left.now.ptype }
+    requires lengths { length right.now.numbers ≡ length left.now.numbers }
+{
     match call {
-        OnPair::Compare => comparisons(alloc, &left, &right),
-        OnPair::Add => total_text(alloc, left.checked_add(alloc, &right)?),
-        OnPair::Sub => total_text(alloc, left.checked_sub(alloc, &right)?),
-        OnPair::AddEquals => equality(
-            alloc,
-            left.checked_add(alloc, &right)?,
-            numbers_in(alloc, row, "total")?,
-        ),
+        OnPair::Compare => comparisons(alloc, left, right),
+        OnPair::Add => total_text(alloc, left.checked_add(alloc, right)?),
+        OnPair::Sub => total_text(alloc, left.checked_sub(alloc, right)?),
+        OnPair::AddEquals => is_sum(alloc, row, left, right),
     }
+}
+
+/// Whether the sum of two lists is the total that a row holds.
+fn is_sum(alloc: Global, row: &Value, left: &Numbers, right: &Numbers) -> Mem<String>
+    requires types { right.now.ptype ≡ left.now.ptype }
+    requires lengths { length right.now.numbers ≡ length left.now.numbers }
+{
+    let sum = left.checked_add(alloc, right)?;
+    equality(alloc, sum, numbers_in(alloc, row, "total")?)
 }
 
 /// The comparisons of two lists, one text for each operator.

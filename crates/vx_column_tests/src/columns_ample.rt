@@ -20,17 +20,18 @@ use vx_dtype::{
 };
 
 /// The column, where it has one row of this type.
+#[tactic(auto, using(vx_dtype::specs::EqualLaws::ty_decides))]
 fn one_row(column: ColumnRef, dtype: &DType) -> Result<ColumnRef, Fail>
     ensures dtype { IfOk result (λ c. c.ty ≡ type_view dtype.now) }
     ensures row { IfOk result (λ c. length c.rows ≡ 1) }
 {
-    if column.dtype() != dtype {
-        return Err(Fail::new("a column of another type"));
-    }
     if column.len() != 1 {
         return Err(Fail::new("a column of other rows"));
     }
-    Ok(column)
+    if *column.dtype() == *dtype {
+        return Ok(column);
+    }
+    Err(Fail::new("a column of another type"))
 }
 
 /// A truth.
@@ -168,6 +169,7 @@ fn mask_answers(alloc: Global) -> Result<bool, Fail> {
     Ok(made.len() == 1 && !made.is_valid(0))
 }
 
+#[tactic(auto, unfolding(vx_dtype::specs::TypeRules::alike))]
 fn compare_answers(alloc: Global) -> Result<bool, Fail> {
     let made = compare(
         alloc,
@@ -178,6 +180,7 @@ fn compare_answers(alloc: Global) -> Result<bool, Fail> {
     Ok(made == truth(alloc, true)?)
 }
 
+#[tactic(auto, unfolding(vx_dtype::specs::TypeRules::alike))]
 fn between_answers(alloc: Global) -> Result<bool, Fail> {
     let options = BetweenOptions {
         lower_strict: StrictComparison::Strict,
@@ -217,16 +220,19 @@ fn like_answers(alloc: Global) -> Result<bool, Fail> {
     Ok(made == truth(alloc, true)?)
 }
 
+#[tactic(auto, unfolding(vx_dtype::specs::TypeRules::alike))]
 fn list_contains_answers(alloc: Global) -> Result<bool, Fail> {
     let made = list_contains(alloc, &list(alloc, 4)?, &number(alloc, 4)?)?;
     Ok(made == truth(alloc, true)?)
 }
 
+#[tactic(auto, unfolding(vx_dtype::specs::TypeRules::alike))]
 fn checked_add_answers(alloc: Global) -> Result<bool, Fail> {
     let made = checked_add(alloc, &number(alloc, 3)?, &number(alloc, 2)?)?;
     Ok(made == number(alloc, 5)?)
 }
 
+#[tactic(auto, unfolding(vx_dtype::specs::TypeRules::alike))]
 fn checked_sub_answers(alloc: Global) -> Result<bool, Fail> {
     let made = checked_sub(alloc, &number(alloc, 3)?, &number(alloc, 2)?)?;
     Ok(made == number(alloc, 1)?)

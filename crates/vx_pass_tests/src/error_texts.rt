@@ -22,7 +22,7 @@ fn of_typing(rt: HostRuntime) -> Result<(), Fail> {
 
 const EVALUATION: [(EvalError, &str); 4] = [
     (EvalError::NoMemory, "NoMemory"),
-    (EvalError::Typing(TypeError::NotStruct), "NotStruct"),
+    (EvalError::Typing(TypeError::NotStruct), "Typing"),
     (EvalError::Overflow, "Overflow"),
     (EvalError::BadCast, "BadCast"),
 ];
