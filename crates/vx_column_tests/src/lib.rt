@@ -1,6 +1,8 @@
-//! Tests of words and numbers with memory at hand. The rows of vx_column_cases are those of columns: each call that may lack memory is made there.
+//! Tests of words, numbers and columns.
 #![tactic(auto)]
 
+#[cfg(test)]
+mod columns_ample;
 #[cfg(test)]
 mod numbers_ample;
 #[cfg(test)]
