@@ -40,6 +40,15 @@ def row(value):
 
 
 def joined(operator, operands):
+    """Joined in halves, so that the whole is as flat as can be."""
+    if len(operands) == 1:
+        return operands[0]
+    half = len(operands) // 2
+    return binary(joined(operator, operands[:half]), operator, joined(operator, operands[half:]))
+
+
+def chained(operator, operands):
+    """Joined to the left, so that the whole is as deep as can be."""
     left, *others = operands
     for other in others:
         left = binary(left, operator, other)
@@ -124,7 +133,7 @@ def nested_negations():
 def long_filter():
     """Conjuncts to the left, as many as a text may hold."""
     above = [binary(X, ">", lit("i8", 0))] * 250
-    return request([("x", "i8")], [[[1]]], joined("and", above), X), report(["1"], [], ["x"], 1)
+    return request([("x", "i8")], [[[1]]], chained("and", above), X), report(["1"], [], ["x"], 1)
 
 
 def one_text():
