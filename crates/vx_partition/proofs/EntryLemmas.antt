@@ -14,13 +14,14 @@ use Rattle.vx_expr.specs.EqualLaws.{tree_decides}
 use Rattle.vx_expr.specs.Trees.{Tree}
 use Rattle.vx_passes.specs.Annotating.{Entry, entry_of, joined_sets, with_annotations}
 use Rattle.vx_transform.proofs.RebuildLemmas.{left_step}
-use Rattle.vx_partition.specs.Entries.{held_at, AreAtNumbers, IsSound, Extends}
+use Rattle.vx_partition.specs.Entries.{held_at, AreAtNumbers, IsSound, Extends, numbered_entries}
 use Rattle.vx_partition.specs.Numbering.{known, AreNumbersOf, IsNumbering, KeepsNumbers, Grows}
-use Rattle.vx_partition.specs.Views.{entries_view, has_entry}
-use Rattle.vx_partition.specs.declared.annotations.Annotated.{Annotated}
-use Rattle.vx_partition.specs.declared.annotations.Annotations.{Annotations}
+use Rattle.vx_partition.specs.Views.{has_entry}
+use Rattle.vx_partition.specs.declared.numbered.Annotated.{Annotated}
+use Rattle.vx_partition.specs.declared.numbered.NumberedAnnotations.{NumberedAnnotations}
 
-alike : (P Q : Type 0) (b c : Bool) → Decides b P → Decides c Q → (P → Q) → (Q → P) → b ≡ c
+-- tests of facts that follow from one another answer alike
+pub alike : (P Q : Type 0) (b c : Bool) → Decides b P → Decides c Q → (P → Q) → (Q → P) → b ≡ c
 alike P Q true true p q to from = refl
 alike P Q true false p q to from = absurd (true≢false (sym (q.1 (to (p.0 refl)))))
 alike P Q false true p q to from = absurd (true≢false (sym (p.1 (from (q.0 refl)))))
@@ -32,13 +33,13 @@ module _ {A : Type 0} where
   as_entries es = map (λ x. record { expression = x.1.expr; annotations = x.1.annotations.items }) es
 
   -- the test by a number is at each entry the test by the expression
-  abbrev SameTest : ℕ → Tree → List (ℕ × Annotated A) → Type 0
+  abbrev pub SameTest : ℕ → Tree → List (ℕ × Annotated A) → Type 0
   SameTest n e [] = Unit {0}
   SameTest n e (x ∷ es) = (nat_eq n x.0 ≡ tree_eq e x.1.expr) × SameTest n e es
 
   module _ (known : List Tree) (once : (m n : ℕ) (e : Tree) → slice_get known m ≡ Some e → slice_get known n ≡ Some e → m ≡ n)
       (n : ℕ) (e : Tree) (at : slice_get known n ≡ Some e) where
-    same_test : (es : List (ℕ × Annotated A)) → AreAtNumbers known es → SameTest n e es
+    pub same_test : (es : List (ℕ × Annotated A)) → AreAtNumbers known es → SameTest n e es
     same_test [] h = tt
     same_test (x ∷ es) h = (
       alike (n ≡ x.0) (e ≡ x.1.expr) (nat_eq n x.0) (tree_eq e x.1.expr) (unsigned_Decides n x.0) (tree_decides e x.1.expr)
@@ -96,77 +97,50 @@ module _ {A : Type 0} where
   kept_at old new kept [] h = tt
   kept_at old new kept (x ∷ es) h = (kept x.0 x.1.expr h.0, kept_at old new kept es h.1)
 
-  -- ---- entry by entry
-
-  module _ (e : Tree) (es : List (ℕ × Annotated A)) (i : ℕ) (x : Annotated A) (at : option_map (λ y. y.1) (slice_get es i) ≡ Some x) where
-    left_with : (y : Option (ℕ × Annotated A)) → slice_get es i ≡ y → option_map (λ z. z.1) y ≡ Some x
-        → as_entries (drop i es) ≡ record { expression = x.expr; annotations = x.annotations.items } ∷ as_entries (drop (i + 1) es)
-    left_with None is h = absurd (none-some x h)
-    left_with (Some y) is h =
-        ap as_entries (left_step es i y is)
-        ∙ ap (λ z. record { expression = z.expr; annotations = z.annotations.items } ∷ as_entries (drop (i + 1) es)) (same_Some y.1 x h)
-
-    left_is : as_entries (drop i es) ≡ record { expression = x.expr; annotations = x.annotations.items } ∷ as_entries (drop (i + 1) es)
-    left_is = left_with (slice_get es i) refl at
-
-    pub held_here : tree_eq e x.expr ≡ true → entry_of e (as_entries (drop i es)) ≡ x.annotations.items
-    held_here is =
-        ap (entry_of e) left_is ∙ ap (λ b. cond b x.annotations.items (entry_of e (as_entries (drop (i + 1) es)))) is
-
-    pub has_here : tree_eq e x.expr ≡ true → has_entry e (as_entries (drop i es)) ≡ true
-    has_here is = ap (has_entry e) left_is ∙ ap (λ b. b || has_entry e (as_entries (drop (i + 1) es))) is
-
-    pub held_later : tree_eq e x.expr ≡ false → entry_of e (as_entries (drop i es)) ≡ entry_of e (as_entries (drop (i + 1) es))
-    held_later is =
-        ap (entry_of e) left_is ∙ ap (λ b. cond b x.annotations.items (entry_of e (as_entries (drop (i + 1) es)))) is
-
-    pub has_later : tree_eq e x.expr ≡ false → has_entry e (as_entries (drop i es)) ≡ has_entry e (as_entries (drop (i + 1) es))
-    has_later is = ap (has_entry e) left_is ∙ ap (λ b. b || has_entry e (as_entries (drop (i + 1) es))) is
-
   -- ---- sound maps
 
   -- what the entry at an expression's number holds is what the expression's entry holds
-  pub held_entry : (m : Annotations A) → IsSound m → (n : ℕ) (e : Tree) → slice_get (known m.numbers) n ≡ Some e
-      → held_at n m.entries.entries ≡ entry_of e (entries_view m)
+  pub held_entry : (m : NumberedAnnotations A) → IsSound m → (n : ℕ) (e : Tree) → slice_get (known m.numbers) n ≡ Some e
+      → held_at n m.entries.entries ≡ entry_of e (numbered_entries m)
   held_entry m sound n e at =
       held_is n e m.entries.entries (same_test (known m.numbers) sound.numbering.once n e at m.entries.entries sound.entries)
 
-  pub only_held : (m : Annotations A) → IsSound m → (n : ℕ) (e : Tree) → slice_get (known m.numbers) n ≡ Some e → (o : Option A)
-      → o ≡ one_of (held_at n m.entries.entries) → o ≡ one_of (entry_of e (entries_view m))
+  pub only_held : (m : NumberedAnnotations A) → IsSound m → (n : ℕ) (e : Tree) → slice_get (known m.numbers) n ≡ Some e → (o : Option A)
+      → o ≡ one_of (held_at n m.entries.entries) → o ≡ one_of (entry_of e (numbered_entries m))
   only_held m sound n e at o is = is ∙ ap one_of (held_entry m sound n e at)
 
   -- the same of several, one after another
-  held_entries : (m : Annotations A) → IsSound m → (ns : List ℕ) (es : List Tree) → AreNumbersOf (known m.numbers) ns es
-      → flat_map (λ n. held_at n m.entries.entries) ns ≡ flat_map (λ e. entry_of e (entries_view m)) es
+  held_entries : (m : NumberedAnnotations A) → IsSound m → (ns : List ℕ) (es : List Tree) → AreNumbersOf (known m.numbers) ns es
+      → flat_map (λ n. held_at n m.entries.entries) ns ≡ flat_map (λ e. entry_of e (numbered_entries m)) es
   held_entries m sound [] [] h = refl
   held_entries m sound [] (e ∷ es) h = absurd h
   held_entries m sound (n ∷ ns) [] h = absurd h
   held_entries m sound (n ∷ ns) (e ∷ es) h = λ i. held_entry m sound n e h.0 i ++ held_entries m sound ns es h.1 i
 
-  pub held_below : (m : Annotations A) → IsSound m → (ns : List ℕ) (es : List Tree) → AreNumbersOf (known m.numbers) ns es → (held : List A)
-      → held ≡ flat_map (λ n. held_at n m.entries.entries) ns → held ≡ flat_map (λ e. entry_of e (entries_view m)) es
+  pub held_below : (m : NumberedAnnotations A) → IsSound m → (ns : List ℕ) (es : List Tree) → AreNumbersOf (known m.numbers) ns es → (held : List A)
+      → held ≡ flat_map (λ n. held_at n m.entries.entries) ns → held ≡ flat_map (λ e. entry_of e (numbered_entries m)) es
   held_below m sound ns es h held is = is ∙ held_entries m sound ns es h
 
   -- the map with more annotations at an expression
-  module _ (same : A → A → Bool) (old : Annotations A) (sound : IsSound old) (n : ℕ) (e : Tree) (at : slice_get (known old.numbers) n ≡ Some e)
+  module _ (same : A → A → Bool) (old : NumberedAnnotations A) (sound : IsSound old) (n : ℕ) (e : Tree) (at : slice_get (known old.numbers) n ≡ Some e)
       (v : Annotated A) (is : v.expr ≡ e) (ys : List A) (joined : v.annotations.items ≡ joined_sets same (held_at n old.entries.entries) ys)
       (new : List (ℕ × Annotated A)) (inserted : new ≡ insert_entry nat_eq old.entries.entries n v) where
     at_v : slice_get (known old.numbers) n ≡ Some v.expr
     at_v = at ∙ ap Some (sym is)
 
-    pub entry_added : as_entries new ≡ with_annotations same e ys (entries_view old)
+    pub entry_added : as_entries new ≡ with_annotations same e ys (numbered_entries old)
     entry_added =
         ap as_entries inserted
         ∙ added_to same n ys v old.entries.entries (same_test (known old.numbers) sound.numbering.once n v.expr at_v old.entries.entries sound.entries)
         (joined ∙ ap (λ xs. joined_sets same xs ys) (held_entry old sound n v.expr at_v))
-        ∙ ap (λ d. with_annotations same d ys (entries_view old)) is
+        ∙ ap (λ d. with_annotations same d ys (numbered_entries old)) is
 
     pub entries_at : AreAtNumbers (known old.numbers) new
     entries_at =
         subst (AreAtNumbers (known old.numbers)) (sym inserted) (still_at (known old.numbers) n v old.entries.entries at_v sound.entries)
 
   -- with more numbers a map is sound
-  pub sound_with : (old new : Annotations A) → IsSound old → Grows old.numbers new.numbers → new.entries.entries ≡ old.entries.entries → Extends old new
+  pub sound_with : (old new : NumberedAnnotations A) → IsSound old → Grows old.numbers new.numbers → new.entries.entries ≡ old.entries.entries → Extends old new
   sound_with old new sound grown is =
       record {
         sound =
@@ -180,7 +154,7 @@ module _ {A : Type 0} where
       }
 
   -- with more entries at known numbers a map is sound
-  pub extended_with : (old new : Annotations A) → IsSound old → new.numbers ≡ old.numbers → AreAtNumbers (known old.numbers) new.entries.entries → Extends old new
+  pub extended_with : (old new : NumberedAnnotations A) → IsSound old → new.numbers ≡ old.numbers → AreAtNumbers (known old.numbers) new.entries.entries → Extends old new
   extended_with old new sound is at =
       record {
         sound =
@@ -191,7 +165,7 @@ module _ {A : Type 0} where
         kept = λ n e h. ap (λ m. slice_get (known m) n) is ∙ h;
       }
 
-  pub extends_on : (old mid new : Annotations A) → Extends old mid → Extends mid new → Extends old new
+  pub extends_on : (old mid new : NumberedAnnotations A) → Extends old mid → Extends mid new → Extends old new
   extends_on old mid new first second = record { sound = second.sound; kept = λ n e at. second.kept n e (first.kept n e at) }
 
 -- ---- sets, annotation by annotation

@@ -1,6 +1,7 @@
 mod NumberLemmas
 mod TableLemmas
 mod EntryLemmas
+mod KeyLemmas
 mod VisitLemmas
 mod ScopeLemmas
 mod ShareLemmas

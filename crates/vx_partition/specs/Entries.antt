@@ -1,12 +1,17 @@
 -- For the checker: no public clause cites this.
 -- Entries of annotations under the numbers of their expressions.
-use Rattle.std.specs.Prelude.{◌≡◌, ℕ, nat_eq, List, [], ◌∷◌, Some, option_map, unwrap_or}
+use Rattle.std.specs.Prelude.{◌≡◌, ℕ, nat_eq, List, [], ◌∷◌, map, Some, option_map, unwrap_or}
 use Rattle.std.specs.List.{slice_get}
 use Rattle.std.specs.Map.{lookup}
 use Rattle.vx_expr.specs.Trees.{Tree}
+use Rattle.vx_passes.specs.Annotating.{Entry}
 use Rattle.vx_partition.specs.Numbering.{known, IsNumbering, KeepsNumbers}
-use Rattle.vx_partition.specs.declared.annotations.Annotated.{Annotated}
-use Rattle.vx_partition.specs.declared.annotations.Annotations.{Annotations}
+use Rattle.vx_partition.specs.declared.numbered.Annotated.{Annotated}
+use Rattle.vx_partition.specs.declared.numbered.NumberedAnnotations.{NumberedAnnotations}
+
+-- the entries, in order
+abbrev pub numbered_entries : {A : Type 0} → NumberedAnnotations A → List (Entry A)
+numbered_entries m = map (λ e. record { expression = e.1.expr; annotations = e.1.annotations.items }) m.entries.entries
 
 -- what the entry at a number holds; nothing where there is no entry
 abbrev pub held_at : {A : Type 0} → ℕ → List (ℕ × Annotated A) → List A
@@ -18,11 +23,11 @@ AreAtNumbers known [] = Unit {0}
 AreAtNumbers known (x ∷ entries) = (slice_get known x.0 ≡ Some x.1.expr) × AreAtNumbers known entries
 
 -- the numbers are a numbering, and the entries stand at those of their expressions
-pub record IsSound {A : Type 0} (m : Annotations A) : Type 0 where
+pub record IsSound {A : Type 0} (m : NumberedAnnotations A) : Type 0 where
   pub numbering : IsNumbering m.numbers.nodes.entries
   pub entries : AreAtNumbers (known m.numbers) m.entries.entries
 
 -- the map is sound again, and each expression keeps its number
-pub record Extends {A : Type 0} (old new : Annotations A) : Type 0 where
+pub record Extends {A : Type 0} (old new : NumberedAnnotations A) : Type 0 where
   pub sound : IsSound new
   pub kept : KeepsNumbers (known old.numbers) (known new.numbers)

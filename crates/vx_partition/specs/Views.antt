@@ -10,9 +10,13 @@ use Rattle.vx_partition.specs.declared.annotations.Annotations.{Annotations}
 use Rattle.vx_partition.specs.declared.partitions.Partition.{Partition as CodePartition}
 use Rattle.vx_partition.specs.declared.shares.Shares.{Shares}
 
+-- an expression and its annotations
+abbrev pub entry_view : {A : Type 0} → Tree → List A → Entry A
+entry_view e annotations = record { expression = e; annotations = annotations }
+
 -- the entries of a map of annotations, in order
 abbrev pub entries_view : {A : Type 0} → Annotations A → List (Entry A)
-entries_view m = map (λ e. record { expression = e.1.expr; annotations = e.1.annotations.items }) m.entries.entries
+entries_view m = map (λ e. entry_view e.0 e.1.items) m.entries.entries
 
 -- whether an expression has an entry
 abbrev pub has_entry : {A : Type 0} → Tree → List (Entry A) → Bool

@@ -3,13 +3,14 @@ ghost use Rattle.std.specs.Prelude.{◌≡◌, ◌++◌, Some, IfOk, OnOk};
 ghost use Rattle.std.specs.List.{flat_map, slice_get};
 ghost use Rattle.vx_expr.specs.Trees.{children_of};
 ghost use Rattle.vx_passes.specs.Annotating.{annotated, annotated_down, annotated_from, annotated_up};
-ghost use Rattle.vx_partition.specs.Entries.{held_at, IsSound, Extends};
+ghost use Rattle.vx_partition.specs.Entries.{held_at, IsSound, Extends, numbered_entries};
 ghost use Rattle.vx_partition.specs.Numbering.{known};
 ghost use Rattle.vx_partition.specs.Views.{entries_view};
 ghost use Rattle.vx_partition.specs.Visits.{visited_in_turn};
 
 use crate::annotation::{Annotation, AnnotationFn};
 use crate::annotations::Annotations;
+use crate::numbered::NumberedAnnotations;
 use std::alloc::Global;
 use vx_dtype::Mem;
 use vx_expr::{ExprRef, VortexExpr};
@@ -17,7 +18,8 @@ use vx_expr::{ExprRef, VortexExpr};
 /// The annotations of an expression and of those below it, by a visit down and up. On the way down an expression that the rule gives
 /// annotations itself gets these, and what stands below it is skipped. On the way up, also after a skip, each visited expression gets
 /// what the entries of its children hold at that moment. Each visited expression has an entry, which may be empty, and no other has.
-/// Refuses only where memory runs out.
+/// Refuses only where memory runs out. At the end each entry's expression is hashed whole, as a map keyed by expressions asks:
+/// [`crate::partition`] goes without.
 pub fn descendent_annotations<F: AnnotationFn>(
     alloc: Global,
     expr: &ExprRef,
@@ -25,8 +27,8 @@ pub fn descendent_annotations<F: AnnotationFn>(
 ) -> Mem<Annotations<F::Annotation>>
     ensures { IfOk result (λ found. entries_view found ≡ annotated F.Annotation.eq (F.annotated annotate.now) expr.now) }
 {
-    let (found, _) = numbered_annotations(alloc, expr, annotate)?;
-    Ok(found)
+    let (found, _number) = numbered_annotations(alloc, expr, annotate)?;
+    Annotations::of_numbered(alloc, found)
 }
 
 /// The annotations of an expression and of those below it, and the expression's number.
@@ -34,12 +36,12 @@ pub(crate) fn numbered_annotations<F: AnnotationFn>(
     alloc: Global,
     expr: &ExprRef,
     annotate: &F,
-) -> Mem<(Annotations<F::Annotation>, usize)>
-    ensures entries { IfOk result (λ made. entries_view made.0 ≡ annotated F.Annotation.eq (F.annotated annotate.now) expr.now) }
+) -> Mem<(NumberedAnnotations<F::Annotation>, usize)>
+    ensures entries { IfOk result (λ made. numbered_entries made.0 ≡ annotated F.Annotation.eq (F.annotated annotate.now) expr.now) }
     ensures sound { IfOk result (λ made. IsSound made.0) }
     ensures number { IfOk result (λ made. slice_get (known made.0.numbers) made.1 ≡ Some expr.now) }
 {
-    let mut found = Annotations::new(alloc);
+    let mut found = NumberedAnnotations::new(alloc);
     let number = visit(alloc, expr, annotate, &mut found)?;
     Ok((found, number))
 }
@@ -50,10 +52,10 @@ fn visit<F: AnnotationFn>(
     alloc: Global,
     expr: &ExprRef,
     annotate: &F,
-    found: &mut Annotations<F::Annotation>,
+    found: &mut NumberedAnnotations<F::Annotation>,
 ) -> Mem<usize>
     requires { IsSound found.old }
-    ensures entries { OnOk result (entries_view found.new ≡ annotated_from F.Annotation.eq (F.annotated annotate.now) expr.now (entries_view found.old)) }
+    ensures entries { OnOk result (numbered_entries found.new ≡ annotated_from F.Annotation.eq (F.annotated annotate.now) expr.now (numbered_entries found.old)) }
     ensures extended { OnOk result (Extends found.old found.new) }
     ensures number { IfOk result (λ number. slice_get (known found.new.numbers) number ≡ Some expr.now) }
 {
@@ -68,12 +70,12 @@ fn visit_down<F: AnnotationFn>(
     alloc: Global,
     expr: &ExprRef,
     annotate: &F,
-    found: &mut Annotations<F::Annotation>,
+    found: &mut NumberedAnnotations<F::Annotation>,
 ) -> Mem<usize>
     requires { IsSound found.old }
     ensures entries { let rule = F.annotated annotate.now in
         let below = visited_in_turn F.Annotation.eq rule (children_of expr.now) in
-        OnOk result (entries_view found.new ≡ annotated_down F.Annotation.eq expr.now (rule expr.now) below (entries_view found.old)) }
+        OnOk result (numbered_entries found.new ≡ annotated_down F.Annotation.eq expr.now (rule expr.now) below (numbered_entries found.old)) }
     ensures extended { OnOk result (Extends found.old found.new) }
     ensures number { IfOk result (λ number. slice_get (known found.new.numbers) number ≡ Some expr.now) }
 {
@@ -92,11 +94,11 @@ fn visit_children<F: AnnotationFn>(
     alloc: Global,
     expr: &ExprRef,
     annotate: &F,
-    found: &mut Annotations<F::Annotation>,
+    found: &mut NumberedAnnotations<F::Annotation>,
 ) -> Mem<usize>
     requires { IsSound found.old }
     ensures entries { let below = visited_in_turn F.Annotation.eq (F.annotated annotate.now) (children_of expr.now) in
-        OnOk result (entries_view found.new ≡ below (entries_view found.old)) }
+        OnOk result (numbered_entries found.new ≡ below (numbered_entries found.old)) }
     ensures extended { OnOk result (Extends found.old found.new) }
     ensures number { IfOk result (λ number. slice_get (known found.new.numbers) number ≡ Some expr.now) }
 {
@@ -112,11 +114,11 @@ fn visit_up<A: Annotation>(
     alloc: Global,
     expr: &ExprRef,
     number: usize,
-    found: &mut Annotations<A>,
+    found: &mut NumberedAnnotations<A>,
 ) -> Mem<()>
     requires sound { IsSound found.old }
     requires number { slice_get (known found.old.numbers) number ≡ Some expr.now }
-    ensures entries { OnOk result (entries_view found.new ≡ annotated_up A.eq expr.now (entries_view found.old)) }
+    ensures entries { OnOk result (numbered_entries found.new ≡ annotated_up A.eq expr.now (numbered_entries found.old)) }
     ensures extended { OnOk result (Extends found.old found.new) }
 {
     let below = held_by(alloc, found.numbers.below(number), found)?;
@@ -124,7 +126,11 @@ fn visit_up<A: Annotation>(
 }
 
 /// What the entries at these numbers hold, in the order of the numbers.
-fn held_by<A: Annotation>(alloc: Global, numbers: &[usize], found: &Annotations<A>) -> Mem<Vec<A>>
+fn held_by<A: Annotation>(
+    alloc: Global,
+    numbers: &[usize],
+    found: &NumberedAnnotations<A>,
+) -> Mem<Vec<A>>
     ensures { IfOk result (λ held. held.items ≡ flat_map (λ n. held_at n found.now.entries.entries) numbers.now) }
 {
     let mut held = Vec::new(alloc);

@@ -4,6 +4,7 @@
 mod annotating;
 mod annotation;
 mod annotations;
+mod numbered;
 mod numbers;
 mod partitions;
 mod scope_access;

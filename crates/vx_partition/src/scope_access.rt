@@ -4,19 +4,18 @@ ghost use Rattle.std.specs.Str.{bytes_eq};
 ghost use Rattle.vx_dtype.specs.TypeRules.{field_names};
 ghost use Rattle.vx_expr.specs.Children.{is_root_tree};
 ghost use Rattle.vx_passes.specs.Annotating.{annotated, entry_of};
-ghost use Rattle.vx_partition.specs.Scopes.{access_scope, columns_of};
+ghost use Rattle.vx_partition.specs.Scopes.{access_scope, columns_of, HasJust};
 ghost use Rattle.vx_partition.specs.Views.{entries_view};
 
 use crate::annotating::{descendent_annotations, numbered_annotations};
 use crate::annotation::AnnotationFn;
-use crate::annotations::{Annotations, push_clones};
+use crate::annotations::Annotations;
+use crate::numbered::push_clones;
 use std::alloc::Global;
+use std::collections::HashSet;
 use vx_build::is_root;
 use vx_dtype::{FieldName, Mem, StructFields};
 use vx_expr::{Expr, ExprRef};
-
-/// The columns that the nodes of an expression touch.
-pub type FieldAccesses = Annotations<FieldName>;
 
 /// The rule that annotates a node by the columns of a scope that it touches itself: a field of the row by its name, the row by all of
 /// the scope's names, and any other node by none.
@@ -67,6 +66,9 @@ fn field_of_row(alloc: Global, field: &FieldName, of: &ExprRef) -> Mem<Vec<Field
     Ok(names)
 }
 
+/// The columns of the scope that expressions touch.
+pub type FieldAccesses = Annotations<FieldName>;
+
 /// The columns of the scope that an expression and those below it touch, found as [`descendent_annotations`] says. Refuses only where
 /// memory runs out.
 pub fn immediate_scope_accesses(
@@ -79,16 +81,28 @@ pub fn immediate_scope_accesses(
     descendent_annotations(alloc, expr, &annotate_scope_access(scope))
 }
 
-/// The columns of the scope that an expression touches, each once: those of its own entry. Refuses only where memory runs out.
+/// The columns of the scope that an expression touches: those of its own entry. Refuses only where memory runs out.
 pub fn immediate_scope_access(
     alloc: Global,
     expr: &ExprRef,
     scope: &StructFields,
-) -> Mem<Vec<FieldName>>
-    ensures { IfOk result (λ columns. columns.items ≡ entry_of expr.now (annotated bytes_eq (columns_of scope.now) expr.now)) }
+) -> Mem<HashSet<FieldName>>
+    ensures { IfOk result (HasJust (entry_of expr.now (annotated bytes_eq (columns_of scope.now) expr.now))) }
 {
     let (found, number) = numbered_annotations(alloc, expr, &annotate_scope_access(scope))?;
-    let mut columns = Vec::new(alloc);
-    found.push_held(number, &mut columns)?;
-    Ok(columns)
+    match found.held(number) {
+        Some(columns) => set_of(alloc, columns),
+        None => set_of(alloc, &[]),
+    }
+}
+
+/// Names as a set.
+fn set_of(alloc: Global, names: &[FieldName]) -> Mem<HashSet<FieldName>>
+    ensures { IfOk result (HasJust names.now) }
+{
+    let mut set = HashSet::new(alloc);
+    for name in names {
+        set.insert(name.clone()?)?;
+    }
+    Ok(set)
 }

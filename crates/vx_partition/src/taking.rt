@@ -4,13 +4,13 @@ ghost use Rattle.std.specs.List.{slice_get};
 ghost use Rattle.vx_expr.specs.Children.{one_of};
 ghost use Rattle.vx_passes.specs.Splitting.{taken_from};
 ghost use Rattle.vx_transform.specs.Rebuilds.{or_same};
-ghost use Rattle.vx_partition.specs.Entries.{held_at, IsSound};
+ghost use Rattle.vx_partition.specs.Entries.{held_at, IsSound, numbered_entries};
 ghost use Rattle.vx_partition.specs.Numbering.{known};
-ghost use Rattle.vx_partition.specs.Views.{entries_view, shares_view};
+ghost use Rattle.vx_partition.specs.Views.{shares_view};
 ghost use Rattle.vx_partition.specs.Takings.{taken_as, taken_below};
 
 use crate::annotation::Annotation;
-use crate::annotations::Annotations;
+use crate::numbered::NumberedAnnotations;
 use crate::shares::Shares;
 use std::alloc::Global;
 use vx_dtype::Mem;
@@ -18,7 +18,7 @@ use vx_expr::{ExprRef, VortexExpr};
 use vx_transform::with_these;
 
 /// The annotation of the entry at a number, where the entry has exactly one.
-fn only_annotation<A: Annotation>(found: &Annotations<A>, number: usize) -> Option<&A>
+fn only_annotation<A: Annotation>(found: &NumberedAnnotations<A>, number: usize) -> Option<&A>
     ensures { option_copied result ≡ one_of (held_at number found.now.entries.entries) }
 {
     match found.held(number) {
@@ -43,12 +43,12 @@ pub(crate) fn take<A: Annotation>(
     alloc: Global,
     expr: &ExprRef,
     number: usize,
-    found: &Annotations<A>,
+    found: &NumberedAnnotations<A>,
     shares: &mut Shares<A>,
 ) -> Mem<Option<ExprRef>>
     requires sound { IsSound found.now }
     requires number { slice_get (known found.now.numbers) number ≡ Some expr.now }
-    ensures { let whole = taken_from A.eq A.text (entries_view found.now) expr.now (shares_view shares.old) in
+    ensures { let whole = taken_from A.eq A.text (numbered_entries found.now) expr.now (shares_view shares.old) in
         IfOk result (λ made. whole ≡ taken_as (or_same expr.now made) (shares_view shares.new)) }
 {
     match only_annotation(found, number) {
@@ -63,12 +63,12 @@ fn take_below<A: Annotation>(
     alloc: Global,
     expr: &ExprRef,
     number: usize,
-    found: &Annotations<A>,
+    found: &NumberedAnnotations<A>,
     shares: &mut Shares<A>,
 ) -> Mem<Option<ExprRef>>
     requires sound { IsSound found.now }
     requires number { slice_get (known found.now.numbers) number ≡ Some expr.now }
-    ensures { let whole = taken_below A.eq A.text (entries_view found.now) expr.now (shares_view shares.old) in
+    ensures { let whole = taken_below A.eq A.text (numbered_entries found.now) expr.now (shares_view shares.old) in
         IfOk result (λ made. whole ≡ taken_as (or_same expr.now made) (shares_view shares.new)) }
 {
     let numbers = found.numbers.below(number);

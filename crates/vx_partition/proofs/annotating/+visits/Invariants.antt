@@ -1,9 +1,8 @@
 use Rattle.std.proofs.Common.{◌≡◌, ◌+◌, ◌*◌, take, drop}
 use Rattle.vx_expr.specs.Heights.{height}
 use Rattle.vx_expr.specs.Trees.{children_of}
-use Rattle.vx_partition.specs.Entries.{Extends}
+use Rattle.vx_partition.specs.Entries.{Extends, numbered_entries}
 use Rattle.vx_partition.specs.Numbering.{known, AreNumbersOf}
-use Rattle.vx_partition.specs.Views.{entries_view}
 use Rattle.vx_partition.specs.Visits.{visited_in_turn}
 use Rattle.vx_partition.proofs.annotating.+visits.Given as goal
 
@@ -22,5 +21,5 @@ abbrev pub invariant-visit_children-loop-i : goal.invariant-visit_children-loop-
 invariant-visit_children-loop-i g l =
     let rule = g.F.AnnotationFn.annotated l.annotate in
     let visited = visited_in_turn g.F.Annotation.PartialEq.eq rule in
-    (visited (children_of l.expr) (entries_view l.fn.found) ≡ visited (drop l.i (children_of l.expr)) (entries_view l.found))
+    (visited (children_of l.expr) (numbered_entries l.fn.found) ≡ visited (drop l.i (children_of l.expr)) (numbered_entries l.found))
     × (Extends l.fn.found l.found × AreNumbersOf (known l.found.numbers) l.below.items (take l.i (children_of l.expr)))

@@ -5,7 +5,8 @@ use Rattle.vx_passes.specs.Splitting.{taken_from, with_root}
 use Rattle.vx_transform.specs.Rebuilds.{or_same}
 use Rattle.vx_transform.specs.TransformAnswers.{AnswersBy}
 use Rattle.vx_partition.specs.Splits.{split_view}
-use Rattle.vx_partition.specs.Views.{entries_view, partition_view, shares_view}
+use Rattle.vx_partition.specs.Entries.{numbered_entries}
+use Rattle.vx_partition.specs.Views.{partition_view, shares_view}
 use Rattle.vx_partition.proofs.SplitLemmas.{as_columns, split_by, taken_whole}
 use Rattle.vx_partition.proofs.splitting.partition.Goals as goal
 
@@ -18,7 +19,7 @@ returns g c =
     let ss = shares_view c.take.new.shares in
     let items = c.in_ok-partitions.partitions.items in
     let whole =
-    taken_whole text same (annotated same rule e) (entries_view c.in_ok-found.found) e (shares_view c.new-shares.result) c.in_ok-made.made ss
+    taken_whole text same (annotated same rule e) (numbered_entries c.in_ok-found.found) e (shares_view c.new-shares.result) c.in_ok-made.made ss
     c.in_ok-found.ensures.entries c.new-shares.ensures c.in_ok-made.ensures in
     let split_so =
     split_by text (type_view c.args.scope.now) (taken_from same text (annotated same rule e) e []) (or_same e c.in_ok-made.made) ss whole

@@ -1,24 +1,20 @@
-use Rattle.std.proofs.Common.{sym, ◌∙◌}
-use Rattle.vx_partition.proofs.EntryLemmas.{held_here, has_here, held_later, has_later}
+use Rattle.std.proofs.Common.{Some, None, ap, ◌∙◌}
+use Rattle.vx_partition.proofs.KeyLemmas.{held_is, known_is}
 use Rattle.vx_partition.proofs.annotations.Annotations.get.Goals as goal
 
-pub returns-then-eq-clause-held : goal.returns-then-eq-clause-held
-returns-then-eq-clause-held g c =
-    let is = sym c.eq.ensures.gives ∙ c.if-eq.true in
-    let entries = c.args.self.now.entries.entries in
+pub returns-in-Some-clause-held : goal.returns-in-Some-clause-held
+returns-in-Some-clause-held g c =
     c.as_slice.ensures.value
-    ∙ sym (c.loop-place.invariant.0 ∙ held_here c.args.expr.now entries c.loop-place.place c.entry_at-entry.result.now c.entry_at-entry.ensures is)
+    ∙ held_is (λ v. v.items) c.args.expr.now c.args.self.now.entries.entries (Some c.in-Some.annotations.now) c.in-Some.ensures.value
 
-pub returns-then-eq-clause-known : goal.returns-then-eq-clause-known
-returns-then-eq-clause-known g c =
-    let is = sym c.eq.ensures.gives ∙ c.if-eq.true in
-    let entries = c.args.self.now.entries.entries in
-    sym (c.loop-place.invariant.1 ∙ has_here c.args.expr.now entries c.loop-place.place c.entry_at-entry.result.now c.entry_at-entry.ensures is)
+pub returns-in-Some-clause-known : goal.returns-in-Some-clause-known
+returns-in-Some-clause-known g c =
+    known_is (λ v. v.items) c.args.expr.now c.args.self.now.entries.entries (Some c.in-Some.annotations.now) c.in-Some.ensures.value
 
-pub loop-place-preserved : goal.loop-place-preserved
-loop-place-preserved g c =
-    let is = sym c.eq.ensures.gives ∙ c.if-eq.false in
-    let entries = c.args.self.now.entries.entries in (
-      c.loop-place.invariant.0 ∙ held_later c.args.expr.now entries c.loop-place.place c.entry_at-entry.result.now c.entry_at-entry.ensures is,
-      c.loop-place.invariant.1 ∙ has_later c.args.expr.now entries c.loop-place.place c.entry_at-entry.result.now c.entry_at-entry.ensures is,
-    )
+pub returns-in-None-clause-held : goal.returns-in-None-clause-held
+returns-in-None-clause-held g c =
+    held_is (λ v. v.items) c.args.expr.now c.args.self.now.entries.entries None c.in-None.ensures.value
+
+pub returns-in-None-clause-known : goal.returns-in-None-clause-known
+returns-in-None-clause-known g c =
+    known_is (λ v. v.items) c.args.expr.now c.args.self.now.entries.entries None c.in-None.ensures.value

@@ -1,5 +1,5 @@
 use Rattle.std.proofs.Common.{◌≡◌, ◌++◌, take}
-use Rattle.vx_partition.proofs.annotations.push_clones.Given as goal
+use Rattle.vx_partition.proofs.numbered.push_clones.Given as goal
 
 -- the list with the clones so far
 abbrev pub invariant-loop-annotation : goal.invariant-loop-annotation
