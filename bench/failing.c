@@ -1,4 +1,4 @@
-/* Loaded before the C library: refuses the call of one number of those that take memory, or fails or cuts the call of one number of those that
+/* Loaded before the C library: refuses the call of one number of those that take memory, or fails the call of one number, or cuts all calls, of those that
    read standard input or write standard output. FAIL says which: "malloc N", "read N", "cut-read N", "write N" or "cut-write N", counted
    from 1. The calls are counted from the first one of the program itself, which is told by its first read of the variable. */
 #define _GNU_SOURCE

@@ -1,5 +1,5 @@
 #!/usr/bin/env python3
-"""Runs the built program with each call that takes memory refused in turn, and with each read and write failing or cut in turn.
+"""Runs the built program with each call that takes memory refused in turn, each read and write failing in turn, and all of them cut.
 
 usage: bench/failing.py      (first build the program: cd crates/vx && rt run)
 

@@ -604,6 +604,8 @@ READ_AND_WRITTEN = [
     ("pack_null()", "pack_null()"),
     ("a", "$.a"),
     ("\"or\" = 'it''s'", "($.\"or\" = 'it''s')"),
+    ("'it''s \"é\"'", "'it''s \"é\"'"),
+    ("${a, \"b c\"}", "${a, \"b c\"}"),
     ("-5i8 <= a", "(-5i8 <= $.a)"),
     ("lit(i64?, null)", "lit(i64?, null)"),
     ("lit(i64?, 5)", "lit(i64?, 5)"),
