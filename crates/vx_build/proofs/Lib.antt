@@ -1,1 +1,2 @@
 pub mod CollectorLemmas
+mod ConjunctLemmas

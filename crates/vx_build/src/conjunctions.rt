@@ -1,6 +1,8 @@
 // The conjuncts of a filter: the operands of its nested `and`s, left to right.
-ghost use Rattle.std.specs.Prelude.{◌≡◌, ◌++◌, IfOk};
+ghost use Rattle.std.specs.Prelude.{◌≡◌, [], ◌∷◌, None, IfOk, IfSome};
+ghost use Rattle.vx_expr.specs.declared.Operator.{Operator};
 ghost use Rattle.vx_expr.specs.Conjuncts.{conjuncts_of};
+ghost use Rattle.vx_expr.specs.Trees.{binary};
 
 use std::alloc::Global;
 use vx_dtype::Mem;
@@ -11,7 +13,17 @@ pub fn conjuncts(alloc: Global, expr: &ExprRef) -> Mem<Vec<ExprRef>>
     ensures { IfOk result (λ found. found.items ≡ conjuncts_of expr.now) }
 {
     let mut found = Vec::new(alloc);
-    push_conjuncts(expr, &mut found)?;
+    let mut left = Vec::new(alloc);
+    left.push(expr)?;
+    while let Some(part) = left.pop() {
+        match operands_of_and(part) {
+            Some((first, second)) => {
+                left.push(second)?;
+                left.push(first)?;
+            }
+            None => found.push(part.clone()?)?,
+        }
+    }
     Ok(found)
 }
 
@@ -22,17 +34,16 @@ pub fn split_conjunction(alloc: Global, expr: &ExprRef) -> Mem<Vec<ExprRef>>
     conjuncts(alloc, expr)
 }
 
-/// Adds the conjuncts of an expression to those that were found.
+/// The two operands of an `and`, and None of another node.
 #[tactic(auto, unfolding(vx_expr::specs::Conjuncts::conjuncts_of))]
-fn push_conjuncts(expr: &ExprRef, found: &mut Vec<ExprRef>) -> Mem<()>
-    ensures { IfOk result (λ _. found.new.items ≡ found.old.items ++ conjuncts_of expr.now) }
+pub fn operands_of_and(expr: &ExprRef) -> Option<(&ExprRef, &ExprRef)>
+    ensures operands { IfSome result (λ pair. expr.now ≡ binary pair.0.now Operator.And pair.1.now) }
+    ensures alone { result ≡ None → conjuncts_of expr.now ≡ expr.now ∷ [] }
 {
     if let Expr::Binary(node) = expr.expr() {
         if node.op() == Operator::And {
-            push_conjuncts(node.lhs(), found)?;
-            return push_conjuncts(node.rhs(), found);
+            return Some((node.lhs(), node.rhs()));
         }
     }
-    found.push(expr.clone()?)?;
-    Ok(())
+    None
 }

@@ -8,7 +8,7 @@ mod into_expr;
 mod samples;
 
 pub use collectors::{and_collect, and_collect_right, or_collect};
-pub use conjunctions::{conjuncts, split_conjunction};
+pub use conjunctions::{conjuncts, operands_of_and, split_conjunction};
 pub use constructors::{
     and, between, cast, checked_add, col, eq, get_item, gt, gt_eq, is_null, is_root, list_contains,
     lit, lt, lt_eq, merge, not, not_eq, or, pack, root, select, select_exclude,

@@ -15,7 +15,7 @@ pub(crate) fn separator(i: usize) -> &'static str
 }
 
 /// A text that prints within quotes: `"` and `\` behind a backslash, control characters by their escapes as in JSON, all else as it is.
-#[derive(Clone, Copy)]
+#[derive(Clone, Copy, Debug)]
 pub struct Quoted<'a>(pub &'a str);
 
 impl<'a> fmt::Display for Quoted<'a> {

@@ -1,9 +1,8 @@
 -- An expression by its own node and its children: what it gives, and why it has no column.
-use Rattle.std.proofs.Common.{◌≡◌, ℕ, zero, suc, ◌+◌, add-one, take, ◌++◌, subst, true, false, List, [], ◌∷◌, Some, Result, Ok, Err, refl, ap, sym, ◌∙◌}
+use Rattle.std.proofs.Common.{◌≡◌, ℕ, ◌++◌, true, false, List, [], ◌∷◌, length, Some, Result, Ok, Err, refl, ap, sym, ◌∙◌}
 use Rattle.std.specs.Result.{is_ok}
 use Rattle.std.specs.List.{list_any, slice_get}
 use Rattle.std.proofs.lemmas.Bool.{and_parts}
-use Rattle.std.proofs.lemmas.Option.{same_Some, none-some}
 use Rattle.std.proofs.lemmas.List.Folds.{list_any-append}
 use Rattle.vx_dtype.specs.Types.{Ty}
 use Rattle.vx_dtype.specs.Values.{Val}
@@ -23,6 +22,10 @@ use Rattle.vx_eval.specs.Steps.{NodeGives, IsComputed, AreComputed, Fails, Compu
 use Rattle.vx_eval.proofs.FaultLemmas.{of_both, neither, one_fails, or_left}
 use Rattle.vx_typing.proofs.SlotLemmas.{below, slots_split, slots_of_child}
 use Rattle.vx_eval.proofs.NodeSplits.{type_of_child, nodes_split, node_of_child}
+
+at_seam : (before : List Tree) (d : Tree) (after : List Tree) → slice_get (before ++ d ∷ after) (length before) ≡ Some d
+at_seam [] d after = refl
+at_seam (b ∷ before) d after = at_seam before d after
 
 module _ (t : Ty) (slots : Slots) (rows : List Val) where
   -- ---- what is known of the children
@@ -54,19 +57,6 @@ module _ (t : Ty) (slots : Slots) (rows : List Val) where
         ap (list_any (breaks_at_some d t slots rows)) (nodes_split e)
         ∙ neither (breaks_at_some d t slots rows e) (list_any (breaks_at_some d t slots rows) (nodes_of_all (below e))) own (none_below (children_of e) cs h)
 
-  -- the column of one more child
-  more : (es : List Tree) (i : ℕ) (cs : List Column) (e : Tree) (c : Column) → slice_get es i ≡ Some e → AreComputed t slots rows (take i es) cs → IsComputed t slots rows e c
-      → AreComputed t slots rows (take (suc i) es) (cs ++ c ∷ [])
-  more [] i cs e c at h k = absurd (none-some e at)
-  more (d ∷ es) zero [] e c at h k = (subst (λ x. IsComputed t slots rows x c) (sym (same_Some d e at)) k, tt)
-  more (d ∷ es) zero (b ∷ cs) e c at h k = absurd h
-  more (d ∷ es) (suc i) [] e c at h k = absurd h
-  more (d ∷ es) (suc i) (b ∷ cs) e c at h k = (h.0, more es i cs e c at h.1 k)
-
-  pub one_more : (es : List Tree) (i : ℕ) (cs ds : List Column) (e : Tree) (c : Column) → slice_get es i ≡ Some e → ds ≡ cs ++ c ∷ [] → AreComputed t slots rows (take i es) cs
-      → IsComputed t slots rows e c → AreComputed t slots rows (take (i + 1) es) ds
-  one_more es i cs ds e c at is h k = rw (is, add-one) (more es i cs e c at h k)
-
   -- ---- what the expression gives
 
   own_breaks : (d : Cause) (e : Tree) → breaks_at_some d t slots rows e ≡ true → some_node_breaks d t slots rows e ≡ true
@@ -86,9 +76,13 @@ module _ (t : Ty) (slots : Slots) (rows : List Val) where
   computed e cs h (Err BadCast) g = own_breaks by_cast e g
 
   -- and fails where a child fails
-  pub fails_by : (e d : Tree) (i : ℕ) → slice_get (children_of e) i ≡ Some d → (f : Failure) → Fails t slots rows d f → Fails t slots rows e f
+  fails_by : (e d : Tree) (i : ℕ) → slice_get (children_of e) i ≡ Some d → (f : Failure) → Fails t slots rows d f → Fails t slots rows e f
   fails_by e d i at NoMemory h = tt
   fails_by e d i at Mistyped h =
       one_fails (is_ok (typed_of t e)) (slots_fit slots e) (is_ok (typed_of t d)) (slots_fit slots d) (type_of_child t e d i at) (slots_of_child slots e d i at) h
   fails_by e d i at Overflow h = node_of_child (breaks_at_some by_sum t slots rows) e d i at h
   fails_by e d i at BadCast h = node_of_child (breaks_at_some by_cast t slots rows) e d i at h
+
+  -- so where a child among the others does
+  pub fails_among : (f : Failure) (e : Tree) (before : List Tree) (d : Tree) (after : List Tree) → children_of e ≡ before ++ d ∷ after → Fails t slots rows d f → Fails t slots rows e f
+  fails_among f e before d after are h = fails_by e d (length before) (ap (λ cs. slice_get cs (length before)) are ∙ at_seam before d after) f h

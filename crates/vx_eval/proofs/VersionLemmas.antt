@@ -1,48 +1,52 @@
--- The slots that an expression's nodes compare with: the node's own before those of its children.
-use Rattle.std.proofs.Common.{◌≡◌, refl, ap, sym, ◌∙◌, ℕ, ◌+◌, List, [], ◌∷◌, ◌++◌, drop, Some, append_assoc, append-nil}
-use Rattle.std.specs.List.{flat_map, slice_get}
+-- A walk over the nodes of an expression, each before those below it: what is left is a stack of expressions.
+use Rattle.std.proofs.Common.{◌≡◌, refl, ap, sym, ◌∙◌, ℕ, ◌<◌, arith, List, [], ◌∷◌, ◌++◌, map, reverse, length, append_assoc}
+use Rattle.std.specs.List.{flat_map}
 use Rattle.std.proofs.lemmas.Grind.{flat_map-append}
-use Rattle.vx_expr.specs.Trees.{Tree, root, literal, get_item, binary, not_of, is_null_of, like, between, cast, list_contains, pack, merge, select, dynamic, Trees, no_trees, tree, listed, children_of}
+use Rattle.std.proofs.lemmas.List.{map-append, reverse-append, reverse-reverse}
+use Rattle.vx_expr.specs.Trees.{Tree, trees_of, children_of}
 use Rattle.vx_semantics.specs.Nodes.{nodes_of, nodes_of_all}
-use Rattle.vx_eval.specs.Versions.{own_slots, compared_slots}
-use Rattle.vx_typing.proofs.TypeLists.{left_step}
+use Rattle.vx_eval.specs.Versions.{own_slots}
+use Rattle.vx_eval.proofs.NodeSplits.{nodes_split}
 
-slots_of_all : (es : Trees) → flat_map own_slots (nodes_of_all es) ≡ flat_map compared_slots (listed es)
+-- the nodes of the expressions that are left, of which the last one comes first
+abbrev pub nodes_left : List Tree → List Tree
+nodes_left es = flat_map nodes_of (reverse es)
+
+nodes_of_each : (es : List Tree) → nodes_of_all (trees_of es) ≡ flat_map nodes_of es
 unfolding nodes_of
-slots_of_all no_trees = refl
-slots_of_all (tree e es) = flat_map-append own_slots (nodes_of e) (nodes_of_all es) ∙ ap (λ ks. compared_slots e ++ ks) (slots_of_all es)
+nodes_of_each [] = refl
+nodes_of_each (e ∷ es) = ap (λ ns. nodes_of e ++ ns) (nodes_of_each es)
 
--- of one, two or three children
-one_child : (e : Tree) → compared_slots e ≡ flat_map compared_slots (e ∷ [])
-one_child e = sym (append-nil (compared_slots e))
+map-reverse : {A B : Type 0} (f : A → B) (xs : List A) → map f (reverse xs) ≡ reverse (map f xs)
+map-reverse f [] = refl
+map-reverse f (x ∷ xs) = ap (map f) (reverse-append (x ∷ []) xs) ∙ map-append f (reverse xs) (x ∷ []) ∙ ap (λ ys. ys ++ f x ∷ []) (map-reverse f xs) ∙ sym (reverse-append (f x ∷ []) (map f xs))
 
-two_children : (l r : Tree) → flat_map own_slots (nodes_of l ++ nodes_of r) ≡ flat_map compared_slots (l ∷ r ∷ [])
-two_children l r = flat_map-append own_slots (nodes_of l) (nodes_of r) ∙ ap (λ ks. compared_slots l ++ ks) (one_child r)
+-- the last one gives way to its children, the last of them first
+module _ {A : Type 0} (see : A → Tree) (before kept after children turned : List A) (n : A) (was : before ≡ kept ++ n ∷ []) (below : map see children ≡ children_of (see n))
+    (is_turned : turned ≡ reverse children) (are : after ≡ kept ++ turned) where
+  abbrev others : List Tree
+  others = reverse (map see kept)
 
-three_children : (e l u : Tree) → flat_map own_slots (nodes_of e ++ (nodes_of l ++ nodes_of u)) ≡ flat_map compared_slots (e ∷ l ∷ u ∷ [])
-three_children e l u = flat_map-append own_slots (nodes_of e) (nodes_of l ++ nodes_of u) ∙ ap (λ ks. compared_slots e ++ ks) (two_children l u)
+  left_after : nodes_left (map see after) ≡ nodes_of_all (trees_of (children_of (see n))) ++ flat_map nodes_of others
+  left_after =
+      let cs = children_of (see n) in
+      ap (λ xs. nodes_left (map see xs)) (are ∙ ap (λ xs. kept ++ xs) is_turned)
+      ∙ ap nodes_left (map-append see kept (reverse children) ∙ ap (λ es. map see kept ++ es) (map-reverse see children ∙ ap reverse below))
+      ∙ ap (flat_map nodes_of) (reverse-append (map see kept) (reverse cs) ∙ ap (λ es. es ++ others) (reverse-reverse cs))
+      ∙ flat_map-append nodes_of cs others ∙ ap (λ ns. ns ++ flat_map nodes_of others) (sym (nodes_of_each cs))
 
--- the slots of an expression are the node's own and those of its children
-pub slots_by_children : (e : Tree) → compared_slots e ≡ own_slots e ++ flat_map compared_slots (children_of e)
-unfolding nodes_of
-slots_by_children root = refl
-slots_by_children (literal s) = refl
-slots_by_children (get_item f e) = one_child e
-slots_by_children (binary l op r) = two_children l r
-slots_by_children (not_of e) = one_child e
-slots_by_children (is_null_of e) = one_child e
-slots_by_children (like e p negated fold_case) = two_children e p
-slots_by_children (between e lower upper options) = three_children e lower upper
-slots_by_children (cast e t) = one_child e
-slots_by_children (list_contains l v) = two_children l v
-slots_by_children (pack names es n) = slots_of_all es
-slots_by_children (merge es n) = slots_of_all es
-slots_by_children (select s e) = one_child e
-slots_by_children (dynamic e op k t default) = ap (λ ks. k ∷ ks) (one_child e)
+  -- so of the nodes that are left the first one is gone
+  pub gone : nodes_left (map see before) ≡ see n ∷ nodes_left (map see after)
+  gone =
+      ap (λ xs. nodes_left (map see xs)) was ∙ ap nodes_left (map-append see kept (n ∷ []))
+      ∙ ap (flat_map nodes_of) (reverse-append (map see kept) (see n ∷ []))
+      ∙ ap (λ ns. ns ++ flat_map nodes_of others) (nodes_split (see n)) ∙ ap (λ ns. see n ∷ ns) (sym left_after)
 
--- numbers that a loop has put behind others, and those that are left
-module _ (all : List ℕ) (cs : List Tree) (i : ℕ) (ks : List ℕ) (so_far : all ≡ ks ++ flat_map compared_slots (drop i cs)) where
-  pub slots_go_on : (c : Tree) (more : List ℕ) → slice_get cs i ≡ Some c → more ≡ ks ++ compared_slots c → all ≡ more ++ flat_map compared_slots (drop (i + 1) cs)
-  slots_go_on c more at is =
-      let left = flat_map compared_slots (drop (i + 1) cs) in
-      so_far ∙ ap (λ ds. ks ++ flat_map compared_slots ds) (left_step cs i c at) ∙ sym (append_assoc ks (compared_slots c) left) ∙ ap (λ ns. ns ++ left) (sym is)
+  pub fewer : length (nodes_left (map see after)) < length (nodes_left (map see before))
+  fewer = omega (arith, ap length gone)
+
+  -- and its numbers are put behind those from before
+  pub put_behind : (whole ks more : List ℕ) → ks ++ flat_map own_slots (nodes_left (map see before)) ≡ whole → more ≡ ks ++ own_slots (see n) → more ++ flat_map own_slots (nodes_left (map see after)) ≡ whole
+  put_behind whole ks more so_far grown =
+      let rest = flat_map own_slots (nodes_left (map see after)) in
+      ap (λ ns. ns ++ rest) grown ∙ append_assoc ks (own_slots (see n)) rest ∙ ap (λ ns. ks ++ flat_map own_slots ns) (sym gone) ∙ so_far

@@ -1,11 +1,9 @@
--- For the checker: no public clause cites this. What one node's step over columns answers, and the recursion over the nodes.
+-- For the checker: no public clause cites this. What one node's step over columns answers, and what the nodes give together.
 use Rattle.std.specs.Prelude.{◌≡◌, Bool, true, false, ◌&&◌, List, Result, Ok, Err, is_ok}
 use Rattle.std.specs.List.{AllZip}
-use Rattle.std.specs.declared.vec.Vec.{Vec}
-use Rattle.std.specs.declared.alloc.Global.{Global}
 use Rattle.vx_dtype.specs.Types.{Ty}
 use Rattle.vx_dtype.specs.Values.{Val}
-use Rattle.vx_expr.specs.Trees.{Tree, children_of}
+use Rattle.vx_expr.specs.Trees.{Tree}
 use Rattle.vx_semantics.specs.Typing.{Refusal, typed_of}
 use Rattle.vx_semantics.specs.Slots.{slots_fit}
 use Rattle.vx_semantics.specs.Meaning.{Slots}
@@ -70,8 +68,3 @@ Fails t slots rows e NoMemory = Unit {0}
 abbrev pub Computes : Ty → Slots → List Val → Tree → Result ColumnRef Failure → Type 0
 Computes t slots rows e (Ok c) = IsComputed t slots rows e c
 Computes t slots rows e (Err f) = Fails t slots rows e f
-
--- what the operands of an expression give over rows; a cause why one of them has no column is one why the expression has none
-abbrev pub ComputesOperands : Ty → Slots → List Val → Tree → Result (Vec ColumnRef Global) Failure → Type 0
-ComputesOperands t slots rows e (Ok cs) = AreComputed t slots rows (children_of e) cs.items
-ComputesOperands t slots rows e (Err f) = Fails t slots rows e f

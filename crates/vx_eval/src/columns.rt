@@ -1,4 +1,4 @@
-// The column of an expression: one recursion over its nodes.
+// The column of an expression: one loop over its nodes, from the leaves up.
 ghost use Rattle.std.specs.Prelude.{◌≡◌, List, length};
 ghost use Rattle.vx_dtype.specs.Types.{Ty};
 ghost use Rattle.vx_dtype.specs.Values.{Val};
@@ -7,7 +7,7 @@ ghost use Rattle.vx_expr.specs.Nodes.{node_tree};
 ghost use Rattle.vx_semantics.specs.Meaning.{Slots};
 ghost use Rattle.vx_eval.specs.Scopes.{scope_rows, scope_slots};
 ghost use Rattle.vx_eval.specs.Meant.{IsMeant, AreMeant};
-ghost use Rattle.vx_eval.specs.Steps.{NodeGives, Computes, ComputesOperands};
+ghost use Rattle.vx_eval.specs.Steps.{NodeGives, Computes};
 
 use crate::breaking_rules::{add_columns, cast_column, subtract_columns};
 use crate::column_merges::merge_column;
@@ -25,25 +25,20 @@ use vx_column::ColumnRef;
 use vx_expr::{Expr, ExprRef, Operator, VortexExpr};
 
 /// The column of an expression over the rows of a scope.
-#[cycle(columns)]
 pub(crate) fn column_of(alloc: Global, expr: &ExprRef, scope: &Scope) -> Result<ColumnRef, Failure>
     ensures { Computes (scope_rows scope.now).ty (scope_slots scope.now) (scope_rows scope.now).rows expr.now result }
 {
-    let operands = operands_of(alloc, expr, scope)?;
-    node_column(alloc, expr.expr(), operands, scope)
-}
-
-/// The columns of an expression's operands, in order.
-#[cycle(columns)]
-fn operands_of(alloc: Global, expr: &ExprRef, scope: &Scope) -> Result<Vec<ColumnRef>, Failure>
-    ensures { ComputesOperands (scope_rows scope.now).ty (scope_slots scope.now) (scope_rows scope.now).rows expr.now result }
-{
+    let nodes = expr.post_order(alloc)?;
     let mut columns = Vec::new(alloc);
-    for i in 0..expr.children_count() {
-        let column = column_of(alloc, expr.child_at(i), scope)?;
+    for &node in nodes.as_slice() {
+        let operands = columns.split_off(columns.len() - node.children_count())?;
+        let column = node_column(alloc, node.expr(), operands, scope)?;
         columns.push(column)?;
     }
-    Ok(columns)
+    match columns.pop() {
+        Some(column) => Ok(column),
+        None => unreachable!(),
+    }
 }
 
 /// The column of a node over those of its operands.

@@ -60,7 +60,8 @@ impl ExprEval for ExprRef {
             Err(TypeError::NoMemory) => return Err(EvalError::NoMemory),
             Err(refusal) => return Err(EvalError::Typing(refusal)),
         }
-        if !slots_fit(scope.slots(), self) {
+        let fit = slots_fit(alloc, scope.slots(), self)?;
+        if !fit {
             return Err(EvalError::Typing(TypeError::TypeMismatch));
         }
         match column_of(alloc, self, scope) {

@@ -1,7 +1,5 @@
 // Versions of the slots that the comparisons of an expression ask.
 ghost use Rattle.std.specs.Prelude.{◌≡◌, ◌++◌, ◌-◌, ◌^◌, map, option_map, IfOk, OnOk};
-ghost use Rattle.std.specs.List.{flat_map};
-ghost use Rattle.vx_expr.specs.Trees.{children_of};
 ghost use Rattle.vx_expr.specs.Slots.{slot_held};
 ghost use Rattle.vx_eval.specs.Versions.{own_slots, compared_slots, held_at, seen_by, first_seen, VersionOf};
 ghost use Rattle.vx_eval.specs.VersionSteps.{RisenTo};
@@ -70,8 +68,7 @@ impl DynamicExprUpdates {
     ) -> Mem<Option<DynamicExprUpdates>>
         ensures { IfOk result (λ made. option_map seen_by made ≡ first_seen slots.now (compared_slots expr.now)) }
     {
-        let mut numbers = Vec::new(alloc);
-        push_slots(&mut numbers, expr)?;
+        let numbers = compared_slots(alloc, expr)?;
         if numbers.is_empty() {
             return Ok(None);
         }
@@ -145,23 +142,18 @@ fn push_own_slot(numbers: &mut Vec<u32>, expr: &ExprRef) -> Mem<()>
     }
 }
 
-/// Puts the numbers of the slots that an expression's nodes compare with at the end, as far as there is memory.
-#[cycle(push_slots)]
-fn push_slots(numbers: &mut Vec<u32>, expr: &ExprRef) -> Mem<()>
-    ensures { OnOk result (numbers.new.items ≡ numbers.old.items ++ compared_slots expr.now) }
+/// The numbers of the slots that an expression's nodes compare with, each node before those below it.
+fn compared_slots(alloc: Global, expr: &ExprRef) -> Mem<Vec<u32>>
+    ensures { IfOk result (λ numbers. numbers.items ≡ compared_slots expr.now) }
 {
-    push_own_slot(numbers, expr)?;
-    push_slots_below(numbers, expr)?;
-    Ok(())
-}
-
-/// The same of the nodes below one.
-#[cycle(push_slots)]
-fn push_slots_below(numbers: &mut Vec<u32>, expr: &ExprRef) -> Mem<()>
-    ensures { OnOk result (numbers.new.items ≡ numbers.old.items ++ flat_map compared_slots (children_of expr.now)) }
-{
-    for i in 0..expr.children_count() {
-        push_slots(numbers, expr.child_at(i))?;
+    let mut numbers = Vec::new(alloc);
+    let mut left = Vec::new(alloc);
+    left.push(expr)?;
+    while let Some(node) = left.pop() {
+        push_own_slot(&mut numbers, node)?;
+        let mut children = node.children(alloc)?;
+        children.reverse();
+        left.append(&mut children)?;
     }
-    Ok(())
+    Ok(numbers)
 }

@@ -1,7 +1,7 @@
 -- For the checker: no public clause cites this.
 -- What a hash takes in of expressions: their whole structure, each kind by a number of its own, each list with a mark before every part
--- and another at its end.
-use Rattle.std.specs.Prelude.{◌++◌}
+-- and another at its end. Of two operands the one that a walk goes on with comes last, so that a loop goes down a chain to either side.
+use Rattle.std.specs.Prelude.{◌++◌, Bool, true, false}
 use Rattle.std.specs.Hash as fed
 use Rattle.std.specs.Hash.{HashWrites}
 use Rattle.vx_dtype.specs.TypeRules.{null_number}
@@ -10,6 +10,7 @@ use Rattle.vx_expr.specs.declared.selections.FieldSelection.{FieldSelection}
 use Rattle.vx_expr.specs.Operators.{operator_number}
 use Rattle.vx_expr.specs.Trees.{Tree, root, literal, get_item, binary, not_of, is_null_of, like, between}
 use Rattle.vx_expr.specs.Trees.{cast, list_contains, pack, merge, select, dynamic, Trees, no_trees, tree}
+use Rattle.vx_expr.specs.Leanings.{leans_left}
 use Rattle.vx_expr.specs.Codes.{comparison_number, strictness_number}
 
 -- which of the two choices it is, and its names
@@ -34,13 +35,19 @@ own_feed (merge es n) = fed.u8 11 ++ fed.u8 (null_number n)
 own_feed (select s e) = fed.u8 12 ++ selection_feed s
 own_feed (dynamic e op k t default) = fed.u8 13 ++ fed.u8 (comparison_number op) ++ fed.u32 k ++ ty_feed t ++ fed.bool default
 
+-- both operands, the one last that a walk goes on with: the left one where it leans left
+abbrev pub operands_feed : Bool → HashWrites → HashWrites → HashWrites
+operands_feed true left right = right ++ left
+operands_feed false left right = left ++ right
+
 unfoldable mutual
   -- the node's own parts, and then each child
   pub tree_feed : Tree → HashWrites
   tree_feed root = own_feed root
   tree_feed (literal s) = own_feed (literal s)
   tree_feed (get_item f e) = own_feed (get_item f e) ++ tree_feed e
-  tree_feed (binary l op r) = own_feed (binary l op r) ++ tree_feed l ++ tree_feed r
+  tree_feed (binary l op r) =
+      own_feed (binary l op r) ++ operands_feed (leans_left op l r) (tree_feed l) (tree_feed r)
   tree_feed (not_of e) = own_feed (not_of e) ++ tree_feed e
   tree_feed (is_null_of e) = own_feed (is_null_of e) ++ tree_feed e
   tree_feed (like e p m k) = own_feed (like e p m k) ++ tree_feed e ++ tree_feed p

@@ -8,12 +8,15 @@ pub mod Nodes
 pub mod Depths
 pub mod Answers
 pub mod Children
+pub mod PostOrders
 pub mod Slots
 pub mod Selections
 pub mod OperatorTexts
 pub mod Equal
 pub mod EqualLaws
+pub mod Leanings
 pub mod Feeds
 pub mod SelectionTexts
 pub mod CompactTexts
+pub mod Pieces
 pub mod NodeTexts

@@ -1,12 +1,14 @@
 // The compact text of an expression.
-ghost use Rattle.std.specs.Prelude.{◌≡◌, Some, [], ◌++◌, codes, IfOk};
+ghost use Rattle.std.specs.Prelude.{◌≡◌, max, Some, [], ◌∷◌, ◌++◌, codes, IfOk};
 ghost use Rattle.std.specs.Fmt.{WritesOnOk};
 ghost use Rattle.std.specs.String.{string_bytes};
 ghost use Rattle.vx_expr.specs.Trees.{trees_of};
-ghost use Rattle.vx_expr.specs.Nodes.{node_tree, between_tree, binary_tree, cast_tree, contains_tree};
+ghost use Rattle.vx_expr.specs.Nodes.{node_tree, between_tree, binary_left, binary_operator, binary_right, binary_tree, cast_tree, contains_tree};
 ghost use Rattle.vx_expr.specs.Nodes.{dynamic_tree, item_tree, like_tree, merge_tree, select_tree};
 ghost use Rattle.vx_expr.specs.Packed.{pack_tree};
 ghost use Rattle.vx_expr.specs.CompactTexts.{compact_text, bound_text, listed_texts, named_texts};
+ghost use Rattle.vx_expr.specs.Heights.{height};
+ghost use Rattle.vx_expr.specs.Pieces.{behind, whole, part_of, parts_of, part_height, Began};
 
 use crate::expressions::{Expr, ExprRef};
 use crate::exprs::between::BetweenExpr;
@@ -19,7 +21,7 @@ use crate::exprs::list_contains::ListContainsExpr;
 use crate::exprs::merge::MergeExpr;
 use crate::exprs::pack::PackExpr;
 use crate::exprs::select::SelectExpr;
-use std::alloc::Global;
+use std::alloc::{AllocError, Global};
 use std::fmt;
 use vx_dtype::{FieldName, Mem, StrictComparison};
 
@@ -39,6 +41,17 @@ impl ExprRef {
     {
         Ok(format!(in alloc; "{self}")?)
     }
+}
+
+/// What is left to write of a binary node.
+#[derive(Drop)]
+enum Piece<'a> {
+    /// An expression.
+    Whole(&'a ExprRef),
+    /// What stands behind the left operand: the operator, the right operand and the closing bracket.
+    Behind(&'a BinaryExpr),
+    /// The closing bracket.
+    Closing,
 }
 
 /// Writes the compact text of an expression.
@@ -98,17 +111,76 @@ fn write_item<W: fmt::Write>(node: &GetItemExpr, f: &mut fmt::Formatter<W>) -> f
     f.write_str(node.field().as_str())
 }
 
-/// Writes `(left operator right)`.
+/// Writes `(left operator right)`, by a list of what is left to write, so that a deep chain needs no call for each link.
 #[cycle(write)]
-#[tactic(auto, unfolding(crate::specs::CompactTexts::compact_text))]
 fn write_binary<W: fmt::Write>(node: &BinaryExpr, f: &mut fmt::Formatter<W>) -> fmt::Result
     ensures { WritesOnOk W.write_str_gives f.old result (compact_text (binary_tree node.now)) f.new }
 {
+    let mut left = Vec::new(node.lhs().alloc());
+    write_opening(node, &mut left, f)?;
+    while let Some(piece) = left.pop() {
+        write_piece(piece, &mut left, f)?;
+    }
+    Ok(())
+}
+
+/// Writes a piece as far as its first operand, and adds what is left of it to what is left to write.
+#[cycle(write)]
+fn write_piece<'a, W: fmt::Write>(
+    piece: Piece<'a>,
+    left: &mut Vec<Piece<'a>>,
+    f: &mut fmt::Formatter<W>,
+) -> fmt::Result
+    ensures { IfOk result (λ _. Began W.write_str_gives f.old f.new (parts_of left.old.items) (parts_of left.new.items) (part_of piece.entry) (part_height (part_of piece.entry))) }
+{
+    match piece {
+        Piece::Whole(expr) => match expr.expr() {
+            Expr::Binary(node) => write_opening(node, left, f),
+            _ => write_expr(expr, f),
+        },
+        Piece::Behind(node) => write_operator(node, left, f),
+        Piece::Closing => f.write_str(")"),
+    }
+}
+
+/// Writes the bracket before the left operand, and adds that operand and what stands behind it to what is left to write.
+#[tactic(auto, unfolding(crate::specs::CompactTexts::compact_text))]
+fn write_opening<'a, W: fmt::Write>(
+    node: &'a BinaryExpr,
+    left: &mut Vec<Piece<'a>>,
+    f: &mut fmt::Formatter<W>,
+) -> fmt::Result
+    ensures { IfOk result (λ _. Began W.write_str_gives f.old f.new (parts_of left.old.items) (parts_of left.new.items) (whole (binary_tree node.now)) (max (height (binary_left node.now)) (height (binary_right node.now)))) }
+{
     f.write_str("(")?;
-    write_expr(node.lhs(), f)?;
+    add_pieces(left, Piece::Whole(node.lhs()), Piece::Behind(node))?;
+    Ok(())
+}
+
+/// Writes the operator, and adds the right operand and the bracket behind it to what is left to write.
+fn write_operator<'a, W: fmt::Write>(
+    node: &'a BinaryExpr,
+    left: &mut Vec<Piece<'a>>,
+    f: &mut fmt::Formatter<W>,
+) -> fmt::Result
+    ensures { IfOk result (λ _. Began W.write_str_gives f.old f.new (parts_of left.old.items) (parts_of left.new.items) (behind (binary_operator node.now) (binary_right node.now)) (height (binary_right node.now))) }
+{
     write!(f, " {} ", node.op())?;
-    write_expr(node.rhs(), f)?;
-    f.write_str(")")
+    add_pieces(left, Piece::Whole(node.rhs()), Piece::Closing)?;
+    Ok(())
+}
+
+/// Adds two pieces to what is left to write, the one to be written first and the one behind it.
+fn add_pieces<'a>(
+    left: &mut Vec<Piece<'a>>,
+    first: Piece<'a>,
+    later: Piece<'a>,
+) -> Result<(), AllocError>
+    ensures { IfOk result (λ _. parts_of left.new.items ≡ parts_of left.old.items ++ part_of later.entry ∷ part_of first.entry ∷ []) }
+{
+    left.push(later)?;
+    left.push(first)?;
+    Ok(())
 }
 
 /// Writes `text LIKE pattern`, whether or not the match is negated or disregards case.

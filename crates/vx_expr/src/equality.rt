@@ -5,11 +5,13 @@ ghost use Rattle.std.proofs.Common.{ap};
 ghost use Rattle.std.specs.Hash as fed;
 ghost use Rattle.vx_expr.specs.Codes.{strictness_number};
 ghost use Rattle.vx_expr.specs.Trees.{trees_of};
-ghost use Rattle.vx_expr.specs.Nodes.{node_tree, between_tree, binary_tree, dynamic_tree, like_tree, contains_tree};
+ghost use Rattle.vx_expr.specs.Nodes.{node_tree, between_tree, binary_tree, binary_left, binary_operator, binary_right};
+ghost use Rattle.vx_expr.specs.Nodes.{dynamic_tree, like_tree, contains_tree};
+ghost use Rattle.vx_expr.specs.Leanings as lean;
 ghost use Rattle.vx_expr.specs.Packed.{pack_tree};
 ghost use Rattle.vx_expr.specs.Equal.{tree_eq, trees_eq};
 ghost use Rattle.vx_expr.specs.EqualLaws.{tree_eq_equiv, tree_decides};
-ghost use Rattle.vx_expr.specs.Feeds.{own_feed, tree_feed, trees_feed};
+ghost use Rattle.vx_expr.specs.Feeds.{own_feed, operands_feed, tree_feed, trees_feed};
 
 use crate::expressions::{Expr, ExprRef};
 use crate::exprs::between::BetweenExpr;
@@ -18,14 +20,38 @@ use crate::exprs::dynamic::DynamicComparisonExpr;
 use crate::exprs::like::LikeExpr;
 use crate::exprs::list_contains::ListContainsExpr;
 use crate::exprs::pack::PackExpr;
+use crate::leanings::leans_left;
 use std::hash::{Hash, Hasher};
 use vx_dtype::StrictComparison;
 
 #[cycle(same)]
+#[tactic(auto, unfolding(crate::specs::Equal::tree_eq))]
 fn same(left: &ExprRef, right: &ExprRef) -> bool
     ensures { result ≡ tree_eq left.now right.now }
 {
-    same_node(left.expr(), right.expr())
+    let mut first = left;
+    let mut second = right;
+    loop {
+        let (Expr::Binary(x), Expr::Binary(y)) = (first.expr(), second.expr()) else {
+            return same_node(first.expr(), second.expr());
+        };
+        if x.op() != y.op() {
+            return false;
+        }
+        if leans_left(x) {
+            if !same(x.rhs(), y.rhs()) {
+                return false;
+            }
+            first = x.lhs();
+            second = y.lhs();
+        } else {
+            if !same(x.lhs(), y.lhs()) {
+                return false;
+            }
+            first = x.rhs();
+            second = y.rhs();
+        }
+    }
 }
 
 #[cycle(same)]
@@ -168,10 +194,25 @@ impl Eq for ExprRef {
 }
 
 #[cycle(feed)]
+#[tactic(auto, unfolding(crate::specs::Feeds::tree_feed))]
 fn feed<H: Hasher>(expr: &ExprRef, state: &mut H)
     ensures { state.new ≡ fold H.write state.old (tree_feed expr.now) }
 {
-    feed_node(expr.expr(), state);
+    let mut rest = expr;
+    loop {
+        let Expr::Binary(node) = rest.expr() else {
+            feed_node(rest.expr(), state);
+            return;
+        };
+        node.feed_own(state);
+        if leans_left(node) {
+            feed(node.rhs(), state);
+            rest = node.lhs();
+        } else {
+            feed(node.lhs(), state);
+            rest = node.rhs();
+        }
+    }
 }
 
 #[cycle(feed)]
@@ -186,10 +227,7 @@ fn feed_node<H: Hasher>(expr: &Expr, state: &mut H)
             feed(node.lower(), state);
             feed(node.upper(), state);
         }
-        Expr::Binary(node) => {
-            feed(node.lhs(), state);
-            feed(node.rhs(), state);
-        }
+        Expr::Binary(node) => feed_operands(node, state),
         Expr::Cast(node) => feed(node.child(), state),
         Expr::Dynamic(node) => feed(node.lhs(), state),
         Expr::GetItem(node) => feed(node.child(), state),
@@ -207,6 +245,20 @@ fn feed_node<H: Hasher>(expr: &Expr, state: &mut H)
         Expr::Not(node) => feed(node.child(), state),
         Expr::Pack(node) => feed_list(node.values(), state),
         Expr::Select(node) => feed(node.child(), state),
+    }
+}
+
+/// Feeds a hash both operands, the one last that a walk goes on with.
+#[cycle(feed)]
+pub(crate) fn feed_operands<H: Hasher>(node: &BinaryExpr, state: &mut H)
+    ensures { state.new ≡ fold H.write state.old (operands_feed (lean.leans_left (binary_operator node.now) (binary_left node.now) (binary_right node.now)) (tree_feed (binary_left node.now)) (tree_feed (binary_right node.now))) }
+{
+    if leans_left(node) {
+        feed(node.rhs(), state);
+        feed(node.lhs(), state);
+    } else {
+        feed(node.lhs(), state);
+        feed(node.rhs(), state);
     }
 }
 

@@ -16,6 +16,7 @@ use crate::exprs::not::NotExpr;
 use crate::exprs::pack::PackExpr;
 use crate::exprs::root::RootExpr;
 use crate::exprs::select::SelectExpr;
+use crate::leanings::leans_left;
 use std::alloc::{AllocError, Global};
 use std::marker::Model;
 use std::rc::Rc;
@@ -43,9 +44,10 @@ pub enum Expr {
 
 /// An expression. Clones share its node. It is seen as its tree.
 #[cycle(exprs)]
-#[derive(Debug, Drop)]
+#[derive(Debug)]
 pub struct ExprRef {
     expr: Rc<Expr>,
+    alloc: Global,
 }
 
 impl Model for ExprRef {
@@ -77,7 +79,13 @@ impl ExprRef {
     {
         Ok(ExprRef {
             expr: Rc::new(alloc, expr)?,
+            alloc,
         })
+    }
+
+    /// The allocator that the expression was made by: it makes lists of what is left to write where no other is given.
+    pub(crate) fn alloc(&self) -> Global {
+        self.alloc
     }
 
     /// The node at the head of the expression.
@@ -88,12 +96,46 @@ impl ExprRef {
     }
 }
 
+/// A loop drops the chain of operands and only children that hangs on the expression, so that a long one needs no call for each link.
+impl Drop for ExprRef {
+    #[cycle(dropping)]
+    fn drop(mut self) {
+        loop {
+            let ExprRef { expr, alloc: _ } = self;
+            let Some(node) = Rc::into_inner(expr) else {
+                return;
+            };
+            match node {
+                Expr::Binary(node) => {
+                    let goes_left = leans_left(&node);
+                    let (left, right) = node.into_operands();
+                    if goes_left {
+                        drop(right);
+                        self = left;
+                    } else {
+                        drop(left);
+                        self = right;
+                    }
+                }
+                Expr::Cast(node) => self = node.into_child(),
+                Expr::Dynamic(node) => self = node.into_child(),
+                Expr::GetItem(node) => self = node.into_child(),
+                Expr::IsNull(node) => self = node.into_child(),
+                Expr::Not(node) => self = node.into_child(),
+                Expr::Select(node) => self = node.into_child(),
+                other => return drop(other),
+            }
+        }
+    }
+}
+
 impl Clone for ExprRef {
     ghost is_clone = { λ expr copy. copy ≡ expr };
 
     fn clone(&self) -> Result<ExprRef, AllocError> {
         Ok(ExprRef {
             expr: self.expr.clone()?,
+            alloc: self.alloc,
         })
     }
 }

@@ -2,6 +2,8 @@ mod NumberLemmas
 mod TableLemmas
 mod EntryLemmas
 mod KeyLemmas
+mod StackLemmas
+mod ChildLemmas
 mod VisitLemmas
 mod ScopeLemmas
 mod ShareLemmas

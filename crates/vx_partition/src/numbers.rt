@@ -82,11 +82,17 @@ impl Numbers {
         ensures number { IfOk result (λ number. slice_get (known self.new) number ≡ Some expr.now) }
         ensures grown { OnOk result (Grows self.old self.new) }
     {
-        let mut below = Vec::new(alloc);
-        for i in 0..expr.children_count() {
-            below.push(self.number_whole(alloc, expr.child_at(i))?)?;
+        let nodes = expr.post_order(alloc)?;
+        let mut numbers = Vec::new(alloc);
+        for i in 0..nodes.len() {
+            let node = nodes[i];
+            let below = numbers.split_off(numbers.len() - node.children_count())?;
+            numbers.push(self.number(alloc, node, below)?)?;
         }
-        self.number(alloc, expr, below)
+        match numbers.pop() {
+            Some(number) => Ok(number),
+            None => unreachable!(),
+        }
     }
 }
 

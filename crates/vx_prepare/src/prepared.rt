@@ -65,7 +65,8 @@ fn prepare_over(
     ensures { Prepares fields.now slots.now expr.now result }
 {
     let dtype = expr.typed(alloc, scope)?;
-    if !slots_fit(slots, expr) {
+    let fit = slots_fit(alloc, slots, expr)?;
+    if !fit {
         return Err(TypeError::TypeMismatch);
     }
     let simplified = simplified_over(alloc, expr, fields, scope)?;

@@ -1,3 +1,4 @@
+pub mod LoopLemmas
 pub mod RebuildLemmas
 mod TypeLemmas
 mod PlaceLemmas

@@ -1,8 +1,9 @@
 -- Conjuncts that are taken in one after another are paired as in order, and how many are left of them.
-use Rattle.std.proofs.Common.{◌≡◌, ℕ, zero, suc, ◌<◌, ◌≤◌, List, [], ◌∷◌, ◌++◌, length, drop, Option, Some, None, option_map, refl, sym, ap, ◌∙◌, arith}
-use Rattle.std.specs.Prelude.{unwrap_or}
+use Rattle.std.proofs.Common.{◌≡◌, ℕ, zero, suc, ◌<◌, ◌≤◌, List, [], ◌∷◌, ◌++◌, length, drop, Option, Some, None, option_map, refl, sym, ap, ◌∙◌, arith, false, true≢false}
+use Rattle.std.specs.Prelude.{unwrap_or, is_some}
 use Rattle.std.proofs.lemmas.Option.{none-some, same_Some}
 use Rattle.vx_expr.specs.declared.Operator.{Operator}
+use Rattle.vx_expr.specs.Conjuncts.{conjuncts_of}
 use Rattle.vx_expr.specs.Trees.{Tree, binary}
 use Rattle.vx_build.specs.Collectors.{joined_after, joined_left}
 use Rattle.vx_build.proofs.CollectorLemmas.{joined_after_last}
@@ -108,8 +109,20 @@ ranges_stand (suc n) [] h = refl
 ranges_stand (suc n) (c ∷ cs) h = stands_by n c cs (paired c cs) (fewer c cs) (ranges_stand n cs) h
 
 -- an operand after the others is joined last
-pub joined_last : (l r : Tree) (xs : List Tree) → joined_left Operator.And xs ≡ Some l → joined_left Operator.And (xs ++ r ∷ []) ≡ Some (binary l Operator.And r)
+joined_last : (l r : Tree) (xs : List Tree) → joined_left Operator.And xs ≡ Some l → joined_left Operator.And (xs ++ r ∷ []) ≡ Some (binary l Operator.And r)
 joined_last l r [] h = absurd (none-some l h)
 joined_last l r (e ∷ es) h =
     let same : joined_after Operator.And e es ≡ l = same_Some (joined_after Operator.And e es) l h in
     ap Some (joined_after_last Operator.And e es r ∙ ap (λ d. binary d Operator.And r) same)
+
+-- an `and` is its conjuncts, joined to the left, where its left operand is and its right one is its only conjunct
+pub joined_and : (e l r : Tree) → e ≡ binary l Operator.And r → conjuncts_of r ≡ r ∷ [] → joined_left Operator.And (conjuncts_of l) ≡ Some l
+    → joined_left Operator.And (conjuncts_of e) ≡ Some e
+unfolding conjuncts_of
+joined_and e l r is alone h =
+    ap (λ d. joined_left Operator.And (conjuncts_of d)) is ∙ ap (λ ds. joined_left Operator.And (conjuncts_of l ++ ds)) alone
+    ∙ joined_last l r (conjuncts_of l) h ∙ ap Some (sym is)
+
+pub none_where_not : {A : Type 0} (o : Option A) → is_some o ≡ false → o ≡ None
+none_where_not None h = refl
+none_where_not (Some x) h = absurd (true≢false h)

@@ -1,20 +1,21 @@
--- The recursion over an expression goes by its children, and what a loop over these collects.
-use Rattle.std.proofs.Common.{◌≡◌, ℕ, zero, suc, ◌+◌, ◌<◌, ◌≤◌, ◌==◌, ◌||◌, Bool, true, false, List, [], ◌∷◌, ◌++◌, length, take, drop, Option, Some, None, Ok, Err, Result, refl, sym, ap, subst, ◌∙◌, append_assoc, append-nil, arith, true≢false}
-use Rattle.std.specs.Prelude.{unwrap_or, is_some}
-use Rattle.std.specs.List.{slice_get}
+-- What is made of an expression goes by its children, and what a loop over these, or over all nodes, collects.
+use Rattle.std.proofs.Common.{◌≡◌, ℕ, zero, suc, ◌+◌, ◌≤◌, ◌==◌, true, List, [], ◌∷◌, ◌++◌, length, take, drop, Option, Some, None, Ok, Err, Result, refl, sym, ap, subst, ◌∙◌, append_assoc, append-nil, arith, true≢false}
+use Rattle.std.specs.Prelude.{unwrap_or, is_none}
+use Rattle.std.specs.List.{list_all, slice_get}
 use Rattle.std.specs.Cmp.{unsigned_Decides}
 use Rattle.std.proofs.lemmas.Option.{same_Some, none-some, slice_get_within, get_or_from_slice_get}
 use Rattle.std.proofs.lemmas.List.{drop_all, drop_more, take_more, take_all}
 use Rattle.vx_expr.specs.Trees.{Tree, root, literal, get_item, binary, not_of, is_null_of, like, between, cast, list_contains, pack, merge, select, dynamic, Trees, no_trees, tree, trees_of, listed, children_of}
 use Rattle.vx_expr.specs.Children.{where_so}
-use Rattle.vx_expr.specs.Heights.{height, highest}
 use Rattle.vx_expr.proofs.ChildrenLemmas.{with_own_children}
 use Rattle.vx_semantics.specs.Typing.{Refusal, and_then}
 use Rattle.vx_passes.specs.Rebuilding.{rebuilt, all_rebuilt}
 use Rattle.vx_transform.specs.declared.errors.TransformError.{TransformError}
 use Rattle.vx_transform.specs.declared.errors.TransformError.TheVariants.{NoMemory, UnknownField, NotStruct, NullableSelect, TypeMismatch}
 use Rattle.vx_transform.specs.TransformAnswers.{Refuses}
-use Rattle.vx_transform.specs.Rebuilds.{each, or_same, with_these, children_rebuilt}
+use Rattle.vx_transform.specs.Rebuilds.{each, or_same, all_or_same, with_these, children_rebuilt, IsRebuilt, OneByOne}
+use Rattle.vx_transform.proofs.LoopLemmas.{Midway}
+use Rattle.vx_expr.proofs.PostOrderLemmas.{Every, every_before, first_bad}
 
 -- a refusal is handed on by what comes after it
 pub handed_on : {A B : Type 0} (told : Result A Refusal) (next : A → Result B Refusal) (e : TransformError) → Refuses told e → Refuses (and_then told next) e
@@ -23,30 +24,6 @@ handed_on told next UnknownField h = ap (λ r. and_then r next) h
 handed_on told next NotStruct h = ap (λ r. and_then r next) h
 handed_on told next NullableSelect h = ap (λ r. and_then r next) h
 handed_on told next TypeMismatch h = ap (λ r. and_then r next) h
-
--- ---- children by their places
-
-lower_in : (es : Trees) (i : ℕ) (c : Tree) → slice_get (listed es) i ≡ Some c → height c ≤ highest es
-lower_in no_trees i c at = absurd (none-some c at)
-lower_in (tree e es) zero c at = let same : height e ≡ height c = ap height (same_Some e c at) in omega (arith, same)
-lower_in (tree e es) (suc i) c at = omega (arith, lower_in es i c at)
-
--- a child is lower than its node
-pub child_lower : (e c : Tree) (i : ℕ) → slice_get (children_of e) i ≡ Some c → height c < height e
-child_lower root c i at = absurd (none-some c at)
-child_lower (literal s) c i at = absurd (none-some c at)
-child_lower (get_item f e) c i at = omega (arith, lower_in (tree e no_trees) i c at)
-child_lower (binary l op r) c i at = omega (arith, lower_in (tree l (tree r no_trees)) i c at)
-child_lower (not_of e) c i at = omega (arith, lower_in (tree e no_trees) i c at)
-child_lower (is_null_of e) c i at = omega (arith, lower_in (tree e no_trees) i c at)
-child_lower (like e p negated fold_case) c i at = omega (arith, lower_in (tree e (tree p no_trees)) i c at)
-child_lower (between e lower upper options) c i at = omega (arith, lower_in (tree e (tree lower (tree upper no_trees))) i c at)
-child_lower (cast e t) c i at = omega (arith, lower_in (tree e no_trees) i c at)
-child_lower (list_contains l v) c i at = omega (arith, lower_in (tree l (tree v no_trees)) i c at)
-child_lower (pack names es n) c i at = omega (arith, lower_in es i c at)
-child_lower (merge es n) c i at = omega (arith, lower_in es i c at)
-child_lower (select s e) c i at = omega (arith, lower_in (tree e no_trees) i c at)
-child_lower (dynamic e op k t default) c i at = omega (arith, lower_in (tree e no_trees) i c at)
 
 -- ---- what a rule gives each of a list
 
@@ -188,27 +165,66 @@ module _ (step : Tree → Result Tree Refusal) where
   by_children (select s e) = one (with_these (select s e)) (rebuilt step e)
   by_children (dynamic e op k t default) = one (with_these (dynamic e op k t default)) (rebuilt step e)
 
--- ---- without a change
+-- ---- a node over what its children became
 
--- where no child changed so far, and this one doesn't, the children stand
-pub unchanged_step : (cs : List Tree) (i : ℕ) (c : Tree) (items items_with : List Tree) (changed : Bool) (made : Option Tree)
-    → slice_get cs i ≡ Some c → (changed ≡ false → items ≡ take i cs) → items_with ≡ items ++ or_same c made ∷ [] → (changed || is_some made) ≡ false → items_with ≡ take (i + 1) cs
-unchanged_step cs i c items items_with true made at so is h = absurd (true≢false h)
-unchanged_step cs i c items items_with false (Some d) at so is h = absurd (true≢false h)
-unchanged_step cs i c items items_with false None at so is h = is ∙ ap (λ ds. ds ++ c ∷ []) (so refl) ∙ sym (taken_step cs i c at)
+-- where nothing was made of any all stay
+pub none_made : (es : List Tree) (made : List (Option Tree)) → list_all is_none made ≡ true → all_or_same es made ≡ es
+none_made [] made h = refl
+none_made (e ∷ es) [] h = refl
+none_made (e ∷ es) (None ∷ made) h = ap (λ ds. e ∷ ds) (none_made es made h)
+none_made (e ∷ es) (Some d ∷ made) h = absurd (true≢false (sym h))
 
-module _ (step : Tree → Result Tree Refusal) (e : Tree) (i : ℕ) (items : List Tree)
-    (so_far : each (rebuilt step) (children_of e) ≡ before items (each (rebuilt step) (drop i (children_of e)))) (past : length (children_of e) ≤ i) where
-  -- where no child changed the node stands
-  pub all_stand : items ≡ take i (children_of e) → children_rebuilt step e ≡ Ok e
-  all_stand stand =
-      ap (λ r. and_then r (λ ds. Ok (with_these e ds))) (ends (rebuilt step) (children_of e) i items so_far past)
-      ∙ ap (λ ds. Ok (with_these e ds)) (stand ∙ take_all i (children_of e) past) ∙ ap Ok (with_own e)
+pub as_many_or_same : (es : List Tree) (made : List (Option Tree)) → length (all_or_same es made) ≡ length es
+as_many_or_same [] made = refl
+as_many_or_same (e ∷ es) [] = refl
+as_many_or_same (e ∷ es) (m ∷ made) = ap suc (as_many_or_same es made)
 
-  -- as many children are made as there are
-  pub as_many_made : length items ≡ length (children_of e)
-  as_many_made =
-      subst (λ r. HasLength r (length (children_of e))) (ends (rebuilt step) (children_of e) i items so_far past) (each_length (rebuilt step) (children_of e))
+or_same_at : (es : List Tree) (made : List (Option Tree)) (i : ℕ) (c : Tree) (m : Option Tree) → slice_get es i ≡ Some c → slice_get made i ≡ Some m
+    → slice_get (all_or_same es made) i ≡ Some (or_same c m)
+or_same_at [] made i c m at given = absurd (none-some c at)
+or_same_at (e ∷ es) [] i c m at given = absurd (none-some m given)
+or_same_at (e ∷ es) (n ∷ made) zero c m at given = λ k. Some (or_same (same_Some e c at k) (same_Some n m given k))
+or_same_at (e ∷ es) (n ∷ made) (suc i) c m at given = or_same_at es made i c m at given
+
+-- a child more is collected
+pub one_more_made : (es : List Tree) (made : List (Option Tree)) (i : ℕ) (c : Tree) (m : Option Tree) (items more : List Tree) → slice_get es i ≡ Some c → slice_get made i ≡ Some m
+    → items ≡ take i (all_or_same es made) → more ≡ items ++ or_same c m ∷ [] → more ≡ take (i + 1) (all_or_same es made)
+one_more_made es made i c m items more at given so_far is =
+    is ∙ ap (λ ds. ds ++ or_same c m ∷ []) so_far ∙ sym (taken_step (all_or_same es made) i (or_same c m) (or_same_at es made i c m at given))
+
+pub all_made : (es : List Tree) (made : List (Option Tree)) (i : ℕ) (items : List Tree) → items ≡ take i (all_or_same es made) → length es ≤ i → items ≡ all_or_same es made
+all_made es made i items so_far past = so_far ∙ take_all i (all_or_same es made) (omega (arith, as_many_or_same es made, past))
+
+-- ---- the nodes from the leaves up
+
+module _ (step : Tree → Result Tree Refusal) where
+  each_made : (es : List Tree) (made : List (Option Tree)) → OneByOne (IsRebuilt step) es made → each (rebuilt step) es ≡ Ok (all_or_same es made)
+  each_made [] [] h = refl
+  each_made [] (m ∷ made) h = absurd h
+  each_made (e ∷ es) [] h = absurd h
+  each_made (e ∷ es) (m ∷ made) h =
+      ap (λ r. and_then r (λ d. and_then (each (rebuilt step) es) (λ ds. Ok (d ∷ ds)))) h.0
+      ∙ ap (λ r. and_then r (λ ds. Ok (or_same e m ∷ ds))) (each_made es made h.1)
+
+  -- the node over what its children became
+  pub children_made : (e : Tree) (made : List (Option Tree)) (d : Tree) → OneByOne (IsRebuilt step) (children_of e) made → d ≡ with_these e (all_or_same (children_of e) made)
+      → children_rebuilt step e ≡ Ok d
+  children_made e made d h is = ap (λ r. and_then r (λ cs. Ok (with_these e cs))) (each_made (children_of e) made h) ∙ ap Ok (sym is)
+
+  abbrev Fine : Tree → Type 0
+  Fine e = (d : Tree) × rebuilt step e ≡ Ok d
+
+  all_fine : (es : List Tree) (made : List (Option Tree)) → OneByOne (IsRebuilt step) es made → Every Fine es
+  all_fine [] [] h = tt
+  all_fine [] (m ∷ made) h = absurd h
+  all_fine (e ∷ es) [] h = absurd h
+  all_fine (e ∷ es) (m ∷ made) h = ((or_same e m, h.0), all_fine es made h.1)
+
+  each_refused : (before : List Tree) (x : Tree) (after : List Tree) (r : TransformError) → Every Fine before → Refuses (rebuilt step x) r → Refuses (each (rebuilt step) (before ++ x ∷ after)) r
+  each_refused [] x after r fine bad = handed_on (rebuilt step x) (λ d. and_then (each (rebuilt step) after) (λ ds. Ok (d ∷ ds))) r bad
+  each_refused (b ∷ before) x after r fine bad =
+      subst (λ told. Refuses (and_then told (λ d. and_then (each (rebuilt step) (before ++ x ∷ after)) (λ ds. Ok (d ∷ ds)))) r) (sym fine.0.1)
+      (handed_on (each (rebuilt step) (before ++ x ∷ after)) (λ ds. Ok (fine.0.0 ∷ ds)) r (each_refused before x after r fine.1 bad))
 
 -- ---- the step after the children
 
@@ -218,3 +234,16 @@ module _ (step : Tree → Result Tree Refusal) (e : Tree) where
 
   pub step_at : (d : Tree) → children_rebuilt step e ≡ Ok d → rebuilt step e ≡ step d
   step_at d h = by_children step e ∙ ap (λ told. and_then told step) h
+
+module _ (step : Tree → Result Tree Refusal) (r : TransformError) where
+  refused_up : (e : Tree) (before : List Tree) (x : Tree) (after : List Tree) → children_of e ≡ before ++ x ∷ after → Every (Fine step) before → Refuses (rebuilt step x) r → Refuses (rebuilt step e) r
+  refused_up e before x after are fine bad =
+      refused_below step e r
+      (handed_on (each (rebuilt step) (children_of e)) (λ cs. Ok (with_these e cs)) r
+      (subst (λ cs. Refuses (each (rebuilt step) cs) r) (sym are) (each_refused step before x after r fine bad)))
+
+  -- where the next node is refused the whole is
+  pub refused_at : (n : Tree) (ns : List Tree) (made : List (Option Tree)) (whole : Tree) → Midway (IsRebuilt step) (n ∷ ns) made whole → Refuses (rebuilt step n) r → Refuses (rebuilt step whole) r
+  refused_at n ns made whole h bad =
+      first_bad (Fine step) (λ e. Refuses (rebuilt step e) r) refused_up ns h.2.0 n [] whole h.2.2
+      (every_before (Fine step) h.2.0 (children_of n) (subst (Every (Fine step)) h.2.1 (all_fine step h.0 made h.1))) bad

@@ -19,7 +19,7 @@ mod types;
 mod unpaired_bounds;
 mod walking;
 
-pub use children::with_these;
+pub use children::{with_made, with_these};
 pub use errors::TransformError;
 pub use packs::pack_of;
 pub use replacing::{replace, replace_root_fields};

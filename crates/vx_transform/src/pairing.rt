@@ -1,5 +1,5 @@
 // The conjuncts of an expression, paired into ranges.
-ghost use Rattle.std.specs.Prelude.{◌≡◌, ◌<◌, true, [], ◌∷◌, Some, length, slice_get, set, IfOk, OnOk};
+ghost use Rattle.std.specs.Prelude.{◌≡◌, ◌<◌, true, Some, length, slice_get, set, IfOk, OnOk};
 ghost use Rattle.vx_expr.specs.declared.Operator.{Operator};
 ghost use Rattle.vx_expr.specs.Conjuncts.{conjuncts_of};
 ghost use Rattle.vx_expr.specs.Trees.{Tree};
@@ -12,8 +12,9 @@ use crate::range_bounds::{bound_of, range_of};
 use crate::unpaired_bounds::Waiting;
 use std::alloc::Global;
 use std::collections::VecDeque;
+use vx_build::operands_of_and;
 use vx_dtype::Mem;
-use vx_expr::{Expr, ExprRef, Operator};
+use vx_expr::ExprRef;
 
 /// Puts the range of the conjunct at a place and a later one in that place.
 fn put_range(alloc: Global, made: &mut Vec<ExprRef>, place: usize, later: &ExprRef) -> Mem<()>
@@ -66,30 +67,15 @@ pub(crate) fn with_ranges(alloc: Global, conjuncts: Vec<ExprRef>) -> Mem<Vec<Exp
 }
 
 /// Whether an expression is its conjuncts, joined by `and` to the left.
-#[tactic(auto, using(crate::proofs::PairLemmas::joined_last), unfolding(vx_expr::specs::Conjuncts::conjuncts_of))]
 pub(crate) fn is_joined_left(expr: &ExprRef) -> bool
     ensures { result ≡ true → joined_left Operator.And (conjuncts_of expr.now) ≡ Some expr.now }
 {
-    if let Expr::Binary(node) = expr.expr() {
-        if node.op() == Operator::And {
-            if !is_alone(node.rhs()) {
-                return false;
-            }
-            return is_joined_left(node.lhs());
-        }
-    }
-    true
-}
-
-/// Whether an expression is its only conjunct.
-#[tactic(auto, unfolding(vx_expr::specs::Conjuncts::conjuncts_of))]
-fn is_alone(expr: &ExprRef) -> bool
-    ensures { result ≡ true → conjuncts_of expr.now ≡ expr.now ∷ [] }
-{
-    if let Expr::Binary(node) = expr.expr() {
-        if node.op() == Operator::And {
+    let mut first = expr;
+    while let Some((others, last)) = operands_of_and(first) {
+        if operands_of_and(last).is_some() {
             return false;
         }
+        first = others;
     }
     true
 }

@@ -1,15 +1,14 @@
-// The one recursion of the passes that make an expression anew from the leaves up.
-ghost use Rattle.std.specs.Prelude.{◌≡◌, Result, IfOk};
-ghost use Rattle.vx_expr.specs.Trees.{Tree};
+// The one loop of the passes that make an expression anew from the leaves up.
+ghost use Rattle.std.specs.Prelude.{◌≡◌, Result};
+ghost use Rattle.vx_expr.specs.Trees.{Tree, children_of};
 ghost use Rattle.vx_semantics.specs.Typing.{Refusal};
 ghost use Rattle.vx_passes.specs.Rebuilding.{rebuilt};
 ghost use Rattle.vx_transform.specs.TransformAnswers.{AnswersBy, AnswersTree};
-ghost use Rattle.vx_transform.specs.Rebuilds.{or_same, children_rebuilt};
+ghost use Rattle.vx_transform.specs.Rebuilds.{or_same, OneByOne, IsRebuilt};
 
-use crate::children::with_these;
+use crate::children::with_made;
 use crate::errors::TransformError;
 use std::alloc::Global;
-use vx_dtype::Mem;
 use vx_expr::{ExprRef, VortexExpr};
 
 /// What a pass makes of a node whose children are made.
@@ -29,57 +28,46 @@ pub(crate) fn rebuild<S: Step>(
 ) -> Result<ExprRef, TransformError>
     ensures { AnswersTree (rebuilt (S.step step.now) expr) result }
 {
-    let made = rebuild_node(alloc, &expr, step)?;
+    let made = rebuild_nodes(alloc, &expr, step)?;
     Ok(made.unwrap_or(expr))
 }
 
-/// What was made of an expression, and where nothing was, the expression, shared.
-fn or_shared(made: Option<ExprRef>, expr: &ExprRef) -> Mem<ExprRef>
-    ensures { IfOk result (λ shared. shared ≡ or_same expr.now made) }
-{
-    match made {
-        Some(made) => Ok(made),
-        None => Ok(expr.clone()?),
-    }
-}
-
-/// What the node becomes, and None where it stays.
-#[cycle(rebuild)]
-fn rebuild_node<S: Step>(
+/// What the expression becomes, node by node from the leaves up, and None where it stays.
+fn rebuild_nodes<S: Step>(
     alloc: Global,
     expr: &ExprRef,
     step: &S,
 ) -> Result<Option<ExprRef>, TransformError>
     ensures { AnswersBy (or_same expr.now) (rebuilt (S.step step.now) expr.now) result }
 {
-    match rebuild_children(alloc, expr, step)? {
-        None => step.at(alloc, expr),
+    let nodes = expr.post_order(alloc)?;
+    let mut made = Vec::new(alloc);
+    for i in 0..nodes.len() {
+        let node = nodes[i];
+        let below = made.split_off(made.len() - node.children_count())?;
+        made.push(rebuild_node(alloc, node, below.as_slice(), step)?)?;
+    }
+    match made.pop() {
+        Some(whole) => Ok(whole),
+        None => unreachable!(),
+    }
+}
+
+/// What the node becomes over what its children became, and None where it stays.
+fn rebuild_node<S: Step>(
+    alloc: Global,
+    node: &ExprRef,
+    below: &[Option<ExprRef>],
+    step: &S,
+) -> Result<Option<ExprRef>, TransformError>
+    requires { OneByOne (IsRebuilt (S.step step.now)) (children_of node.now) below.now }
+    ensures { AnswersBy (or_same node.now) (rebuilt (S.step step.now) node.now) result }
+{
+    match with_made(alloc, node, below)? {
+        None => step.at(alloc, node),
         Some(node) => {
             let made = step.at(alloc, &node)?;
             Ok(Some(made.unwrap_or(node)))
         }
     }
-}
-
-/// The node with what its children become, and None where each of them stays.
-#[cycle(rebuild)]
-fn rebuild_children<S: Step>(
-    alloc: Global,
-    expr: &ExprRef,
-    step: &S,
-) -> Result<Option<ExprRef>, TransformError>
-    ensures { AnswersBy (or_same expr.now) (children_rebuilt (S.step step.now) expr.now) result }
-{
-    let mut children = Vec::new(alloc);
-    let mut changed = false;
-    for i in 0..expr.children_count() {
-        let child = expr.child_at(i);
-        let made = rebuild_node(alloc, child, step)?;
-        changed |= made.is_some();
-        children.push(or_shared(made, child)?)?;
-    }
-    if !changed {
-        return Ok(None);
-    }
-    Ok(Some(with_these(alloc, expr, children)?))
 }

@@ -16,7 +16,7 @@ module _ {S N C R E : Type 0} (Each : FoldStep S N C R E) (c : C) (GoesUp : S �
   FoldsInTurn-end r t le up = let P : List N → Type 0 = λ ys. FoldsInTurn Each c GoesUp results s ys r t in subst P (sym (drop-past xs i le)) up
 
   module _ (x : N) (at : slice_get xs i ≡ Some x) (q : Walk (FoldUp R) E) (u : S) (step : Each s c x q u) where
-    FoldsInTurn-at : (r : Walk (FoldUp R) E) (t : S) → WithResult (λ y. FoldsInTurn Each c GoesUp (results ++ y ∷ []) u (drop (i + 1) xs) r t) q u r t → FoldsInTurn Each c GoesUp results s (drop i xs) r t
+    pub FoldsInTurn-at : (r : Walk (FoldUp R) E) (t : S) → WithResult (λ y. FoldsInTurn Each c GoesUp (results ++ y ∷ []) u (drop (i + 1) xs) r t) q u r t → FoldsInTurn Each c GoesUp results s (drop i xs) r t
     FoldsInTurn-at r t rest =
         let P : List N → Type 0 = λ ys. FoldsInTurn Each c GoesUp results s ys r t in
         subst P (sym (drop-at xs i x at)) (q, u, step, subst (λ (j : ℕ). WithResult (λ y. FoldsInTurn Each c GoesUp (results ++ y ∷ []) u (drop j xs) r t) q u r t) (add-one i) rest)

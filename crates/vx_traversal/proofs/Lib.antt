@@ -1,6 +1,10 @@
 pub mod Steps
 pub mod VisitLemmas
+pub mod FirstVisitLemmas
 pub mod RewriteLemmas
+pub mod RewriteFrameLemmas
 pub mod FoldLemmas
+pub mod FoldFrameLemmas
 pub mod ContainerLemmas
 pub mod ReferenceLemmas
+pub mod ReferenceOrderLemmas

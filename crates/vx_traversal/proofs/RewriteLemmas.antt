@@ -29,18 +29,18 @@ module _ {S N E : Type 0} (Each : RewriteStep S N E) where
   pub MapsInTurn-end : (xs : List N) (i : ℕ) (so_far : Transformed (List N)) (s : S) → length xs ≤ i → MapsInTurn Each so_far s (drop i xs) (Ok so_far) s
   MapsInTurn-end xs i so_far s le = let P : List N → Type 0 = λ ys. MapsInTurn Each so_far s ys (Ok so_far) s in subst P (sym (drop-past xs i le)) (refl, refl)
 
-  unless_stopped : (o : TraversalOrder) → (o ≡ Stop → ⊥) → (s : S) (n : N) (q : Walk (Transformed N) E) (u : S) → Each s n q u → UnlessStopped Each o s n q u
+  pub unless_stopped : (o : TraversalOrder) → (o ≡ Stop → ⊥) → (s : S) (n : N) (q : Walk (Transformed N) E) (u : S) → Each s n q u → UnlessStopped Each o s n q u
   unless_stopped Skip on s n q u step = step
   unless_stopped Stop on s n q u step = absurd (on refl)
   unless_stopped Continue on s n q u step = step
 
-  kept : (o : TraversalOrder) → o ≡ Stop → (s : S) (n : N) → UnlessStopped Each o s n (Ok (record { value = n; order = o; changed = false })) s
+  pub kept : (o : TraversalOrder) → o ≡ Stop → (s : S) (n : N) → UnlessStopped Each o s n (Ok (record { value = n; order = o; changed = false })) s
   kept Skip is s n = absurd (cc)
   kept Stop is s n = (refl, refl)
   kept Continue is s n = absurd (cc)
 
   module _ (xs : List N) (i : ℕ) (x : N) (at : slice_get xs i ≡ Some x) (vs : List N) (o : TraversalOrder) (ch : Bool) where
-    MapsInTurn-at : (s : S) (q : Walk (Transformed N) E) (u : S) (r : Walk (Transformed (List N)) E) (t : S) →
+    pub MapsInTurn-at : (s : S) (q : Walk (Transformed N) E) (u : S) (r : Walk (Transformed (List N)) E) (t : S) →
         UnlessStopped Each o s x q u → WithValue (λ y. MapsInTurn Each (with_one (record { value = vs; order = o; changed = ch }) y) u (drop (i + 1) xs) r t) q u r t → MapsInTurn Each (record { value = vs; order = o; changed = ch }) s (drop i xs) r t
     MapsInTurn-at s q u r t step rest =
         let P : List N → Type 0 = λ ys. MapsInTurn Each (record { value = vs; order = o; changed = ch }) s ys r t in

@@ -17,7 +17,7 @@ pub drop-next : {A : Type 0} (xs : List A) (i : ℕ) (x : A) → slice_get xs i 
 drop-next xs i x at = drop-at xs i x at ∙ ap (λ j. x ∷ drop j xs) (sym (add-one i))
 
 -- after an order that is no Stop the walk goes on
-goes_on : {S E : Type 0} (o : TraversalOrder) → (o ≡ Stop → ⊥) → (GoesOn : TraversalOrder → Type 0) (s : S) (r : Result TraversalOrder E) (t : S) → GoesOn o → EndsOrGoesOn GoesOn (Ok o) s r t
+pub goes_on : {S E : Type 0} (o : TraversalOrder) → (o ≡ Stop → ⊥) → (GoesOn : TraversalOrder → Type 0) (s : S) (r : Result TraversalOrder E) (t : S) → GoesOn o → EndsOrGoesOn GoesOn (Ok o) s r t
 goes_on Skip on GoesOn s r t h = h
 goes_on Stop on GoesOn s r t h = absurd (on refl)
 goes_on Continue on GoesOn s r t h = h

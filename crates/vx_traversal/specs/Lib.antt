@@ -1,8 +1,10 @@
 pub mod Orders
 pub mod Visits
+pub mod FirstVisits
 pub mod Rewrites
-pub mod Reaches
+pub mod RewriteFrames
 pub mod Folds
+pub mod FoldFrames
 pub mod ContainerShapes
 pub mod ContainerShapeLaws
 pub mod Containers

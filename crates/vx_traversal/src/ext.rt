@@ -21,7 +21,8 @@ pub trait NodeExt: Node {
     /// children are left out and up follows; after Continue the children are visited in order
     /// until one has the order Stop. Up follows the children where the last of them has the order
     /// Continue, or there are none, and its answer is the node's order; else the last child's
-    /// order is. An error of the visitor ends the visit.
+    /// order is. An error of the visitor ends the visit. Each level of the tree takes stack, since no
+    /// allocator is at hand.
     final fn accept<'a, V: NodeVisitor<'a, NodeTy = Self>>(
         &'a self,
         visitor: &mut V,

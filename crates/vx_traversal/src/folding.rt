@@ -1,15 +1,17 @@
-//! The one recursion of all folds, with a context or without.
-ghost use Rattle.std.specs.Prelude.{◌≡◌, List, [], Ok, Result};
+//! The one loop of all folds, with a context or without.
+ghost use Rattle.std.specs.Prelude.{◌≡◌, ◌<◌, ◌≤◌, List, [], Ok, Result, IfOk, length};
 ghost use Rattle.vx_traversal.specs.declared.errors.WalkError.{WalkError};
 ghost use Rattle.vx_traversal.specs.declared.fold.FoldDownContext.{FoldDownContext};
 ghost use Rattle.vx_traversal.specs.declared.fold.FoldUp.{FoldUp};
 ghost use Rattle.vx_traversal.specs.Folds.{AfterDown, DownAlone, FoldsInTurn, FoldsUnder, UpAlone};
+ghost use Rattle.vx_traversal.specs.FoldFrames.{HasOneMore, StepsOn, context_below};
 ghost use Rattle.vx_traversal.specs.Rewrites.{UnlessNoMemory};
 
-use crate::errors::Walk;
+use crate::errors::{Walk, WalkError};
 use crate::fold::{FoldDown, FoldDownContext, FoldUp, NodeFolder, NodeFolderContext};
 use crate::nodes::{Node, clone_child};
 use std::alloc::Global;
+use vx_dtype::Mem;
 
 // What is done at each node of a fold: the steps of a folder with a context or without, as M says.
 pub(crate) trait Folding<M> {
@@ -117,7 +119,6 @@ impl<F: NodeFolder> Folding<Alone> for F {
     }
 }
 
-#[cycle(fold)]
 pub(crate) fn fold_node<M, F: Folding<M>>(
     node: F::NodeTy,
     alloc: Global,
@@ -131,7 +132,6 @@ pub(crate) fn fold_node<M, F: Folding<M>>(
 }
 
 // What follows the answer of a node's down under this context.
-#[cycle(fold)]
 fn fold_after_down<M, F: Folding<M>>(
     node: F::NodeTy,
     alloc: Global,
@@ -143,30 +143,152 @@ fn fold_after_down<M, F: Folding<M>>(
         (FoldsUnder F.NodeTy.children F.goes_down F.goes_up F.NodeTy.height) ctx.now node (Ok answer) folder.old result folder.new) }
 {
     match answer {
-        FoldDownContext::Continue(inner) => fold_children(node, alloc, ctx, &inner, folder),
+        FoldDownContext::Continue(inner) => fold_children(node, alloc, ctx, inner, folder),
         FoldDownContext::Skip(given) => Ok(FoldUp::Continue(given)),
         FoldDownContext::Stop(given) => Ok(FoldUp::Stop(given)),
     }
 }
 
-#[cycle(fold)]
+// A node whose children are folded in turn.
+#[derive(Drop)]
+pub(crate) struct FoldFrame<N, C, R> {
+    node: N,
+    // The context of the children.
+    inner: C,
+    // The results of the children so far.
+    results: Vec<R>,
+}
+
+// How a fold goes on after a step.
+#[derive(Drop)]
+pub(crate) enum NextFold<N, C, R> {
+    // In this frame.
+    Goes(FoldFrame<N, C, R>),
+    // Not at all: the whole fold has this answer.
+    Ends(FoldUp<R>),
+}
+
+// Folds the children of a node and then the node. The nodes whose children are folded stand in a
+// vector, so that a tree takes the stack of one node however deep it is. The turns are counted,
+// since a measure of them would say nothing more: no machine takes all of them.
 fn fold_children<M, F: Folding<M>>(
     node: F::NodeTy,
     alloc: Global,
     ctx: &F::Context,
-    inner: &F::Context,
+    inner: F::Context,
     folder: &mut F,
 ) -> Walk<FoldUp<F::Result>, F::Error>
-    ensures { UnlessNoMemory result (FoldsInTurn (FoldsUnder F.NodeTy.children F.goes_down F.goes_up F.NodeTy.height) inner.now
+    ensures { UnlessNoMemory result (FoldsInTurn (FoldsUnder F.NodeTy.children F.goes_down F.goes_up F.NodeTy.height) inner
         (λ state results. F.goes_up state node ctx.now results) [] folder.old (F.NodeTy.children node) result folder.new) }
 {
-    let mut results = Vec::new(alloc);
-    for i in 0..node.children_count() {
-        let child = clone_child(&node, i)?;
-        match fold_node(child, alloc, inner, folder)? {
-            FoldUp::Stop(given) => return Ok(FoldUp::Stop(given)),
-            FoldUp::Continue(given) => results.push(given)?,
+    let mut outer = Vec::new(alloc);
+    let mut frame = FoldFrame {
+        node,
+        inner,
+        results: Vec::new(alloc),
+    };
+    for _ in 0..u64::MAX {
+        match fold_step(frame, alloc, ctx, &mut outer, folder)? {
+            NextFold::Ends(given) => return Ok(given),
+            NextFold::Goes(next) => frame = next,
         }
     }
-    folder.go_up(node, ctx, results)
+    Err(WalkError::NoMemory)
+}
+
+// One step of a fold: down on the frame's next child, or up on its node.
+fn fold_step<M, F: Folding<M>>(
+    frame: FoldFrame<F::NodeTy, F::Context, F::Result>,
+    alloc: Global,
+    ctx: &F::Context,
+    outer: &mut Vec<FoldFrame<F::NodeTy, F::Context, F::Result>>,
+    folder: &mut F,
+) -> Walk<NextFold<F::NodeTy, F::Context, F::Result>, F::Error>
+    ensures { StepsOn F.NodeTy.children F.goes_down F.goes_up F.NodeTy.height ctx.now outer.old.items frame folder.old result outer.new.items folder.new }
+{
+    if frame.results.len() < frame.node.children_count() {
+        return fold_down(frame, alloc, ctx, outer, folder);
+    }
+    fold_up(frame, ctx, outer, folder)
+}
+
+// Down on the frame's next child.
+fn fold_down<M, F: Folding<M>>(
+    frame: FoldFrame<F::NodeTy, F::Context, F::Result>,
+    alloc: Global,
+    ctx: &F::Context,
+    outer: &mut Vec<FoldFrame<F::NodeTy, F::Context, F::Result>>,
+    folder: &mut F,
+) -> Walk<NextFold<F::NodeTy, F::Context, F::Result>, F::Error>
+    requires { length frame.results.items < length (F.NodeTy.children frame.node) }
+    ensures { StepsOn F.NodeTy.children F.goes_down F.goes_up F.NodeTy.height ctx.now outer.old.items frame folder.old result outer.new.items folder.new }
+{
+    let child = clone_child(&frame.node, frame.results.len())?;
+    match folder.go_down(&frame.inner, &child)? {
+        FoldDownContext::Stop(given) => Ok(NextFold::Ends(FoldUp::Stop(given))),
+        FoldDownContext::Skip(given) => Ok(NextFold::Goes(with_result(frame, given)?)),
+        FoldDownContext::Continue(inner) => {
+            outer.push(frame)?;
+            Ok(NextFold::Goes(FoldFrame {
+                node: child,
+                inner,
+                results: Vec::new(alloc),
+            }))
+        }
+    }
+}
+
+// Up on a frame's node whose children all have results.
+fn fold_up<M, F: Folding<M>>(
+    frame: FoldFrame<F::NodeTy, F::Context, F::Result>,
+    ctx: &F::Context,
+    outer: &mut Vec<FoldFrame<F::NodeTy, F::Context, F::Result>>,
+    folder: &mut F,
+) -> Walk<NextFold<F::NodeTy, F::Context, F::Result>, F::Error>
+    requires { length (F.NodeTy.children frame.node) ≤ length frame.results.items }
+    ensures { StepsOn F.NodeTy.children F.goes_down F.goes_up F.NodeTy.height ctx.now outer.old.items frame folder.old result outer.new.items folder.new }
+{
+    match frame_up(frame, ctx, outer, folder)? {
+        FoldUp::Stop(given) => Ok(NextFold::Ends(FoldUp::Stop(given))),
+        FoldUp::Continue(given) => match outer.pop() {
+            None => Ok(NextFold::Ends(FoldUp::Continue(given))),
+            Some(above) => Ok(NextFold::Goes(with_result(above, given)?)),
+        },
+    }
+}
+
+// Up on a frame's node, under the context that its down got: that of the children of the frame
+// above it, or the whole fold's.
+fn frame_up<M, F: Folding<M>>(
+    frame: FoldFrame<F::NodeTy, F::Context, F::Result>,
+    ctx: &F::Context,
+    outer: &[FoldFrame<F::NodeTy, F::Context, F::Result>],
+    folder: &mut F,
+) -> Walk<FoldUp<F::Result>, F::Error>
+    ensures { F.goes_up folder.old frame.node (context_below ctx.now outer.now) frame.results.items result folder.new }
+{
+    if outer.is_empty() {
+        return folder.go_up(frame.node, ctx, frame.results);
+    }
+    folder.go_up(frame.node, &outer[outer.len() - 1].inner, frame.results)
+}
+
+// The frame with one more result.
+fn with_result<N: Clone, C: Drop, R: Drop>(
+    frame: FoldFrame<N, C, R>,
+    given: R,
+) -> Mem<FoldFrame<N, C, R>>
+    ensures { IfOk result (HasOneMore frame given) }
+{
+    let FoldFrame {
+        node,
+        inner,
+        mut results,
+    } = frame;
+    results.push(given)?;
+    Ok(FoldFrame {
+        node,
+        inner,
+        results,
+    })
 }

@@ -6,7 +6,7 @@ ghost use Rattle.vx_traversal.specs.Visits.{InTurn};
 
 use crate::errors::Walk;
 use crate::order::TraversalOrder;
-use crate::rewriting::{ByClosureUp, Reach, rewrite_children};
+use crate::rewriting::{ByClosureUp, map_children_alone};
 use crate::transform::Transformed;
 use std::alloc::Global;
 use vx_dtype::Mem;
@@ -96,7 +96,7 @@ pub trait Node: Sized + Clone {
         requires { F.IsAlwaysCallable f }
         ensures { (last : F) × UnlessNoMemory result (MapsChildren children is_with (CalledWith F.FnMut) f self result last) }
     {
-        rewrite_children::<ByClosureUp, Self, F>(self, alloc, Reach::Child, &mut f)
+        map_children_alone::<ByClosureUp, Self, F>(self, alloc, &mut f)
     }
 }
 

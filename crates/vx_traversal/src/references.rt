@@ -4,7 +4,6 @@ ghost use Rattle.vx_expr.specs.Trees.{Tree};
 ghost use Rattle.vx_traversal.specs.Visits.{NoStep};
 ghost use Rattle.vx_traversal.specs.References.{own_names, reference_names, AddsNames, Collects, HasExactly};
 
-use crate::ext::NodeExt;
 use crate::order::TraversalOrder;
 use crate::visitor::NodeVisitor;
 use std::alloc::Global;
@@ -117,8 +116,11 @@ impl VortexExprExt for ExprRef {
     ghost expression = { λ expr. expr };
 
     fn field_references(&self, alloc: Global) -> Mem<HashSet<FieldName>> {
-        let mut collector = ReferenceCollector::new(alloc);
-        self.accept(&mut collector)?;
-        Ok(collector.into_fields())
+        let nodes = self.post_order(alloc)?;
+        let mut fields = HashSet::new(alloc);
+        for i in 0..nodes.len() {
+            add_own_names(&mut fields, nodes[i])?;
+        }
+        Ok(fields)
     }
 }

@@ -6,7 +6,7 @@ ghost use Rattle.vx_traversal.specs.Visits.{Visits, NoStep, without_order};
 
 use crate::nodes::Node;
 use crate::order::TraversalOrder;
-use crate::walking::{ByClosureDown, ByClosureUp, walk_node};
+use crate::walking::{ByClosureDown, ByClosureUp, walk_down, walk_node};
 
 /// What is done at each node of a visit.
 pub trait NodeVisitor<'a> {
@@ -30,6 +30,7 @@ pub trait NodeVisitor<'a> {
 }
 
 /// Calls `f` on each node before its children, as a visit whose down is `f` and whose up goes on.
+/// A chain of last children takes no stack; each other level does.
 pub fn pre_order_visit_down<'a, T: Node, E, F: FnMut(&'a T) -> Result<TraversalOrder, E>>(
     tree: &'a T,
     mut f: F,
@@ -40,11 +41,12 @@ where
     ensures { (order : Result TraversalOrder E) × (last : F) × Visits T.children (CalledAt F.FnMut) NoStep T.height f tree.entry.now order last
         × (result ≡ without_order order) }
 {
-    walk_node::<ByClosureDown, &'a T, F>(tree, &mut f)?;
+    walk_down::<ByClosureDown, &'a T, F>(tree, &mut f)?;
     Ok(())
 }
 
 /// Calls `f` on each node after its children, as a visit whose down goes on and whose up is `f`.
+/// Each level of the tree takes stack.
 pub fn pre_order_visit_up<'a, T: Node, E, F: FnMut(&'a T) -> Result<TraversalOrder, E>>(
     tree: &'a T,
     mut f: F,

@@ -1,8 +1,10 @@
-//! The one recursion of all visits, over the steps of a visitor or of a closure.
-ghost use Rattle.std.specs.Prelude.{◌≡◌, ◌<◌, Result, Some, length, slice_get, ⊤};
+//! The recursion of the visits, over the steps of a visitor or of a closure, and the one that goes
+//! down alone.
+ghost use Rattle.std.specs.Prelude.{◌≡◌, ◌<◌, ◌≤◌, Result, Some, length, slice_get, ⊤};
 ghost use Rattle.vx_traversal.specs.declared.order.TraversalOrder.{TraversalOrder};
 ghost use Rattle.std.specs.Fn.{CalledAt};
 ghost use Rattle.vx_traversal.specs.Visits.{Visits, InTurn, NoStep};
+ghost use Rattle.vx_traversal.specs.FirstVisits.{MayDoNothing, TakesFirst};
 
 use crate::nodes::Node;
 use crate::order::TraversalOrder;
@@ -157,6 +159,59 @@ fn walk_children<M, H: NodeRef, W: Walker<M, H>>(
     let mut last = TraversalOrder::Continue;
     for i in 0..node.count() {
         match walk_node(node.child(i), walker)? {
+            TraversalOrder::Stop => return Ok(TraversalOrder::Stop),
+            order => last = order,
+        }
+    }
+    Ok(last)
+}
+
+// The visit by a walker that may leave its step after the children out. It goes on with a node's
+// last child in the same loop, so that a chain of last children takes no stack.
+#[cycle(down)]
+pub(crate) fn walk_down<M, H: NodeRef, W: Walker<M, H>>(
+    node: H,
+    walker: &mut W,
+) -> Result<TraversalOrder, W::Error>
+    requires ready { W.ready walker.old }
+    requires no_up { MayDoNothing W.goes_up }
+    ensures visits { Visits H.Target.children W.goes_down W.goes_up H.Target.height walker.old (H.target node) result walker.new }
+    ensures again { W.ready walker.new }
+{
+    let mut low = node;
+    loop {
+        match walker.go_down(low)? {
+            TraversalOrder::Stop => return Ok(TraversalOrder::Stop),
+            TraversalOrder::Skip => return Ok(TraversalOrder::Continue),
+            TraversalOrder::Continue => {}
+        }
+        let count = low.count();
+        if count == 0 {
+            return Ok(TraversalOrder::Continue);
+        }
+        if let TraversalOrder::Stop = walk_first(low, count - 1, walker)? {
+            return Ok(TraversalOrder::Stop);
+        }
+        low = low.child(count - 1);
+    }
+}
+
+// The first children of a node, as many as told.
+#[cycle(down)]
+fn walk_first<M, H: NodeRef, W: Walker<M, H>>(
+    node: H,
+    count: usize,
+    walker: &mut W,
+) -> Result<TraversalOrder, W::Error>
+    requires ready { W.ready walker.old }
+    requires no_up { MayDoNothing W.goes_up }
+    requires within { count ≤ length (H.Target.children (H.target node)) }
+    ensures visits { TakesFirst (Visits H.Target.children W.goes_down W.goes_up H.Target.height) (H.Target.children (H.target node)) count walker.old result walker.new }
+    ensures again { W.ready walker.new }
+{
+    let mut last = TraversalOrder::Continue;
+    for i in 0..count {
+        match walk_down(node.child(i), walker)? {
             TraversalOrder::Stop => return Ok(TraversalOrder::Stop),
             order => last = order,
         }

@@ -1,20 +1,21 @@
 -- Slots that fit, in a node and in its children.
-use Rattle.std.proofs.Common.{◌≡◌, refl, ap, sym, ◌∙◌, ℕ, ◌+◌, ◌≤◌, true, ◌&&◌, ◌||◌, not, List, [], ◌∷◌, length, drop, Some, zero, suc}
-use Rattle.std.specs.List.{slice_get}
-use Rattle.std.proofs.lemmas.List.{drop_all}
+use Rattle.std.proofs.Common.{◌≡◌, refl, ap, sym, ◌∙◌, subst, ℕ, true, ◌&&◌, ◌||◌, not, List, [], ◌∷◌, Some, zero, suc}
+use Rattle.std.specs.List.{slice_get, list_all}
+use Rattle.std.proofs.lemmas.List.Folds.{list_all-append}
 use Rattle.std.proofs.lemmas.Bool.{and_parts}
 use Rattle.vx_dtype.specs.Types.{Ty}
 use Rattle.vx_dtype.specs.TypeRules.{is_nullable, nullability_of}
 use Rattle.vx_dtype.specs.Values.{Raw, raw_null, raw_bool, raw_int, raw_text, raw_list, raw_struct}
 use Rattle.vx_dtype.specs.ScalarAnswers.{is_raw_null}
-use Rattle.vx_expr.specs.Trees.{Tree, trees_of, root, literal, get_item, binary, not_of, is_null_of, like, between, cast, list_contains, pack, merge, select, dynamic, Trees, children_of}
+use Rattle.vx_expr.specs.Trees.{Tree, trees_of, root, literal, get_item, binary, not_of, is_null_of, like, between, cast, list_contains, pack, merge, select, dynamic, Trees, no_trees, tree, listed, children_of}
 use Rattle.vx_semantics.specs.Slots.{null_allowed, held_fits, slots_fit, all_slots_fit}
 use Rattle.vx_semantics.specs.Meaning.{Slots}
-use Rattle.vx_typing.proofs.TypeLists.{left_step}
-use Rattle.std.proofs.Math.Bool.{and-true}
+use Rattle.std.proofs.Math.Bool.{and-true, and_comm}
 use Rattle.std.proofs.lemmas.Option.{same_Some, none-some}
 use Rattle.vx_expr.specs.Slots.{slot_held}
+use Rattle.vx_expr.specs.PostOrders.{post_order, post_order_all}
 use Rattle.vx_expr.proofs.TreeLemmas.{trees_of_listed}
+use Rattle.vx_expr.proofs.PostOrderLemmas.{node_last}
 use Rattle.vx_typing.specs.OwnSlots.{own_slot_fits}
 
 -- the children as the tree holds them
@@ -58,13 +59,48 @@ null_so (raw_text s) t = refl
 null_so (raw_list xs) t = refl
 null_so (raw_struct xs) t = refl
 
-module _ (slots : Slots) (cs : List Tree) (i : ℕ) where
-  -- of the children from a place on, the one there and those behind it fit
-  pub slots_step : (c : Tree) → slice_get cs i ≡ Some c → all_slots_fit slots (trees_of (drop i cs)) ≡ slots_fit slots c && all_slots_fit slots (trees_of (drop (i + 1) cs))
-  unfolding slots_fit
-  slots_step c at = ap (λ ds. all_slots_fit slots (trees_of ds)) (left_step cs i c at)
+-- ---- an expression by its nodes
 
-  -- and past the last there are none
-  pub slots_end : length cs ≤ i → all_slots_fit slots (trees_of (drop i cs)) ≡ true
-  unfolding slots_fit
-  slots_end past = ap (λ ds. all_slots_fit slots (trees_of ds)) (drop_all i cs past)
+module _ (slots : Slots) where
+  -- the slots of a list of expressions, by those of its first and of the others
+  one_more : (e : Tree) (es : Trees) → slots_fit slots e ≡ list_all (own_slot_fits slots) (post_order e) → list_all (own_slot_fits slots) (post_order_all es) ≡ all_slots_fit slots es
+      → list_all (own_slot_fits slots) (post_order_all (tree e es)) ≡ all_slots_fit slots (tree e es)
+  unfolding slots_fit post_order
+  one_more e es first others = list_all-append (own_slot_fits slots) (post_order e) (post_order_all es) ∙ ap (λ b. b && list_all (own_slot_fits slots) (post_order_all es)) (sym first) ∙ ap (λ b. slots_fit slots e && b) others
+
+  by_nodes_as : (ds es : Trees) → ds ≡ es → list_all (own_slot_fits slots) (post_order_all es) ≡ all_slots_fit slots es → list_all (own_slot_fits slots) (post_order_all ds) ≡ all_slots_fit slots ds
+  by_nodes_as ds es same h = subst (λ cs. list_all (own_slot_fits slots) (post_order_all cs) ≡ all_slots_fit slots cs) (sym same) h
+
+  -- those of an expression, by those of its children
+  whole : (e : Tree) → list_all (own_slot_fits slots) (post_order_all (below e)) ≡ all_slots_fit slots (below e) → slots_fit slots e ≡ list_all (own_slot_fits slots) (post_order e)
+  whole e h =
+      let own = own_slot_fits slots e in
+      slots_split slots e ∙ and_comm own (all_slots_fit slots (below e)) ∙ ap (λ b. b && own) (sym h) ∙ ap (λ b. list_all (own_slot_fits slots) (post_order_all (below e)) && b) (sym (and-true own))
+      ∙ sym (list_all-append (own_slot_fits slots) (post_order_all (below e)) (e ∷ [])) ∙ ap (list_all (own_slot_fits slots)) (sym (node_last e))
+
+  mutual
+    unfolding slots_fit post_order
+
+    -- the slots of an expression fit where those of each of its nodes do
+    pub slots_by_nodes : (e : Tree) → slots_fit slots e ≡ list_all (own_slot_fits slots) (post_order e)
+    slots_by_nodes root = whole root refl
+    slots_by_nodes (literal s) = whole (literal s) refl
+    slots_by_nodes (get_item f e) = whole (get_item f e) (one_more e no_trees (slots_by_nodes e) refl)
+    slots_by_nodes (binary l op r) = whole (binary l op r) (one_more l (tree r no_trees) (slots_by_nodes l) (one_more r no_trees (slots_by_nodes r) refl))
+    slots_by_nodes (not_of e) = whole (not_of e) (one_more e no_trees (slots_by_nodes e) refl)
+    slots_by_nodes (is_null_of e) = whole (is_null_of e) (one_more e no_trees (slots_by_nodes e) refl)
+    slots_by_nodes (like e p negated fold_case) = whole (like e p negated fold_case) (one_more e (tree p no_trees) (slots_by_nodes e) (one_more p no_trees (slots_by_nodes p) refl))
+    slots_by_nodes (between e lower upper options) =
+        whole (between e lower upper options)
+        (one_more e (tree lower (tree upper no_trees)) (slots_by_nodes e) (one_more lower (tree upper no_trees) (slots_by_nodes lower) (one_more upper no_trees (slots_by_nodes upper) refl)))
+    slots_by_nodes (cast e t) = whole (cast e t) (one_more e no_trees (slots_by_nodes e) refl)
+    slots_by_nodes (list_contains l v) = whole (list_contains l v) (one_more l (tree v no_trees) (slots_by_nodes l) (one_more v no_trees (slots_by_nodes v) refl))
+    slots_by_nodes (pack names es n) = whole (pack names es n) (by_nodes_as (trees_of (listed es)) es (trees_of_listed es) (slots_by_nodes_all es))
+    slots_by_nodes (merge es n) = whole (merge es n) (by_nodes_as (trees_of (listed es)) es (trees_of_listed es) (slots_by_nodes_all es))
+    slots_by_nodes (select s e) = whole (select s e) (one_more e no_trees (slots_by_nodes e) refl)
+    slots_by_nodes (dynamic e op k t default) = whole (dynamic e op k t default) (one_more e no_trees (slots_by_nodes e) refl)
+
+    -- the same of a list of expressions
+    slots_by_nodes_all : (es : Trees) → list_all (own_slot_fits slots) (post_order_all es) ≡ all_slots_fit slots es
+    slots_by_nodes_all no_trees = refl
+    slots_by_nodes_all (tree e es) = one_more e es (slots_by_nodes e) (slots_by_nodes_all es)

@@ -1,5 +1,6 @@
 pub mod TypingAnswers
 pub mod OwnSlots
+pub mod OperandTypes
 pub use Rattle.vx_dtype.specs.TypeViews
 pub use Rattle.vx_dtype.specs.TypeRules
 pub use Rattle.vx_dtype.specs.StructTypes

@@ -28,6 +28,22 @@ pub enum TypeError {
     TypeMismatch,
 }
 
+impl TypeError {
+    /// The same refusal once more.
+    pub(crate) fn again(&self) -> TypeError
+        ensures { result ≡ self.now }
+    {
+        match self {
+            TypeError::NoMemory => TypeError::NoMemory,
+            TypeError::NotStruct => TypeError::NotStruct,
+            TypeError::NullableSelect => TypeError::NullableSelect,
+            TypeError::UnknownField => TypeError::UnknownField,
+            TypeError::DuplicateField => TypeError::DuplicateField,
+            TypeError::TypeMismatch => TypeError::TypeMismatch,
+        }
+    }
+}
+
 impl From<AllocError> for TypeError {
     ghost use Rattle.vx_typing.specs.declared.errors.TypeError.TheVariants.{NoMemory as OutOfMemory};
 

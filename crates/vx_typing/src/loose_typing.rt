@@ -1,10 +1,12 @@
-// The looser typing: one recursion over the expression.
-ghost use Rattle.std.specs.Prelude.{◌≡◌, map};
+// The looser typing: one loop over the nodes of the expression, from the leaves up.
+ghost use Rattle.std.specs.Prelude.{◌≡◌, length, List};
+ghost use Rattle.vx_dtype.specs.Types.{Ty};
 ghost use Rattle.vx_dtype.specs.TypeViews.{type_view};
-ghost use Rattle.vx_expr.specs.Trees.{trees_of, children_of};
-ghost use Rattle.vx_expr.specs.Nodes.{binary_tree, like_tree, contains_tree};
-ghost use Rattle.vx_semantics.specs.LooseTyping.{loosely_typed, all_loosely_typed, loose_between_type};
-ghost use Rattle.vx_typing.specs.TypingAnswers.{AnswersBy, AnswersType, in_turn};
+ghost use Rattle.vx_expr.specs.Trees.{Tree, children_of};
+ghost use Rattle.vx_expr.specs.Nodes.{node_tree};
+ghost use Rattle.vx_semantics.specs.LooseTyping.{loosely_typed};
+ghost use Rattle.vx_typing.specs.OperandTypes.{AreLooselyAnswered, AreLooselyTyped, TypesOrRefuses, asked_operands};
+ghost use Rattle.vx_typing.specs.TypingAnswers.{AnswersType};
 
 use crate::errors::TypeError;
 use crate::kinds::union_of;
@@ -16,121 +18,99 @@ use crate::rules::{item_type, not_type};
 use crate::selections::loose_select_type;
 use std::alloc::Global;
 use vx_dtype::{DType, Nullability};
-use vx_expr::{BinaryExpr, Expr, ExprRef, LikeExpr, ListContainsExpr, VortexExpr};
+use vx_expr::{Expr, ExprRef, VortexExpr};
 
 /// The type of an expression over a scope of this type by rules that ask less than those of [`typed`](crate::typed): the struct of
 /// selected fields is nullable where its struct is, a null test and a cast don't look at their operands, comparisons, `and`, `or`,
 /// LIKE and membership ask nothing of types, ranges and comparisons with a slot take lists and structs too, and no name is
 /// refused because it stands twice. Never refuses with NullableSelect or DuplicateField.
-#[cycle(loose)]
-#[tactic(auto, using(vx_expr::proofs::TreeLemmas::trees_of_listed), unfolding(vx_semantics::specs::LooseTyping::loosely_typed))]
 pub fn return_dtype(alloc: Global, expr: &ExprRef, scope: &DType) -> Result<DType, TypeError>
     ensures { AnswersType (loosely_typed (type_view scope.now) expr.now) result }
 {
-    match expr.expr() {
-        Expr::Root(_) => Ok(scope.clone()?),
-        Expr::Literal(node) => Ok(node.value().dtype().clone()?),
-        Expr::GetItem(node) => item_type(node.field(), &return_dtype(alloc, node.child(), scope)?),
-        Expr::Binary(node) => loose_binary(alloc, node, scope),
-        Expr::Not(node) => not_type(return_dtype(alloc, node.child(), scope)?),
-        Expr::IsNull(_) => Ok(DType::Bool(Nullability::NonNullable)),
-        Expr::Like(node) => loose_like(alloc, node, scope),
-        Expr::Between(_) => {
-            loose_between(
-                alloc,
-                expr.child_at(0),
-                expr.child_at(1),
-                expr.child_at(2),
-                scope,
-            )
+    let nodes = expr.post_order(alloc)?;
+    let mut answers = Vec::new(alloc);
+    for &node in nodes.as_slice() {
+        let operands = answers.split_off(answers.len() - node.children_count())?;
+        let answer = node_answer(alloc, node.expr(), operands.as_slice(), scope);
+        if matches!(answer, Err(TypeError::NoMemory)) {
+            return Err(TypeError::NoMemory);
         }
-        Expr::Cast(node) => Ok(node.target().clone()?),
-        Expr::ListContains(node) => loose_contains(alloc, node, scope),
-        Expr::Pack(node) => {
-            let types = loose_list(alloc, expr, scope)?;
-            loose_pack_type(alloc, node.names(), node.nullability(), types)
-        }
-        Expr::Merge(node) => {
-            let types = loose_list(alloc, expr, scope)?;
-            merge_type(alloc, node.nullability(), types.as_slice())
-        }
-        Expr::Select(node) => {
-            loose_select_type(
-                alloc,
-                node.selection(),
-                &return_dtype(alloc, node.child(), scope)?,
-            )
-        }
-        Expr::Dynamic(node) => {
-            loose_dynamic_type(
-                node.rhs_dtype(),
-                &return_dtype(alloc, expr.child_at(0), scope)?,
-            )
-        }
+        answers.push(answer)?;
+    }
+    match answers.pop() {
+        Some(answer) => answer,
+        None => unreachable!(),
     }
 }
 
-/// The type of two operands under an operator.
-#[cycle(loose)]
-#[tactic(auto, unfolding(vx_semantics::specs::LooseTyping::loosely_typed))]
-fn loose_binary(alloc: Global, node: &BinaryExpr, scope: &DType) -> Result<DType, TypeError>
-    ensures { AnswersType (loosely_typed (type_view scope.now) (binary_tree node.now)) result }
-{
-    let left = return_dtype(alloc, node.lhs(), scope)?;
-    let right = return_dtype(alloc, node.rhs(), scope)?;
-    loose_binary_type(node.op(), &left, &right)
-}
-
-/// The type of the match of a text with a pattern.
-#[cycle(loose)]
-#[tactic(auto, unfolding(vx_semantics::specs::LooseTyping::loosely_typed))]
-fn loose_like(alloc: Global, node: &LikeExpr, scope: &DType) -> Result<DType, TypeError>
-    ensures { AnswersType (loosely_typed (type_view scope.now) (like_tree node.now)) result }
-{
-    let text = return_dtype(alloc, node.child(), scope)?;
-    let pattern = return_dtype(alloc, node.pattern(), scope)?;
-    Ok(DType::Bool(union_of(&text, &pattern)))
-}
-
-/// The type of the membership of a value in a list.
-#[cycle(loose)]
-#[tactic(auto, unfolding(vx_semantics::specs::LooseTyping::loosely_typed))]
-fn loose_contains(alloc: Global, node: &ListContainsExpr, scope: &DType) -> Result<DType, TypeError>
-    ensures { AnswersType (loosely_typed (type_view scope.now) (contains_tree node.now)) result }
-{
-    let list = return_dtype(alloc, node.list(), scope)?;
-    let value = return_dtype(alloc, node.value(), scope)?;
-    Ok(DType::Bool(union_of(&list, &value)))
-}
-
-/// The type of a range.
-#[cycle(loose)]
-#[tactic(auto, unfolding(vx_semantics::specs::LooseTyping::loosely_typed))]
-fn loose_between(
+/// The type of a node by what its children answer, each its type or its refusal.
+fn node_answer(
     alloc: Global,
-    value: &ExprRef,
-    lower: &ExprRef,
-    upper: &ExprRef,
+    node: &Expr,
+    answers: &[Result<DType, TypeError>],
     scope: &DType,
 ) -> Result<DType, TypeError>
-    ensures { let t = type_view scope.now in
-        AnswersType (in_turn (loosely_typed t value.now) (loosely_typed t lower.now) (loosely_typed t upper.now) loose_between_type) result }
+    requires { AreLooselyAnswered (type_view scope.now) (children_of (node_tree node.now)) answers.now }
+    ensures { AnswersType (loosely_typed (type_view scope.now) (node_tree node.now)) result }
 {
-    let value = return_dtype(alloc, value, scope)?;
-    let lower = return_dtype(alloc, lower, scope)?;
-    let upper = return_dtype(alloc, upper, scope)?;
-    loose_between_type(&value, &lower, &upper)
+    let operands = asked_types(alloc, node, answers)?;
+    loose_node_type(alloc, node, operands, scope)
 }
 
-/// The types of a node's children.
-#[cycle(loose)]
-fn loose_list(alloc: Global, expr: &ExprRef, scope: &DType) -> Result<Vec<DType>, TypeError>
-    ensures { AnswersBy (λ types. map type_view types.items) (all_loosely_typed (type_view scope.now) (trees_of (children_of expr.now))) result }
+/// The types of the operands that a node looks at, or the first refusal among them.
+fn asked_types(
+    alloc: Global,
+    node: &Expr,
+    answers: &[Result<DType, TypeError>],
+) -> Result<Vec<DType>, TypeError>
+    ensures { (t : Ty) → AreLooselyAnswered t (children_of (node_tree node.now)) answers.now → TypesOrRefuses t (asked_operands (node_tree node.now)) result }
+{
+    match node {
+        Expr::IsNull(_) | Expr::Cast(_) => Ok(Vec::new(alloc)),
+        _ => types_of(alloc, answers),
+    }
+}
+
+/// The types that these answers are, or the first refusal among them.
+fn types_of(alloc: Global, answers: &[Result<DType, TypeError>]) -> Result<Vec<DType>, TypeError>
+    ensures { (t : Ty) (es : List Tree) → AreLooselyAnswered t es answers.now → TypesOrRefuses t es result }
 {
     let mut types = Vec::new(alloc);
-    for i in 0..expr.children_count() {
-        let dtype = return_dtype(alloc, expr.child_at(i), scope)?;
-        types.push(dtype)?;
+    for answer in answers {
+        match answer {
+            Ok(dtype) => types.push(dtype.clone()?)?,
+            Err(refusal) => return Err(refusal.again()),
+        }
     }
     Ok(types)
+}
+
+/// The type of a node over those of the operands that it looks at.
+#[tactic(auto, unfolding(vx_semantics::specs::LooseTyping::loosely_typed))]
+fn loose_node_type(
+    alloc: Global,
+    node: &Expr,
+    operands: Vec<DType>,
+    scope: &DType,
+) -> Result<DType, TypeError>
+    requires lengths { length operands.items ≡ length (asked_operands (node_tree node.now)) }
+    requires operands { AreLooselyTyped (type_view scope.now) (asked_operands (node_tree node.now)) operands.items }
+    ensures { AnswersType (loosely_typed (type_view scope.now) (node_tree node.now)) result }
+{
+    match node {
+        Expr::Root(_) => Ok(scope.clone()?),
+        Expr::Literal(node) => Ok(node.value().dtype().clone()?),
+        Expr::GetItem(node) => item_type(node.field(), &operands[0]),
+        Expr::Binary(node) => loose_binary_type(node.op(), &operands[0], &operands[1]),
+        Expr::Not(_) => not_type(&operands[0]),
+        Expr::IsNull(_) => Ok(DType::Bool(Nullability::NonNullable)),
+        Expr::Like(_) => Ok(DType::Bool(union_of(&operands[0], &operands[1]))),
+        Expr::Between(_) => loose_between_type(&operands[0], &operands[1], &operands[2]),
+        Expr::Cast(node) => Ok(node.target().clone()?),
+        Expr::ListContains(_) => Ok(DType::Bool(union_of(&operands[0], &operands[1]))),
+        Expr::Pack(node) => loose_pack_type(alloc, node.names(), node.nullability(), operands),
+        Expr::Merge(node) => merge_type(alloc, node.nullability(), operands.as_slice()),
+        Expr::Select(node) => loose_select_type(alloc, node.selection(), &operands[0]),
+        Expr::Dynamic(node) => loose_dynamic_type(node.rhs_dtype(), &operands[0]),
+    }
 }

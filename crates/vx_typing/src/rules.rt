@@ -105,13 +105,13 @@ pub(crate) fn binary_type(op: Operator, left: &DType, right: &DType) -> Result<D
 }
 
 /// A negation asks a boolean.
-pub(crate) fn not_type(operand: DType) -> Result<DType, TypeError>
-    ensures { AnswersType (not_type (type_view operand)) result }
+pub(crate) fn not_type(operand: &DType) -> Result<DType, TypeError>
+    ensures { AnswersType (not_type (type_view operand.now)) result }
 {
-    if !is_bool(&operand) {
+    if !is_bool(operand) {
         return Err(TypeError::TypeMismatch);
     }
-    Ok(operand)
+    Ok(operand.clone()?)
 }
 
 /// LIKE asks two texts.

@@ -1,13 +1,13 @@
 // Whether what the slots of comparisons hold fits.
-ghost use Rattle.std.specs.Prelude.{◌≡◌, Some, option_copied};
+ghost use Rattle.std.specs.Prelude.{◌≡◌, Some, option_copied, IfOk};
 ghost use Rattle.vx_dtype.specs.TypeViews.{type_view};
 ghost use Rattle.vx_expr.specs.Slots.{slot_held};
-ghost use Rattle.vx_expr.specs.Trees.{trees_of, children_of};
-ghost use Rattle.vx_semantics.specs.Slots.{held_fits, slots_fit, all_slots_fit};
+ghost use Rattle.vx_semantics.specs.Slots.{held_fits, slots_fit};
 ghost use Rattle.vx_typing.specs.OwnSlots.{own_slot_fits};
 
-use vx_dtype::{DType, Scalar};
-use vx_expr::{Expr, ExprRef, VortexExpr};
+use std::alloc::Global;
+use vx_dtype::{DType, Mem, Scalar};
+use vx_expr::{Expr, ExprRef};
 
 /// Whether a slot of this type holds nothing or a value of an equal type, null only where the slot's type is nullable.
 pub fn held_fits(held: Option<&Scalar>, dtype: &DType) -> bool
@@ -43,23 +43,14 @@ fn own_slot_fits(slots: &[Option<Scalar>], expr: &ExprRef) -> bool
 
 /// Whether the slot of each comparison with a slot in an expression fits: it holds nothing, or a constant of the type that the comparison
 /// names but for nullability, which is null only where that type is nullable.
-#[cycle(slots_fit)]
-#[tactic(auto, using(crate::proofs::SlotLemmas::slots_split))]
-pub fn slots_fit(slots: &[Option<Scalar>], expr: &ExprRef) -> bool
-    ensures { result ≡ slots_fit slots.now expr.now }
+pub fn slots_fit(alloc: Global, slots: &[Option<Scalar>], expr: &ExprRef) -> Mem<bool>
+    ensures { IfOk result (λ fit. fit ≡ slots_fit slots.now expr.now) }
 {
-    own_slot_fits(slots, expr) && children_slots_fit(slots, expr)
-}
-
-/// Whether the slots in a node's children fit.
-#[cycle(slots_fit)]
-fn children_slots_fit(slots: &[Option<Scalar>], expr: &ExprRef) -> bool
-    ensures { result ≡ all_slots_fit slots.now (trees_of (children_of expr.now)) }
-{
-    for i in 0..expr.children_count() {
-        if !slots_fit(slots, expr.child_at(i)) {
-            return false;
+    let nodes = expr.post_order(alloc)?;
+    for &node in nodes.as_slice() {
+        if !own_slot_fits(slots, node) {
+            return Ok(false);
         }
     }
-    true
+    Ok(true)
 }

@@ -13,7 +13,7 @@ ghost use Rattle.vx_expr.specs.EqualLaws.{tree_eq_equiv, tree_decides};
 ghost use Rattle.vx_expr.specs.Feeds.{own_feed, tree_feed};
 
 use crate::children::two_children;
-use crate::equality::same_binary;
+use crate::equality::{feed_operands, same_binary};
 use crate::errors::ExprError;
 use crate::expressions::{Expr, ExprRef};
 use crate::operators::Operator;
@@ -64,6 +64,13 @@ impl BinaryExpr {
         ensures { result.now ≡ binary_right self.now }
     {
         &self.rhs
+    }
+
+    /// Both operands, the left one first.
+    pub(crate) fn into_operands(self) -> (ExprRef, ExprRef)
+        ensures { result ≡ (binary_left self, binary_right self) }
+    {
+        (self.lhs, self.rhs)
     }
 
     /// The children in order.
@@ -147,7 +154,6 @@ impl Hash for BinaryExpr {
     #[tactic(auto, unfolding(crate::specs::Feeds::tree_feed))]
     fn hash<H: Hasher>(&self, state: &mut H) {
         self.feed_own(state);
-        self.lhs.hash(state);
-        self.rhs.hash(state);
+        feed_operands(self, state);
     }
 }

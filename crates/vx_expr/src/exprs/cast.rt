@@ -56,6 +56,13 @@ impl CastExpr {
         &self.child
     }
 
+    /// The operand alone.
+    pub(crate) fn into_child(self) -> ExprRef
+        ensures { result ≡ cast_child self }
+    {
+        self.child
+    }
+
     /// The children in order.
     pub fn child_list(&self, alloc: Global) -> Mem<Vec<&ExprRef>>
         ensures { IfOk result (λ list. map (λ e. e.now) list.items ≡ children_of (cast_tree self.now)) }

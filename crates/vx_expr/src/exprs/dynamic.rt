@@ -115,6 +115,13 @@ impl DynamicComparisonExpr {
         }
     }
 
+    /// The operand alone.
+    pub(crate) fn into_child(self) -> ExprRef
+        ensures { result ≡ dynamic_left self }
+    {
+        self.lhs
+    }
+
     /// The children in order.
     pub fn child_list(&self, alloc: Global) -> Mem<Vec<&ExprRef>>
         ensures { IfOk result (λ list. map (λ e. e.now) list.items ≡ children_of (dynamic_tree self.now)) }

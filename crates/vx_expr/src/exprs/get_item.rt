@@ -63,6 +63,13 @@ impl GetItemExpr {
         matches!(expr.expr(), Expr::GetItem(_))
     }
 
+    /// The operand alone.
+    pub(crate) fn into_child(self) -> ExprRef
+        ensures { result ≡ item_child self }
+    {
+        self.child
+    }
+
     /// The children in order.
     pub fn child_list(&self, alloc: Global) -> Mem<Vec<&ExprRef>>
         ensures { IfOk result (λ list. map (λ e. e.now) list.items ≡ children_of (item_tree self.now)) }

@@ -47,6 +47,13 @@ impl IsNullExpr {
         &self.child
     }
 
+    /// The operand alone.
+    pub(crate) fn into_child(self) -> ExprRef
+        ensures { result ≡ is_null_child self }
+    {
+        self.child
+    }
+
     /// The children in order.
     pub fn child_list(&self, alloc: Global) -> Mem<Vec<&ExprRef>>
         ensures { IfOk result (λ list. map (λ e. e.now) list.items ≡ children_of (is_null_tree self.now)) }

@@ -83,6 +83,13 @@ impl SelectExpr {
         Ok(SelectExpr::new_expr(alloc, FieldSelection::Include(taken), self.child.clone()?)?)
     }
 
+    /// The operand alone.
+    pub(crate) fn into_child(self) -> ExprRef
+        ensures { result ≡ select_child self }
+    {
+        self.child
+    }
+
     /// The children in order.
     pub fn child_list(&self, alloc: Global) -> Mem<Vec<&ExprRef>>
         ensures { IfOk result (λ list. map (λ e. e.now) list.items ≡ children_of (select_tree self.now)) }

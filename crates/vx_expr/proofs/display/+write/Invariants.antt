@@ -1,12 +1,13 @@
-use Rattle.std.proofs.Common.{◌+◌, ◌*◌, max, [], drop}
+use Rattle.std.proofs.Common.{◌≤◌, ◌+◌, ◌*◌, max, [], drop}
 use denote.Text.{Utf8}
 use denote.Shadow.{shadow}
 use Rattle.std.specs.Fmt.{IsPlainFormatter}
 use Rattle.vx_dtype.proofs.PrintingLemmas.{HasBegun}
 use Rattle.vx_expr.specs.Trees.{trees_of}
-use Rattle.vx_expr.specs.Nodes.{node_tree, between_value, between_lower, between_upper, binary_left, binary_right, cast_child, contains_list, contains_value, dynamic_left, item_child, like_child, like_pattern, merge_values, select_child}
+use Rattle.vx_expr.specs.Nodes.{node_tree, between_value, between_lower, between_upper, binary_left, binary_right, binary_tree, cast_child, contains_list, contains_value, dynamic_left, item_child, like_child, like_pattern, merge_values, select_child}
 use Rattle.vx_expr.specs.Heights.{height, highest}
-use Rattle.vx_expr.specs.CompactTexts.{listed_texts, named_texts}
+use Rattle.vx_expr.specs.CompactTexts.{compact_text, listed_texts, named_texts}
+use Rattle.vx_expr.specs.Pieces.{part_of, parts_of, parts_text, parts_steps, part_height, parts_height}
 use Rattle.vx_expr.proofs.display.+write.Given as goal
 
 -- four times the height of an expression, and two or three more than that of the highest child for the parts of a node
@@ -23,7 +24,10 @@ abbrev pub decreases-write_item : goal.decreases-write_item
 decreases-write_item g l = 4 * height (item_child l.node.now) + 2
 
 abbrev pub decreases-write_binary : goal.decreases-write_binary
-decreases-write_binary g l = 4 * max (height (binary_left l.node.now)) (height (binary_right l.node.now)) + 2
+decreases-write_binary g l = 4 * max (height (binary_left l.node.now)) (height (binary_right l.node.now)) + 3
+
+abbrev pub decreases-write_piece : goal.decreases-write_piece
+decreases-write_piece g l = 4 * part_height (part_of l.piece) + 2
 
 abbrev pub decreases-write_like : goal.decreases-write_like
 decreases-write_like g l = 4 * max (height (like_child l.node.now)) (height (like_pattern l.node.now)) + 2
@@ -57,6 +61,15 @@ decreases-write_list g l = 4 * highest (trees_of l.values.now) + 2
 
 abbrev pub decreases-write_named : goal.decreases-write_named
 decreases-write_named g l = 4 * highest (trees_of l.values.now) + 2
+
+-- no piece is higher than the operands, and what is left is the text of the pieces
+abbrev pub invariant-write_binary-loop-piece : goal.invariant-write_binary-loop-piece
+invariant-write_binary-loop-piece g l =
+    (parts_height (parts_of l.left.items) ≤ max (height (binary_left l.node)) (height (binary_right l.node)))
+    × (IsPlainFormatter l.fn.f → HasBegun g.W.Write.write_str_gives l.fn.f (compact_text (binary_tree l.node)) l.f (parts_text (parts_of l.left.items)))
+
+abbrev pub decreases-write_binary-loop-piece : goal.decreases-write_binary-loop-piece
+decreases-write_binary-loop-piece g l = parts_steps (parts_of l.left.items)
 
 -- the separator is text, and what is left is the text of the expressions from here on
 abbrev pub invariant-write_list-loop-i : goal.invariant-write_list-loop-i

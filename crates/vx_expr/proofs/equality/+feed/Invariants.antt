@@ -1,8 +1,8 @@
-use Rattle.std.proofs.Common.{◌≡◌, ◌+◌, ◌*◌, fold, drop}
+use Rattle.std.proofs.Common.{◌≡◌, ◌≤◌, ◌+◌, ◌*◌, max, fold, drop}
 use Rattle.vx_expr.specs.Trees.{trees_of}
-use Rattle.vx_expr.specs.Nodes.{node_tree}
+use Rattle.vx_expr.specs.Nodes.{node_tree, binary_left, binary_right}
 use Rattle.vx_expr.specs.Heights.{height, highest}
-use Rattle.vx_expr.specs.Feeds.{trees_feed}
+use Rattle.vx_expr.specs.Feeds.{tree_feed, trees_feed}
 use Rattle.vx_expr.proofs.equality.+feed.Given as goal
 
 -- three times the height of an expression, and two more than that of the highest of a list
@@ -14,6 +14,18 @@ decreases-feed_node g l = 3 * height (node_tree l.expr.now)
 
 abbrev pub decreases-feed_list : goal.decreases-feed_list
 decreases-feed_list g l = 3 * highest (trees_of l.values.now) + 2
+
+abbrev pub decreases-feed_operands : goal.decreases-feed_operands
+decreases-feed_operands g l = 3 * max (height (binary_left l.node.now)) (height (binary_right l.node.now)) + 2
+
+-- the loop goes down the expression, and what is left to feed makes up the whole
+abbrev pub invariant-feed-loop-node : goal.invariant-feed-loop-node
+invariant-feed-loop-node g l =
+    (height l.rest ≤ height l.expr)
+    × (fold g.H.Hasher.write l.fn.state (tree_feed l.expr) ≡ fold g.H.Hasher.write l.state (tree_feed l.rest))
+
+abbrev pub decreases-feed-loop-node : goal.decreases-feed-loop-node
+decreases-feed-loop-node g l = height l.rest
 
 -- what is left to feed
 abbrev pub invariant-feed_list-loop-i : goal.invariant-feed_list-loop-i

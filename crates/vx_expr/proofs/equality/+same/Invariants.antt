@@ -1,8 +1,8 @@
-use Rattle.std.proofs.Common.{◌≡◌, ◌+◌, ◌*◌, max, length, drop}
+use Rattle.std.proofs.Common.{◌≡◌, ◌≤◌, ◌+◌, ◌*◌, max, length, drop}
 use Rattle.vx_expr.specs.Trees.{trees_of}
 use Rattle.vx_expr.specs.Nodes.{node_tree, between_value, between_lower, between_upper, binary_left, binary_right, dynamic_left, like_child, like_pattern, contains_list, contains_value}
 use Rattle.vx_expr.specs.Heights.{height, highest}
-use Rattle.vx_expr.specs.Equal.{trees_eq}
+use Rattle.vx_expr.specs.Equal.{tree_eq, trees_eq}
 use Rattle.vx_expr.proofs.equality.+same.Given as goal
 
 -- four times the height of an expression, and two or three more than that of the highest child for the parts of a node
@@ -32,6 +32,13 @@ decreases-same_pack l = 4 * highest (trees_of l.left.now.values) + 3
 
 abbrev pub decreases-same_list : goal.decreases-same_list
 decreases-same_list l = 4 * highest (trees_of l.left.now) + 2
+
+-- the loop goes down the left expression, and what is left to compare tells whether the two are the same
+abbrev pub invariant-same-loop-x : goal.invariant-same-loop-x
+invariant-same-loop-x l = (height l.first ≤ height l.left) × (tree_eq l.left l.right ≡ tree_eq l.first l.second)
+
+abbrev pub decreases-same-loop-x : goal.decreases-same-loop-x
+decreases-same-loop-x l = height l.first
 
 -- what is left to compare
 abbrev pub invariant-same_list-loop-i : goal.invariant-same_list-loop-i

@@ -1,6 +1,6 @@
 use Rattle.std.proofs.Common.{arith, refl, rules}
 use Rattle.vx_expr.specs.Trees.{children_of}
-use Rattle.vx_transform.proofs.RebuildLemmas.{child_lower}
+use Rattle.vx_partition.proofs.ChildLemmas.{child_lower}
 use Rattle.vx_partition.specs.Entries.{Extends, numbered_entries}
 use Rattle.vx_partition.specs.Numbering.{known, Grows}
 use Rattle.vx_partition.specs.Visits.{visited_in_turn}

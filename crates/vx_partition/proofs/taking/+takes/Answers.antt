@@ -5,7 +5,7 @@ use Rattle.std.proofs.lemmas.Option.{slice_get-get_or}
 use Rattle.vx_expr.specs.Trees.{children_of}
 use Rattle.vx_passes.specs.Splitting.{with_part}
 use Rattle.vx_transform.specs.Rebuilds.{or_same}
-use Rattle.vx_transform.proofs.RebuildLemmas.{child_lower, unchanged_step}
+use Rattle.vx_partition.proofs.ChildLemmas.{child_lower, unchanged_step}
 use Rattle.vx_partition.specs.Numbering.{known}
 use Rattle.vx_partition.specs.Takings.{taken_as}
 use Rattle.vx_partition.specs.Entries.{numbered_entries}

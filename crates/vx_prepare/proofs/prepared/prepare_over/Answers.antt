@@ -27,7 +27,7 @@ returns c =
     let e = c.args.expr.now in
     let u = type_view c.in_ok-dtype.dtype in
     let typed : typed_of (row_type fs) e ≡ Ok u = subst (λ t. typed_of t e ≡ Ok u) c.requires.rows c.in_ok-dtype.ensures in
-    let fit : slots_fit c.args.slots.now e ≡ true = sym c.slots_fit.ensures ∙ c.if-not-slots_fit.false in
+    let fit : slots_fit c.args.slots.now e ≡ true = sym c.in_ok-fit.ensures ∙ c.if-not-fit.false in
     let p : PreparedExpr = record { dtype = c.in_ok-dtype.dtype; columns = c.in_ok-columns.columns; split = c.in_ok-split.split } in
     let annotations = ap (λ xs. filter (λ name. has_name name xs) c.names.result.now) c.as_slice-annotations.ensures.value in
     let columns = c.in_ok-columns.ensures ∙ annotations ∙ ap (filter (λ name. has_name name c.in_ok-split.split.partition_annotations.items)) c.names.ensures in
