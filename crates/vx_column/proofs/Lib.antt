@@ -28,3 +28,5 @@ mod MaskedParts
 mod SplitLemmas
 mod NullLemmas
 mod FillerLemmas
+mod LookupLemmas
+mod NeedleLemmas

@@ -153,7 +153,7 @@ some_suffix_behind w ws c (d ∷ cs) e h =
     (λ q. either_second (matches ws (d ∷ cs)) (some_suffix (matches ws) cs) (some_suffix_behind w ws d cs e q))
 
 -- two truths are equal where each follows from the other
-same_truth : (a b : Bool) → (a ≡ true → b ≡ true) → (b ≡ true → a ≡ true) → a ≡ b
+pub same_truth : (a b : Bool) → (a ≡ true → b ≡ true) → (b ≡ true → a ≡ true) → a ≡ b
 same_truth true b f g = sym (f refl)
 same_truth false true f g = g refl
 same_truth false false f g = refl
@@ -303,7 +303,7 @@ pub reach_done : (ws : List Wildcard) (ps : List Part) (cs ds : List ℕ) → le
 reach_done ws ps cs ds h before = underway_done ws (map part_view ps) cs ds (no_parts ps h) before
 
 -- one part more of those that a text spells
-parts_before : (ps : List Part) (p : Part) (vs : List Wildcard) → map part_view ps ++ part_view p ∷ vs ≡ map part_view (ps ++ p ∷ []) ++ vs
+pub parts_before : (ps : List Part) (p : Part) (vs : List Wildcard) → map part_view ps ++ part_view p ∷ vs ≡ map part_view (ps ++ p ∷ []) ++ vs
 parts_before [] p vs = refl
 parts_before (q ∷ ps) p vs = ap (λ ws. part_view q ∷ ws) (parts_before ps p vs)
 
@@ -314,10 +314,11 @@ pub parts_all : (ps : List Part) (all : List Wildcard) (cs : List ℕ) → cs �
 parts_all ps all cs e h = sym (h ∙ ap (λ xs. map part_view ps ++ wildcards xs) e ∙ append-nil (map part_view ps))
 
 -- the pattern that a text spells matches what the text does
-pub pattern_means : (pattern : Pattern) (ps : List Part) (fold : Bool) (text spelled : Bytes) → ps ≡ pattern.parts.items → IsPattern fold spelled pattern → matches (map part_view ps) (letters pattern.fold_case text) ≡ text_matches fold text spelled
-pattern_means pattern ps fold text spelled e h =
+pub pattern_means : (pattern : Pattern) (ps : List Part) (fold : Bool) (text spelled : Bytes) (cs : List ℕ) → ps ≡ pattern.parts.items → cs ≡ letters pattern.fold_case text → IsPattern fold spelled pattern → matches (map part_view ps) cs ≡ text_matches fold text spelled
+pattern_means pattern ps fold text spelled cs e f h =
     let parts : map part_view ps ≡ wildcards (letters fold spelled) = ap (map part_view) e ∙ h.parts in
-    (λ i. matches (parts i) (letters (h.fold_case i) text)) ∙ folded_matches fold text spelled
+    let same : cs ≡ letters fold text = f ∙ ap (λ b. letters b text) h.fold_case in
+    (λ i. matches (parts i) (same i)) ∙ folded_matches fold text spelled
 
 -- a text type is the one of its nullability
 pub text_is : (t : Ty) → is_text_ty t ≡ true → t ≡ text_ty (nullability_of t)

@@ -14,4 +14,5 @@ pub mod Sizes
 pub mod RowValues
 pub mod Splits
 pub mod Connectives
+pub mod Lookups
 pub use Rattle.vx_words.specs.Words

@@ -1,20 +1,30 @@
 -- For the checker: no public clause cites this. Patterns of LIKE as the code keeps them, in parts, and how far they go.
-use Rattle.std.specs.Prelude.{◌≡◌, ◌<◌, ◌≤◌, ℕ, ◌==◌, Bool, true, false, cond, List, map, length, Option, Some, None}
+use Rattle.std.specs.Prelude.{◌≡◌, ◌<◌, ◌≤◌, ⊤, ℕ, ◌==◌, Bool, true, false, cond, List, [], ◌∷◌, ◌++◌, map, length, Option, Some, None}
 use Rattle.std.specs.Str.{chars}
+use Rattle.std.specs.String.{string_bytes}
 use Rattle.vx_dtype.specs.Like.{Wildcard, any_run, any_one, just, wildcards, matches, some_suffix, folded}
 use Rattle.vx_dtype.specs.Values.{Val, null_val, text_val}
 use Rattle.vx_dtype.specs.Types.{Bytes}
 use Rattle.vx_dtype.specs.declared.Nullability.{Nullability}
 use Rattle.vx_dtype.specs.TypeRules.{is_nullable}
+use Rattle.vx_column.specs.declared.patterns.Meaning.{Meaning}
+use Rattle.vx_column.specs.declared.patterns.Meaning.TheVariants as meaning
+use Rattle.vx_column.specs.declared.patterns.Needle.{Needle}
 use Rattle.vx_column.specs.declared.patterns.Part.{Part}
 use Rattle.vx_column.specs.declared.patterns.Part.TheVariants.{AnyRun, AnyOne, Just}
 use Rattle.vx_column.specs.declared.patterns.Pattern.{Pattern}
 use Rattle.vx_column.specs.declared.patterns.Reach.{Reach}
 use Rattle.vx_column.specs.declared.patterns.Reach.TheVariants.{Matched, Run, TextEnds, Differs}
 
+-- the part of a pattern that a meaning stands for
+abbrev pub meaning_view : Meaning → Wildcard
+meaning_view meaning.AnyRun = any_run
+meaning_view meaning.AnyOne = any_one
+meaning_view (meaning.Just c) = just c
+
 -- the part of a pattern that a part of the code stands for
 abbrev pub part_view : Part → Wildcard
-part_view AnyRun = any_run
+part_view (AnyRun needle) = any_run
 part_view AnyOne = any_one
 part_view (Just c) = just c
 
@@ -41,9 +51,32 @@ takes any_run c = false
 takes any_one c = true
 takes (just d) c = c == d
 
+-- the parts begin with the characters of a needle, and none stands behind them where they are the last
+pub record IsNeedle (needle : Needle) (ws : List Wildcard) : Type 0 where
+  pub others : List Wildcard
+  pub begins : ws ≡ map just (chars (string_bytes needle.text)) ++ others
+  pub last : needle.last ≡ true → others ≡ []
+
+-- a part's needle, where it has one, is that of the parts behind it
+abbrev pub IsNeedleOf : Part → List Wildcard → Type 0
+IsNeedleOf (AnyRun needle) ws = IsNeedle needle.value ws
+IsNeedleOf AnyOne ws = ⊤
+IsNeedleOf (Just c) ws = ⊤
+
+-- each needle is that of the parts behind it, the last of which are these
+abbrev pub NeedlesFit : List Part → List Wildcard → Type 0
+NeedlesFit [] ws = ⊤
+NeedlesFit (p ∷ ps) ws = IsNeedleOf p (map part_view ps ++ ws) × NeedlesFit ps ws
+
+-- a needle, and those of the parts behind it, fit
+pub record AreNeedles (needle : Needle) (parts : List Part) : Type 0 where
+  pub first : IsNeedle needle (map part_view parts)
+  pub others : NeedlesFit parts []
+
 -- the pattern is the one that the text spells
 pub record IsPattern (fold : Bool) (text : Bytes) (pattern : Pattern) : Type 0 where
   pub parts : map part_view pattern.parts.items ≡ wildcards (letters fold text)
+  pub needles : NeedlesFit pattern.parts.items []
   pub fold_case : pattern.fold_case ≡ fold
 
 -- the parts of a pattern go as far as a run in the characters: from there on some suffix of those left has to match the parts behind it,
@@ -54,12 +87,17 @@ pub record IsRunBehind (ws vs : List Wildcard) (cs ds : List ℕ) : Type 0 where
   pub fewer : length vs < length ws
   pub behind : length ds ≤ length cs
 
+-- and their needles fit
+pub record IsRunFound (parts behind : List Part) (needle : Needle) (text rest : Bytes) : Type 0 where
+  pub run : IsRunBehind (map part_view parts) (map part_view behind) (chars text) (chars rest)
+  pub needles : NeedlesFit parts [] → AreNeedles needle behind
+
 -- the parts of a pattern go this far in the characters of a text
-abbrev pub IsReach : Bool → List Part → Bytes → Reach → Type 0
-IsReach fold parts text Matched = matches (map part_view parts) (letters fold text) ≡ true
-IsReach fold parts text (Run behind rest) = IsRunBehind (map part_view parts) (map part_view behind.now) (letters fold text) (letters fold rest.now)
-IsReach fold parts text TextEnds = some_suffix (matches (map part_view parts)) (letters fold text) ≡ false
-IsReach fold parts text Differs = matches (map part_view parts) (letters fold text) ≡ false
+abbrev pub IsReach : List Part → Bytes → Reach → Type 0
+IsReach parts text Matched = matches (map part_view parts) (chars text) ≡ true
+IsReach parts text (Run needle behind rest) = IsRunFound parts behind.now needle.now text rest.now
+IsReach parts text TextEnds = some_suffix (matches (map part_view parts)) (chars text) ≡ false
+IsReach parts text Differs = matches (map part_view parts) (chars text) ≡ false
 
 -- the value at a row that a text stands for
 abbrev pub text_or_null : Option Bytes → Val

@@ -1,17 +1,21 @@
 // Comparisons of plain columns.
-ghost use Rattle.std.specs.Prelude.{◌≡◌, true, length, map, option_map, IfOk};
+ghost use Rattle.std.specs.Prelude.{◌≡◌, true, length, map, option_map, option_copied, IfOk, IfSome};
+ghost use Rattle.std.proofs.Math.ListN.{replicate};
 ghost use Rattle.vx_dtype.specs.Types.{bool_ty};
 ghost use Rattle.vx_dtype.specs.TypeRules.{is_plain, alike, nullability_of, union};
 ghost use Rattle.vx_dtype.specs.TypeViews.{type_view};
 ghost use Rattle.vx_dtype.specs.Order.{meets, compare3, between3};
 ghost use Rattle.vx_dtype.specs.RawViews.{raw_view, raws_of};
 ghost use Rattle.vx_dtype.specs.Lists.{contains3};
-ghost use Rattle.vx_column.specs.Columns.{zip_rows, zip_rows3};
+ghost use Rattle.vx_dtype.specs.Fits.{fits};
+ghost use Rattle.vx_column.specs.Columns.{seen, zip_rows, zip_rows3};
+ghost use Rattle.vx_column.specs.Lookups.{AreKeysOf};
 ghost use Rattle.vx_column.specs.RawParts.{raw_order, raw_equal, raws_have, raw_contains, lists_kind};
 
 use crate::cells::{Cells, numbers_in};
 use crate::columns::ColumnRef;
 use crate::logic::{and_kleene, is_null_value, union_of};
+use crate::lookups::{Key, Sorted, contains_by, sorted_keys};
 use crate::numbers::number_of;
 use crate::rows::{TruthRule, zip_columns};
 use std::alloc::Global;
@@ -177,6 +181,50 @@ impl TruthRule for Membership<'_> {
     }
 }
 
+/// The membership of values of a type in one list, which all rows share, by the keys of its elements.
+#[derive(Drop)]
+struct SharedMembership<'a> {
+    list: &'a DType,
+    value: &'a DType,
+    shared: &'a ScalarValue,
+    keys: Sorted<Key<'a>>,
+    ghost kind: { lists_kind (type_view list.now) (type_view value.now) ≡ true },
+    ghost fit: { fits (raw_view shared.now) (type_view list.now) ≡ true },
+    ghost same: { AreKeysOf (raw_view shared.now) keys.values.items },
+}
+
+impl TruthRule for SharedMembership<'_> {
+    ghost left = { λ a. type_view a.list.now };
+
+    ghost right = { λ a. type_view a.value.now };
+
+    ghost nullability = { λ a. union (nullability_of (type_view a.list.now)) (nullability_of (type_view a.value.now)) };
+
+    ghost rule = { λ a _ v. contains3 (seen (type_view a.list.now) a.shared.now) v };
+
+    #[tactic(auto, using(crate::proofs::ListLemmas::contains3_valued, crate::proofs::ListLemmas::contains_fits))]
+    fn at(&self, _l: &ScalarValue, r: &ScalarValue) -> Option<bool> {
+        contains_by(self.shared, &self.keys, r)
+    }
+}
+
+/// Below so many values a look at each element of their list costs less than to put the elements in order.
+const FEW_VALUES: usize = 16;
+
+/// The list that the rows share, where it pays to put its elements in order: where the values are neither one nor few.
+fn shared_list<'a>(list: &'a ColumnRef, value: &ColumnRef) -> Option<&'a ScalarValue>
+    ensures value { IfSome (option_copied result) (λ x. list.now.rows ≡ replicate (length list.now.rows) (seen list.now.ty x)) }
+    ensures fit { IfSome (option_copied result) (λ x. fits (raw_view x) list.now.ty ≡ true) }
+{
+    if value.len() < FEW_VALUES {
+        return None;
+    }
+    match value.constant_value() {
+        Some(_) => None,
+        None => list.constant_value(),
+    }
+}
+
 /// Whether the list has an element that equals the value, row by row; null where one of the two is null. A null element equals nothing.
 pub fn list_contains(alloc: Global, list: &ColumnRef, value: &ColumnRef) -> Mem<ColumnRef>
     requires kind { lists_kind list.now.ty value.now.ty ≡ true }
@@ -184,9 +232,23 @@ pub fn list_contains(alloc: Global, list: &ColumnRef, value: &ColumnRef) -> Mem<
     ensures dtype { IfOk result (λ c. c.ty ≡ bool_ty (union (nullability_of list.now.ty) (nullability_of value.now.ty))) }
     ensures rows { IfOk result (λ c. c.rows ≡ zip_rows contains3 list.now.rows value.now.rows) }
 {
-    let rule = Membership {
-        list: list.dtype(),
-        value: value.dtype(),
-    };
-    zip_columns(alloc, &rule, union_of(list, value), list, value)
+    let nullability = union_of(list, value);
+    match shared_list(list, value) {
+        Some(shared) => {
+            let rule = SharedMembership {
+                list: list.dtype(),
+                value: value.dtype(),
+                shared,
+                keys: sorted_keys(alloc, shared)?,
+            };
+            zip_columns(alloc, &rule, nullability, list, value)
+        }
+        None => {
+            let rule = Membership {
+                list: list.dtype(),
+                value: value.dtype(),
+            };
+            zip_columns(alloc, &rule, nullability, list, value)
+        }
+    }
 }

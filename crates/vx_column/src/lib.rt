@@ -12,6 +12,7 @@ mod fields;
 mod fillers;
 mod likes;
 mod logic;
+mod lookups;
 mod masks;
 mod numbers;
 mod patterns;

@@ -95,7 +95,7 @@ impl Matching {
         match (text, pattern) {
             (Some(text), Some(pattern)) => {
                 let made = pattern_for(alloc, last.take(), pattern, self.case_insensitive)?;
-                let found = made.pattern.matches(text);
+                let found = made.pattern.matches(alloc, text)?;
                 *last = Some(made);
                 Ok(Some(inverted_if(self.negated, found)))
             }
