@@ -64,6 +64,7 @@ impl Source for MemorySource {
         ensures bound { IfOk result (λ n. n ≤ length into.old) }
         ensures bytes { ReadsFrom (Some self.old.bytes) (Some self.new.bytes) into.new result }
         ensures cause { HasCause self.old.faults self.new.faults result }
+        ensures quiet { IfOk result (λ _. self.new.faults ≡ self.old.faults) }
         ensures fails { IsErr result ↔ IsTrue (read_fails self.old) }
         ensures failure { IfErr result (λ _. self.new ≡ record self.old { calls = one_more self.old.calls; faults = one_more self.old.faults }) }
         ensures count { IfOk result (λ n. n ≡ min self.old.most (min (length into.old) (length self.old.bytes))) }

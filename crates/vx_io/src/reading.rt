@@ -9,7 +9,7 @@ use std::alloc::{AllocError, Global};
 /// Why an input isn't read.
 #[derive(PartialEq, Eq, Debug, Drop)]
 pub enum InputError {
-    /// There was no memory for the bytes.
+    /// There was no memory for the bytes: only where the source counted no fault in this call.
     NoMemory,
     /// A read failed: only where the source counted a fault in this call.
     ReadFault,
@@ -52,6 +52,8 @@ pub fn read_up_to<I: Source>(
     ensures part { TookPart most (I.left input.old) (I.left input.new) }
     ensures later { I.faults input.old ≤ I.faults input.new }
     ensures cause { result ≡ Err InputError.ReadFault → one_more (I.faults input.old) ≤ I.faults input.new }
+    ensures quiet { IfOk result (λ _. I.faults input.new ≡ I.faults input.old) }
+    ensures memory { result ≡ Err InputError.NoMemory → I.faults input.new ≡ I.faults input.old }
 {
     let mut chunk = vec![in alloc; 0u8; CHUNK]?;
     read_by(alloc, most, input, chunk.as_mut_slice())
@@ -70,6 +72,8 @@ fn read_by<I: Source>(
     ensures part { TookPart most (I.left input.old) (I.left input.new) }
     ensures later { I.faults input.old ≤ I.faults input.new }
     ensures cause { result ≡ Err InputError.ReadFault → one_more (I.faults input.old) ≤ I.faults input.new }
+    ensures quiet { IfOk result (λ _. I.faults input.new ≡ I.faults input.old) }
+    ensures memory { result ≡ Err InputError.NoMemory → I.faults input.new ≡ I.faults input.old }
 {
     let mut bytes = Vec::new(alloc);
     'chunks: while bytes.len() < most {

@@ -29,14 +29,14 @@ IsRefused form before after r =
 
 -- an input that isn't read
 pub refused_unread : (form : Option Form) → reads_request form ≡ true → (before after : End) (e : InputError) → IsPartTaken before after
-    → before.faults ≤ after.faults → (e ≡ inputs.ReadFault → one_more before.faults ≤ after.faults) → IsRefused form before after (input_refusal e)
-refused_unread form reads before after inputs.NoMemory part later cause = (out_of_memory, inl (reads, (part, later)), refl, refl, refl)
-refused_unread form reads before after inputs.ReadFault part later cause = (unread, (reads, (part, cause refl)), refl, refl, refl)
+    → (e ≡ inputs.NoMemory → after.faults ≡ before.faults) → (e ≡ inputs.ReadFault → one_more before.faults ≤ after.faults) → IsRefused form before after (input_refusal e)
+refused_unread form reads before after inputs.NoMemory part quiet cause = (out_of_memory, inl (reads, (part, quiet refl)), refl, refl, refl)
+refused_unread form reads before after inputs.ReadFault part quiet cause = (unread, (reads, (part, cause refl)), refl, refl, refl)
 
 -- an input that is taken and has no report
 pub refused_taken : (form : Option Form) → reads_request form ≡ true → (before after : End) (input : Bytes) (r : Refusal) → IsPartTaken before after
     → IsTaken before after input → IsUnanswered input r → IsRefused form before after r
-refused_taken form reads before after input NoMemory part taken told = (out_of_memory, inl (reads, (part, taken.later)), refl, refl, refl)
+refused_taken form reads before after input NoMemory part taken told = (out_of_memory, inl (reads, (part, taken.quiet)), refl, refl, refl)
 refused_taken form reads before after input ReadFault part taken told = absurd told
 refused_taken form reads before after input InputTooLong part taken told = (refused input requests.InputTooLong, (reads, (taken, told)), refl, refl, refl)
 refused_taken form reads before after input BadJson part taken told = (refused input requests.BadJson, (reads, (taken, told)), refl, refl, refl)
@@ -127,11 +127,11 @@ refused_by form before after r (Err x) h k = subst (IsRefused form before after)
 -- what is taken is the input
 pub taken_as : (before after : End) (bytes input : Bytes) → input ≡ bytes → TookUpTo (most_bytes + 1) before.bytes after.bytes bytes
     → length bytes ≤ most_bytes + 1
-    → before.faults ≤ after.faults → IsTaken before after input
-taken_as before after bytes input e took within later = record {
+    → after.faults ≡ before.faults → IsTaken before after input
+taken_as before after bytes input e took within quiet = record {
   bytes = subst (TookUpTo (most_bytes + 1) before.bytes after.bytes) (sym e) took;
   within = subst (λ bs. length bs ≤ most_bytes + 1) (sym e) within;
-  later = later;
+  quiet = quiet;
 }
 
 -- an outcome that an ending stands for

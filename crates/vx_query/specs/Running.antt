@@ -213,20 +213,21 @@ pub data Outcome : Type 0 where
   overlong : Outcome
   named : Tree → Outcome
 
--- the input was taken to its end, or to one byte more than the most; that many bytes are no request
+-- the input was taken to its end, or to one byte more than the most, and no read failed; that many bytes are no request
 pub record IsTaken (before after : End) (input : Bytes) : Type 0 where
   pub bytes : TookUpTo (most_bytes + 1) before.bytes after.bytes input
   pub within : length input ≤ most_bytes + 1
-  pub later : before.faults ≤ after.faults
+  pub quiet : after.faults ≡ before.faults
 
 -- a first part of the input was taken, at most one byte more than the most
 abbrev pub IsPartTaken : End → End → Type 0
 IsPartTaken before after = TookPart (most_bytes + 1) before.bytes after.bytes
 
--- what was taken where there was no memory: a first part of the input by arguments that read a request, and nothing by those that give a word or a query
+-- what was taken where there was no memory: a first part of the input, no read of which failed, by arguments that read a request, and nothing by those
+-- that give a word or a query
 abbrev pub IsCutShort : Option Form → End → End → Type 0
 IsCutShort form before after =
-    ((reads_request form ≡ true) × (IsPartTaken before after × (before.faults ≤ after.faults)))
+    ((reads_request form ≡ true) × (IsPartTaken before after × (after.faults ≡ before.faults)))
     ⊎ (((word : Bytes) × ((shown_word form ≡ Some word) ⊎ (asked_query form ≡ Some word))) × (after ≡ before))
 
 -- what an outcome says of arguments and of the source: arguments that read no request take nothing

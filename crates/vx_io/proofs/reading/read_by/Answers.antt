@@ -1,5 +1,5 @@
 -- What one more read takes comes behind what was taken before.
-use Rattle.std.proofs.Common.{◌<◌, ◌≤◌, length, arith}
+use Rattle.std.proofs.Common.{◌<◌, ◌≤◌, ◌∙◌, length, arith}
 use Rattle.std.proofs.lemmas.List.{take-append-le}
 use Rattle.std.proofs.Common.{drop}
 use Rattle.std.proofs.lemmas.Grind.{common_steps}
@@ -17,4 +17,4 @@ chunks-preserved g c =
     let more = took_more _ c.in_ok-n.n _ (g.I.Source.left c.chunks.input) _ c.chunks.bytes.items c.read.new.into c.chunks.invariant.took c.in_ok-n.ensures.bytes in
     let items = c.in_ok-extend_from_slice.ensures.items in
     let within : c.in_ok-n.n ≤ length c.read.new.into = grind (arith, common_steps, c.in_ok-n.ensures.bound, c.read.auto.into) in
-    record { took = rw (items, take-append-le c.in_ok-n.n c.read.new.into (drop c.min-want.result c.chunks.chunk) within) more; within = grind (arith, common_steps, items, c.in_ok-n.ensures.bound, c.read.auto.into); room = grind (arith, common_steps, c.chunks.invariant.room, c.read.auto.into); later = grind (arith, common_steps, c.in_ok-n.ensures.cause) }
+    record { took = rw (items, take-append-le c.in_ok-n.n c.read.new.into (drop c.min-want.result c.chunks.chunk) within) more; within = grind (arith, common_steps, items, c.in_ok-n.ensures.bound, c.read.auto.into); room = grind (arith, common_steps, c.chunks.invariant.room, c.read.auto.into); same = c.in_ok-n.ensures.quiet ∙ c.chunks.invariant.same }

@@ -10,12 +10,12 @@ returns-in_err-bytes g c =
     let before = source c.args.input.now in
     let after = source c.read_up_to.new.input in
     answered_err (Some explain_form) before after (input_refusal c.in_err-bytes.field-0.0) c.from_residual.result c.from_residual.ensures.1
-    (refused_unread (Some explain_form) refl before after c.in_err-bytes.field-0.0 c.in_err-bytes.ensures.part c.in_err-bytes.ensures.later (λ e. c.in_err-bytes.ensures.cause (ap Err e)))
+    (refused_unread (Some explain_form) refl before after c.in_err-bytes.field-0.0 c.in_err-bytes.ensures.part (λ e. c.in_err-bytes.ensures.memory (ap Err e)) (λ e. c.in_err-bytes.ensures.cause (ap Err e)))
 
 pub returns : goal.returns
 returns g c =
     let source = end_by g.I.Source.left g.I.Source.faults in
     let before = source c.args.input.now in
     let after = source c.read_up_to.new.input in
-    let taken = taken_as before after c.in_ok-bytes.bytes.items c.as_slice.result.now c.as_slice.ensures.value c.in_ok-bytes.ensures.taken c.in_ok-bytes.ensures.within c.in_ok-bytes.ensures.later in
+    let taken = taken_as before after c.in_ok-bytes.bytes.items c.as_slice.result.now c.as_slice.ensures.value c.in_ok-bytes.ensures.taken c.in_ok-bytes.ensures.within c.in_ok-bytes.ensures.quiet in
     explained_taken before after c.as_slice.result.now c.explanation.result c.in_ok-bytes.ensures.part taken c.explanation.ensures
