@@ -3,8 +3,8 @@
 
 usage: bench/failing.py      (first build the program: cd crates/vx && rt run)
 
-Over the first request, the catalog and its explanation. Where memory is refused the answer is NoMemory or the request's own; where a
-read fails, ReadFault; where it is cut, the request's own; where a write fails, exit status 7 and a first part of the request's answer;
+Over the first request, the catalog and its explanation. Where memory is refused the answer is NoMemory or the request's own, and the reads
+of the store, which `vx_bench reads` prints (build it too: cd crates/vx_bench && rt run), are the first of the request's; where a read fails, ReadFault; where it is cut, the request's own; where a write fails, exit status 7 and a first part of the request's answer;
 where it is cut, the request's own. The calls are refused by a small library that is loaded before the C library (bench/failing.c, built by cc).
 It prints how many runs there were of each, and each that ended otherwise.
 """
@@ -15,11 +15,39 @@ import tempfile
 
 HERE = os.path.dirname(os.path.dirname(os.path.abspath(__file__)))
 PROGRAM = os.path.join(HERE, "crates", "vx", "out", "vx")
+BENCH = os.path.join(HERE, "crates", "vx_bench", "out", "vx_bench")
 REQUESTS = [("scan", "first"), ("scan", "catalog"), ("explain", "catalog")]
 NO_MEMORY = (8, b"error: NoMemory\n")
 
 
+def refuse_in_turn(library, name):
+    """Runs the scan of an example over a store that is kept, with each call that takes memory refused in turn: how many runs, and how many ended wrongly."""
+    path = os.path.join(HERE, "examples", name + ".json")
+
+    def reads(fail):
+        ran = subprocess.run([BENCH, "reads", path], stdout=subprocess.PIPE, stderr=subprocess.DEVNULL,
+                             env={"LD_PRELOAD": library, "FAIL": fail}, timeout=60)
+        return ran.returncode, ran.stdout.decode().splitlines()
+
+    own = reads("none 0")
+    if own[0] != 0 or own[1][:1] != ["report"]:
+        sys.exit(f"reads {name}: {own}")
+    at = failed = 0
+    while True:
+        at += 1
+        status, lines = reads(f"malloc {at}")
+        if (status, lines) == own and all(reads(f"malloc {at + more}") == own for more in (1, 50, 1000)):
+            return at - 1, failed
+        # without memory before there is a store, and while the answer is printed, nothing more is printed
+        told = lines[1:] if lines[:1] in (["NoMemory"], ["report"]) else []
+        if lines[:1] not in ([], ["NoMemory"], ["report"]) or told != own[1][1:len(told) + 1]:
+            failed += 1
+            print(f"reads {name}, malloc {at}: exit status {status}, {lines}", flush=True)
+
+
 def main():
+    if not os.path.exists(BENCH):
+        sys.exit("the program that prints the reads isn't built: cd crates/vx_bench && rt run")
     if not os.path.exists(PROGRAM):
         sys.exit("the program isn't built: cd crates/vx && rt run")
     failed = 0
@@ -59,6 +87,10 @@ def main():
                     refused += 1
                     at += 1
                 print(f"{word} {name}: {refused} runs of {kind}", flush=True)
+        for name in ("first", "catalog"):
+            runs, wrong = refuse_in_turn(library, name)
+            failed += wrong
+            print(f"reads {name}: {runs} runs of malloc", flush=True)
     sys.exit(1 if failed else 0)
 
 

@@ -62,9 +62,21 @@ def long_membership(n):
     return request([("x", "i64")], [[[5, 2 * n]], [[2 * n, 3 * n]]], contains(values, X), X, stats), report(["5"], [1], ["x"], 1)
 
 
-def long_pattern():
-    texts = [["a" * 5_000_000], ["%" + "a" * 2_500_000 + "b"]]
-    return request([("t", "utf8"), ("p", "utf8")], [texts], like(item("t"), item("p")), item("t")), report([], [], ["t", "p"], 2)
+def long_explanation(n):
+    """What a scan of the same would do."""
+    asked, _ = long_membership(n)
+    held = "contains([%s], $.x)" % ", ".join("%di64" % i for i in range(n))
+    outside = ["(($.x_max < %di64) or ($.x_min > %di64))" % (i, i) for i in range(n)]
+    pruning = "(" * (n - 1) + outside[0] + "".join(" and %s)" % test for test in outside[1:])
+    lines = ["filter " + held, "pruning " + pruning, 'required "x_min" "x_max"', "parts root: $.x.x_0 {x: pack(x_0: %s)}" % held]
+    lines += ["projection $.x", "parts root: $.x.x_0 {x: pack(x_0: $.x)}"]
+    return asked, (0, "".join(line + "\n" for line in lines))
+
+
+def long_pattern(end, ignores_case):
+    texts = [["a" * 5_000_000], ["%" + "a" * 2_500_000 + "b" + end]]
+    matched = like(item("t"), item("p"), ignores_case=ignores_case)
+    return request([("t", "utf8"), ("p", "utf8")], [texts], matched, item("t")), report([], [], ["t", "p"], 2)
 
 
 def many_rows_in_a_long_list():
@@ -141,10 +153,13 @@ def one_text():
 
 
 INPUTS = {
-    "a list of 10,000 numbers, pruned": ("scan", lambda: long_membership(10_000), "the pruning expression nests a level for each constant"),
-    "a list of 500,000 numbers, pruned": ("scan", lambda: long_membership(500_000), "the pruning expression nests a level for each constant"),
-    "a long text like a long pattern": ("scan", long_pattern, "the search behind % isn't linear"),
-    "1,000,000 rows in a list of 1,800,000": ("scan", many_rows_in_a_long_list, "each row goes over the list"),
+    "a list of 10,000 numbers, pruned": ("scan", lambda: long_membership(10_000), None),
+    "a list of 500,000 numbers, pruned": ("scan", lambda: long_membership(500_000), None),
+    "a list of 500,000 numbers, explained": ("explain", lambda: long_explanation(500_000), None),
+    "a long text like a long pattern": ("scan", lambda: long_pattern("", False), None),
+    "a long text with a long part": ("scan", lambda: long_pattern("%", False), None),
+    "the same without regard to case": ("scan", lambda: long_pattern("%", True), None),
+    "1,000,000 rows in a list of 1,800,000": ("scan", many_rows_in_a_long_list, None),
     "400,000 blocks without rows": ("scan", blocks_without_rows, "each block types its parts again"),
     "1,365 tests of the row": ("scan", tests_of_the_row, "the packed row is copied for each"),
     "1,000 rows in a pack": ("scan", packed_rows, "the packed row is copied for each"),

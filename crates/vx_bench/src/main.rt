@@ -2,15 +2,18 @@
 //! columns that they need: it prints a name and nanoseconds for each call, a line each, some rounds in turn. `vx_bench kernel 'KERNEL ROWS
 //! TIMES'` times a kernel of columns or of words of bits: it prints the kernel's name and nanoseconds for each call, a line each, and then
 //! how many rows the answer has, or has true. With `keep` the answers of so many calls are kept to the end, so that the memory that they
-//! take can be measured.
+//! take can be measured. `vx_bench reads REQUEST` times nothing: it prints how the scan of a request ends, and the reads of its store.
+//! `vx_bench deep 'left|right LINKS'` times calls over a chain of so many links of `and`.
 #![tactic(auto)]
 
 mod columns;
+mod deep_chains;
 mod evaluating;
 mod kernel_timing;
 mod kernels;
 mod opening;
 mod pruning;
+mod reads;
 mod rewriting;
 mod scanning;
 mod timing;
@@ -34,6 +37,8 @@ fn main(rt: HostRuntime) -> Result<()> {
 fn print_usage(rt: &HostRuntime) -> Result<()> {
     println!(rt; "usage: vx_bench evaluate|prune|rewrite|scan REQUEST")?;
     println!(rt; "       vx_bench kernel|keep 'KERNEL ROWS TIMES'")?;
+    println!(rt; "       vx_bench reads REQUEST")?;
+    println!(rt; "       vx_bench deep 'left|right LINKS'")?;
     Ok(())
 }
 
@@ -42,6 +47,8 @@ fn run(rt: &HostRuntime, what: &str, over: &str) -> Result<()> {
     match what {
         "kernel" => kernel_timing::run(rt, what, over),
         "keep" => kernel_timing::run(rt, what, over),
+        "reads" => reads::print(rt, over),
+        "deep" => deep_chains::run(rt, over),
         _ => time(rt, what, read(rt, over)?),
     }
 }

@@ -42,7 +42,8 @@ fn time_filter(rt: &HostRuntime, zones: &ZoneMap, filter: &ExprRef) -> Result<()
 fn time_typed(rt: &HostRuntime, zones: &ZoneMap, filter: &ExprRef, dtype: &DType) -> Result<()>
     requires { typed_of (row_type zones.now.columns) filter.now ≡ Ok (type_view dtype.now) }
 {
-    if !slots_fit(&[], filter) {
+    let fit = slots_fit(rt.alloc(), &[], filter)?;
+    if !fit {
         bail!("slots")
     }
     let start = Instant::now(rt)?;

@@ -3,6 +3,7 @@ use crate::errors::CaseError;
 use crate::opening::{Opened, open_case};
 use crate::pruning::{pruning, required, ruled_out_blocks};
 use crate::queries::{read, read_and_written, tokens, written, written_dynamic};
+use crate::running::run_of;
 use crate::scanning::{scan_failing, scan_of, scan_untold};
 use crate::subjects::Subject;
 use crate::tables::Case;
@@ -31,6 +32,7 @@ pub(crate) fn answer(
         Subject::Scan => scan_of(alloc, case),
         Subject::ScanUntold => scan_untold(alloc, case),
         Subject::ScanFailing => scan_failing(alloc, case),
+        Subject::Run => run_of(alloc, case),
         _ => {
             let opened = open_case(alloc, case)?;
             answer_opened(alloc, &opened, subject)

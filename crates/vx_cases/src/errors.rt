@@ -48,6 +48,9 @@ pub(crate) enum CaseError {
     /// The scan of the case, whose reads are to fail in turn, has no report.
     #[error("{0:?}")]
     Scan(ScanError),
+    /// What the program wrote is no text.
+    #[error("no text")]
+    NoText,
     /// The table of the case has no block, or not the column that the expressions are to stand over.
     #[error("no rows")]
     NoRows,

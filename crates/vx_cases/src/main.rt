@@ -9,6 +9,7 @@ mod opening;
 mod pruning;
 mod queries;
 mod rows;
+mod running;
 mod scanning;
 mod subjects;
 mod tables;
@@ -21,13 +22,14 @@ use std::fs;
 use tables::try_table;
 
 /// The files of data/ whose cases have a request or a query.
-const TABLES: [&str; 8] = [
+const TABLES: [&str; 9] = [
     "texts.json",
     "typing.json",
     "evaluation.json",
     "rewriting.json",
     "pruning.json",
     "scans.json",
+    "runs.json",
     "requests.json",
     "queries.json",
 ];

@@ -51,7 +51,8 @@ pub(crate) fn ruled_out_blocks(alloc: Global, case: &Opened) -> Mem<String> {
 fn blocks_of(alloc: Global, zones: &ZoneMap, filter: &ExprRef, dtype: &DType) -> Mem<String>
     requires { typed_of (row_type zones.now.columns) filter.now ≡ Ok (type_view dtype.now) }
 {
-    if !slots_fit(&[], filter) {
+    let fit = slots_fit(alloc, &[], filter)?;
+    if !fit {
         return Ok(String::from_str(alloc, "TypeMismatch")?);
     }
     let flags = ruled_out(alloc, zones, filter, &[])?;

@@ -53,10 +53,12 @@ pub(crate) enum Subject {
     ScanUntold,
     /// The scans of a store that fails at each read in turn.
     ScanFailing,
+    /// The exit status of the program by the words of the case over its request, and what it writes.
+    Run,
 }
 
 /// The members of a case that hold an answer, each with its question.
-pub(crate) const SUBJECTS: [(&str, Subject); 25] = [
+pub(crate) const SUBJECTS: [(&str, Subject); 26] = [
     ("tokens", Subject::Tokens),
     ("read", Subject::Read),
     ("read_and_written", Subject::ReadAndWritten),
@@ -82,4 +84,5 @@ pub(crate) const SUBJECTS: [(&str, Subject); 25] = [
     ("scan", Subject::Scan),
     ("scan_untold", Subject::ScanUntold),
     ("scan_failing", Subject::ScanFailing),
+    ("run", Subject::Run),
 ];

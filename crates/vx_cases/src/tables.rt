@@ -13,10 +13,12 @@ pub(crate) struct Tried {
     pub(crate) differences: Vec<String>,
 }
 
-/// A case: the text of its request, the column over whose values it stands in place of the rows, and its query.
+/// A case: the text of its request, the words by which the program is run over it, the column over whose values it stands in place of
+/// the rows, and its query.
 #[derive(Drop)]
 pub(crate) struct Case<'a> {
     pub(crate) request: String,
+    pub(crate) words: Vec<String>,
     pub(crate) over: Option<&'a str>,
     pub(crate) query: &'a str,
 }
@@ -45,6 +47,7 @@ fn try_case(
 ) -> Result<(), CaseError> {
     let opened = Case {
         request: request_of(alloc, group, case)?,
+        words: words_of(alloc, case)?,
         over: case.get("over").and_then(Value::as_str),
         query: case.get("query").and_then(Value::as_str).unwrap_or(""),
     };
@@ -89,6 +92,15 @@ fn request_of(alloc: Global, group: &Value, case: &Value) -> Mem<String> {
         "{{\"columns\":{columns},\"blocks\":{blocks},\"stats\":{stats},\"filter\":{filter},\"projection\":{projection}}}"
     )?;
     Ok(text)
+}
+
+/// The words of a case.
+fn words_of(alloc: Global, case: &Value) -> Mem<Vec<String>> {
+    let mut words = Vec::new(alloc);
+    for word in list_of(case.get("words")) {
+        words.push(String::from_str(alloc, word.as_str().unwrap_or(""))?)?;
+    }
+    Ok(words)
 }
 
 /// The text of a member of an object, `null` where it is missing.

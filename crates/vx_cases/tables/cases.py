@@ -10,6 +10,7 @@ import json
 import os
 
 import expressions
+import rows
 import values
 from inputs import INPUTS
 from rows import ABOVE_TEN, EMPTY_LIST, NEXT, NEXT_POSITIVE, NULL_OR_LESS, PQ, PQ_ROW, TWO, X, X32, X8, nots, realistic
@@ -203,6 +204,10 @@ VALUES = [
           of(pack(("one", A), ("two", B), ("three", A)),
              values="{\"one\":0,\"two\":4,\"three\":0} / {\"one\":1,\"two\":5,\"three\":1} / {\"one\":2,\"two\":6,\"three\":2}"),
           of(pack(), values="{} / {} / {}"),
+          of(pack(("one", A), ("two", pack(("first", B), ("second", A))), ("three", A)),
+             values=" / ".join('{"one":%d,"two":{"first":%d,"second":%d},"three":%d}' % (a, b, a, a) for a, b in [(0, 4), (1, 5), (2, 6)])),
+          of(merge(pack(("a", pack(("x", A))), ("c", A)), pack(("a", pack(("y", B))))),
+             values=" / ".join('{"a":{"y":%d},"c":%d}' % (b, a) for a, b in [(0, 4), (1, 5), (2, 6)])),
           of(select(ROOT, "b"), values="{\"b\":4} / {\"b\":5} / {\"b\":6}"),
           of(select(ROOT, "b", exclude=True), values="{\"a\":0} / {\"a\":1} / {\"a\":2}"),
           of(merge(ROOT, pack(("b", A), ("c", B))), values="{\"a\":0,\"b\":0,\"c\":4} / {\"a\":1,\"b\":1,\"c\":5} / {\"a\":2,\"b\":2,\"c\":6}"),
@@ -236,6 +241,7 @@ VALUES = [
           of(binary(binary(X, "<=", i32(2)), "and", binary(X, ">=", i32(5))), values="false / false / false")),
     group(X32, [[[3, 1]]], of(NULL_OR_LESS, values="false / null"), of(negated(NULL_OR_LESS), values="true / null")),
     group(PQ, PQ_ROW, of(merge(item("p"), item("q")), values="{\"a\":null,\"b\":2}"), of(item("p"), values="null"),
+          of(select(merge(item("p"), item("q")), "b"), strict_type="{b=i32}", values="{\"b\":2}", simplified_typed="pack(b: $.q.b)"),
           of(select(item("p"), "a"), values="NullableSelect")),
 ]
 
@@ -249,6 +255,14 @@ def le(n, name, left=False):
 ONE_TWO = pack(("a", i32(1)), ("b", i32(2)))
 TABLE = [("a", struct(x="i32", y="i32")), ("b", "i32"), ("c", "i32")]
 ABY = item("y", A)
+
+def balanced(operator, operands):
+    """Joined in halves."""
+    if len(operands) == 1:
+        return operands[0]
+    half = len(operands) // 2
+    return binary(balanced(operator, operands[:half]), operator, balanced(operator, operands[half:]))
+
 
 REWRITING = [
     group([("x", "i32"), ("y", "i32")], [[[0], [0]]],
@@ -265,6 +279,7 @@ REWRITING = [
           of(binary(le(2, "x"), "or", binary(X, ">=", i32(5))), ranges="(($.x <= 2i32) or ($.x >= 5i32))"),
           of(binary(le(2, "x"), "and", le(5, "x")), ranges="(($.x <= 2i32) and ($.x <= 5i32))"),
           of(ROOT, replaced="pack(x: $.x, y: $.y)"),
+          of(balanced("and", [TRUE] * 2048), simplified="(" * 2047 + "true" + " and true)" * 2047),
           of(binary(X, "=", item("y")), replaced="(pack(x: $.x, y: $.y).x = pack(x: $.x, y: $.y).y)")),
     group([("0", struct(a="i32", b="i64")), ("1", struct(b="u32", c="u64"))], [[[{"a": 1, "b": 2}], [{"b": 3, "c": 4}]]],
           of(merge(item("0"), item("1")), without_merge="pack(a: $.0.a, b: $.1.b, c: $.1.c)", strict_type="{a=i32, b=u32, c=u64}",
@@ -278,6 +293,9 @@ REWRITING = [
           of(merge(A, pack(("b", B))),
              parts="root: pack(x: $.a.a_0.x, y: $.a.a_0.y, b: $.b.b_0.b) {a: pack(a_0: $.a), b: pack(b_0: pack(b: $.b))}"),
           of(ROOT, parts="root: $ {}"),
+          of(binary(ABY, "and", select(ROOT, "a", "b")), simplified_typed="($.a.y and pack(a: $.a, b: $.b))"),
+          of(binary(ABY, "and", pack(("a", A), ("b", B))),
+             parts="root: ($.a.a_0 and pack(a: $.a.a_1, b: $.b.b_0)) {a: pack(a_0: $.a.y, a_1: $.a), b: pack(b_0: $.b)}"),
           of(binary(ABY, "=", B), parts="root: ($.a.a_0 = $.b.b_0) {a: pack(a_0: $.a.y), b: pack(b_0: $.b)}"),
           of(binary(above("b", 1), "and", above("c", 2)),
              parts="root: ($.b.b_0 and $.c.c_0) {b: pack(b_0: ($.b > 1i32)), c: pack(c_0: ($.c > 2i32))}"),
@@ -346,6 +364,12 @@ PRUNING = [
           filtered(null_test(A), pruning="-", ruled_out=""),
           filtered(binary(A, "=", binary(A, "+", i32(0))), pruning="-", ruled_out=""),
           filtered(binary(item("b", pack(("b", A))), ">", i32(10)), pruning="-", ruled_out=""), stats=A_STATS),
+    group([("a", "i32"), ("b", "i32")], [[[1], [5]], [[20], [5]]],
+          filtered(binary(A, "=", B), pruning="(($.a_min > $.b_max) or ($.b_min > $.a_max))", required="a_min;a_max;b_min;b_max;", ruled_out="0;1;"),
+          filtered(binary(A, "!=", B), pruning="(($.a_min = $.b_max) and ($.a_max = $.b_min))", required="a_min;a_max;b_min;b_max;", ruled_out=""),
+          filtered(binary(A, ">", B), pruning="($.a_max <= $.b_min)", required="a_max;b_min;", ruled_out="0;"),
+          filtered(binary(A, "<", B), pruning="($.a_min >= $.b_max)", required="a_min;b_max;", ruled_out="1;"),
+          stats=[*A_STATS, (["b"], "min", [5, 5]), (["b"], "max", [5, 5])]),
     group(A_Z, A_BLOCKS, filtered(binary(A, "=", i32(42)), pruning="(42i32 > $.a_max)", required="a_max;", ruled_out="0;1;"),
           filtered(binary(A, "!=", i32(1)), pruning="-", ruled_out=""), stats=A_STATS[1:]),
     group(A_Z, A_BLOCKS, filtered(above("a", 1), pruning="-", ruled_out=""),
@@ -430,6 +454,8 @@ SCANS = [
           scanned(binary(above("a_b", 5), "and", binary(item("b", A), ">", i32(5))), item("a_b"), "rows / skipped / reads 0 a_b 0 a"),
           stats=[(["a_b"], "max", [1]), (["a", "b"], "max", [1])]),
     group(X32, [[[5]]], scanned(binary(X, "=", i32(5)), X, "rows / skipped 0 / reads"), stats=[(["x"], "min", [9]), (["x"], "max", [1])]),
+    *(group(X32, [[[5]]], scanned(binary(X, "=", i32(5)), X, "rows 5 / skipped / reads 0 x" if told == rows.FIVE else "rows / skipped 0 / reads"), stats=stats)
+      for _, stats, told in rows.BOUNDS),
     group(X32, [[[1]], [[20]]], scanned(between(X, i32(10), i32(50), False, True), X, "rows 20 / skipped 0 / reads 1 x"),
           scanned(negated(le(10, "x")), X, "rows 20 / skipped 0 / reads 1 x"),
           scanned(negated(binary(binary(X, "<", i32(5)), "or", above("x", 10))), X, "rows / skipped 0 1 / reads"),
@@ -622,6 +648,18 @@ QUERIES = [
     group(X32, [[[]]], *[of(projection, written=told) for projection, told in WRITTEN], of(X, written_dynamic="NotWritable")),
 ]
 
+# Runs of the program: the rows of rows.py, but for words that are no UTF-8 and an input that is too long to keep.
+
+
+def run(words, taken, told, status):
+    """A run of these words over an input; each line of what is written ends with ` / `."""
+    text = taken.decode() if isinstance(taken, bytes) else json.dumps(taken, separators=(",", ":"))
+    return {"words": words, "input": text, "run": "%d %s / " % (status, told)}
+
+
+KEPT = [row for row in rows.rows() if len(row[2]) < rows.LONG and all(isinstance(word, str) for word in row[1])]
+RUNS = [{"cases": [run(words, taken, told.replace("\n", " / "), status) for _, words, taken, told, status in KEPT]}]
+
 TABLES = {
     "texts": [TEXTS],
     "typing": [TYPES, *OTHER_TYPES],
@@ -629,6 +667,7 @@ TABLES = {
     "rewriting": REWRITING,
     "pruning": PRUNING,
     "scans": SCANS,
+    "runs": RUNS,
     "requests": INPUTS,
     "queries": QUERIES,
 }
@@ -653,7 +692,7 @@ def main():
     os.makedirs(DATA, exist_ok=True)
     for name, groups in TABLES.items():
         cases = [case for table in groups for case in table["cases"]]
-        answers = sum(len(case) - len({"filter", "projection", "over", "query", "input"} & set(case)) for case in cases)
+        answers = sum(len(case) - len({"filter", "projection", "over", "query", "input", "words"} & set(case)) for case in cases)
         written(name, groups, answers)
     for name, rows in ROWS.items():
         written(name, rows, len(rows))

@@ -127,6 +127,22 @@ WIDE = "rows 1 / {%s} / skipped - / columns %s / reads 1024" % (
 TWICE = {**bytes_of(X), "columns": [{"name": "x", "type": "i32"}, {"name": "x", "type": "i32"}]}
 NONE = "rows 0 / skipped - / columns - / reads 0"
 READ = "rows 0 / skipped - / columns \"x\" / reads 1"
+FIVE = 'rows 1 / 5 / skipped - / columns "x" / reads 1'
+NO_FIVE = "rows 0 / skipped 0 / columns - / reads 0"
+
+
+def bounds(least, greatest):
+    return [(["x"], "min", [least]), (["x"], "max", [greatest])]
+
+
+# bounds of a block whose one value is 5, and what a scan for 5 tells by them
+BOUNDS = [
+    ("null bounds", bounds(None, None), FIVE),
+    ("a least value above it", bounds(9, None), NO_FIVE),
+    ("a greatest value below it", bounds(None, 1), NO_FIVE),
+    ("its own bounds", bounds(5, 5), FIVE),
+    ("its least value alone", [(["x"], "min", [5])], FIVE),
+]
 ROWS = [
     ("two blocks", request(X32, TWO, ABOVE_TEN, X), 'rows 2 / 12 / 20 / skipped - / columns "x" / reads 2', 0),
     ("a block below", request(X32, [[[1, 10]], [[11]]], ABOVE_TEN, X, [(["x"], "min", [0, 0]), (["x"], "max", [10, 11])]),
@@ -168,6 +184,7 @@ ROWS = [
     ("the filter before the projection", request(X32, TWO, X, b"\0"), "error: BadWire projection", 4),
     ("lying statistics", request(X32, [[[5]]], binary(X, "=", lit("i32", 5)), X, [(["x"], "min", [9]), (["x"], "max", [1])]),
      "rows 0 / skipped 0 / columns - / reads 0", 0),
+    *(("one value with " + name, request(X32, [[[5]]], binary(X, "=", lit("i32", 5)), X, stats), told, 0) for name, stats, told in BOUNDS),
     ("a catalog", realistic(), REALISTIC.replace("\n", " / "), 0),
     ("254 nested selects", nested(254), WHOLE.replace("\n", " / "), 0),
     ("4,094 nodes", bytes_of(conjunction(819)), 'rows 2 / 12 / 20 / skipped - / columns "x" / reads 2', 0),
@@ -189,6 +206,9 @@ ROWS = [
     ("a cell that is no whole number", {**bytes_of(X), "blocks": [{"rows": 1, "values": [[1.5]]}]}, "error: BadRequest blocks", 3),
 ]
 
+# a byte more than an input may have
+LONG = 16_777_217
+
 # rows of other arguments: the arguments, what they take, and the answer
 BELOW = request(X32, [[[1, 10]], [[11]]], ABOVE_TEN, X, [(["x"], "min", [0, 0]), (["x"], "max", [10, 11])])
 TREE = "Binary(>) / ├── lhs: GetItem(x) / │   └── Root / └── rhs: Literal(value: 10i32, dtype: i32)"
@@ -198,12 +218,16 @@ WORDS = [
     ("two words", ["scan", "scan"], b"", "error: Usage", 2),
     ("a cut request", ["scan"], b"{", "error: BadJson", 3),
     ("a list", ["scan"], b"[]", "error: BadRequest top", 3),
-    ("16,777,217 spaces", ["scan"], b" " * 16777217, "error: InputTooLong", 3),
+    ("16,777,217 spaces", ["scan"], b" " * LONG, "error: InputTooLong", 3),
     ("an explanation", ["explain"], BELOW,
      'filter ($.x > 10i32) / pruning ($.x_max <= 10i32) / required "x_max" / parts root: $.x.x_0 {x: pack(x_0: ($.x > 10i32))}'
      " / projection $.x / parts root: $.x.x_0 {x: pack(x_0: $.x)}", 0),
     ("an explanation without statistics", ["explain"], bytes_of(ABOVE_TEN),
      "filter ($.x > 10i32) / pruning - / required - / parts root: $.x.x_0 {x: pack(x_0: ($.x > 10i32))}"
+     " / projection $.x / parts root: $.x.x_0 {x: pack(x_0: $.x)}", 0),
+    ("an explanation over counts of nulls", ["explain"],
+     request([("x", "i32?")], [[[1, None]], [[2]]], node("is_null", b"", X), X, [(["x"], "null_count", [1, 0])]),
+     'filter is_null($.x) / pruning ($.x_null_count = 0u64) / required "x_null_count" / parts root: $.x.x_0 {x: pack(x_0: is_null($.x))}'
      " / projection $.x / parts root: $.x.x_0 {x: pack(x_0: $.x)}", 0),
     ("an explanation of a sum out of range", ["explain"], request(X8, [[[127]]], NEXT_POSITIVE, X),
      "filter (($.x + 1i8) > 0i8) / pruning - / required - / parts root: $.x.x_0 {x: pack(x_0: (($.x + 1i8) > 0i8))}"

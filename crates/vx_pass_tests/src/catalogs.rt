@@ -128,3 +128,15 @@ fn relations(rt: HostRuntime) -> Result<(), Fail> {
     assert!(rt; relation.map().len() == 1);
     Ok(())
 }
+
+/// How many keys a copy of a relation without pairs has.
+fn copied_keys(alloc: Global) -> Mem<usize> {
+    let relation: RequiredStats = Relation::new(alloc);
+    Ok(relation.clone()?.map().len())
+}
+
+#[test]
+fn ample(rt: HostRuntime) -> Result<(), Fail> {
+    assert!(rt; copied_keys(rt.alloc())? == 0);
+    Ok(())
+}

@@ -21,11 +21,17 @@ fn is_sevens(alloc: Global, column: &ColumnRef) -> Mem<bool> {
     }
 }
 
+/// How many rows a copy of a scope of three has.
+fn copied_rows(alloc: Global) -> Mem<usize> {
+    Ok(Scope::empty(alloc, 3)?.clone()?.len())
+}
+
 #[test]
 fn ample(rt: HostRuntime) -> Result<(), Fail> {
     let alloc = rt.alloc();
     let sevens = evaluated(alloc, number(alloc, 7)?)?;
     assert!(rt; is_sevens(alloc, &sevens)?);
+    assert!(rt; copied_rows(alloc)? == 3);
     Ok(())
 }
 

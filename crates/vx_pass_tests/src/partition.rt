@@ -64,6 +64,31 @@ fn columns_touched(rt: HostRuntime) -> Result<(), Fail> {
     Ok(())
 }
 
+/// How many entries there are for `$.x > 10`, and the text of the expression at a place among them, or `-`.
+fn entry_at(alloc: Global, place: usize) -> Result<(usize, String), Fail> {
+    let fields = two_fields(alloc, "x", "y")?;
+    let found = immediate_scope_accesses(alloc, &above_ten(alloc, "x")?, &fields)?;
+    match found.entry(place) {
+        Some((expr, _columns)) => Ok((found.len(), format!(in alloc; "{expr}")?)),
+        None => Ok((found.len(), String::from_str(alloc, "-")?)),
+    }
+}
+
+/// Whether there are three entries, of which the one at a place is that of the expression with this text.
+fn is_entry_at(alloc: Global, place: usize, text: &str) -> Result<bool, Fail> {
+    let (count, found) = entry_at(alloc, place)?;
+    Ok(count == 3 && found.as_str() == text)
+}
+
+#[test]
+fn entries_in_order(rt: HostRuntime) -> Result<(), Fail> {
+    let alloc = rt.alloc();
+    for (place, text) in [(0, "$.x"), (1, "10i32"), (2, "($.x > 10i32)"), (3, "-")] {
+        assert!(rt; is_entry_at(alloc, place, text)?);
+    }
+    Ok(())
+}
+
 #[test]
 fn entries(rt: HostRuntime) -> Result<(), Fail> {
     let alloc = rt.alloc();

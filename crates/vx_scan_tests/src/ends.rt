@@ -48,6 +48,18 @@ fn written(alloc: Global) -> Mem<(Result<(), WriteFailed>, MemorySink)> {
     Ok((answer, sink))
 }
 
+/// What a sink that takes all that it is offered, and fails at its second call, answers to six bytes.
+fn written_at_once(alloc: Global) -> Mem<Result<(), WriteFailed>> {
+    let mut sink = MemorySink::new(alloc, 100, 100, vec![in alloc; 2u64]?)?;
+    Ok(write_whole(&mut sink, b"abcdef"))
+}
+
+#[test]
+fn all_that_is_left_is_offered(rt: HostRuntime) -> Result<(), Fail> {
+    assert!(rt; written_at_once(rt.alloc())? == Ok(()));
+    Ok(())
+}
+
 #[test]
 fn ample(rt: HostRuntime) -> Result<(), Fail> {
     let alloc = rt.alloc();
