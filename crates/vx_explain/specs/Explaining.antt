@@ -38,7 +38,18 @@ Explains holds zones filter_text projection_text (Err errors.NoMemory) = Unit {0
 Explains holds zones filter_text projection_text (Err errors.Overflow) = ⊥
 Explains holds zones filter_text projection_text (Err errors.BadCast) = ⊥
 Explains holds zones filter_text projection_text (Err errors.StoreFault) = ⊥
-Explains holds zones filter_text projection_text (Err e) = IsUnexplained holds zones filter_text projection_text e
+Explains holds zones filter_text projection_text (Err (errors.BadWire side)) = IsUnexplained holds zones filter_text projection_text (errors.BadWire side)
+Explains holds zones filter_text projection_text (Err (errors.TooDeep side)) = IsUnexplained holds zones filter_text projection_text (errors.TooDeep side)
+Explains holds zones filter_text projection_text (Err (errors.TooManyNodes side)) = IsUnexplained holds zones filter_text projection_text (errors.TooManyNodes side)
+Explains holds zones filter_text projection_text (Err (errors.UnknownExpr side)) = IsUnexplained holds zones filter_text projection_text (errors.UnknownExpr side)
+Explains holds zones filter_text projection_text (Err (errors.BadMetadata side)) = IsUnexplained holds zones filter_text projection_text (errors.BadMetadata side)
+Explains holds zones filter_text projection_text (Err (errors.WrongChildren side)) = IsUnexplained holds zones filter_text projection_text (errors.WrongChildren side)
+Explains holds zones filter_text projection_text (Err (errors.NotStruct side)) = IsUnexplained holds zones filter_text projection_text (errors.NotStruct side)
+Explains holds zones filter_text projection_text (Err (errors.NullableSelect side)) = IsUnexplained holds zones filter_text projection_text (errors.NullableSelect side)
+Explains holds zones filter_text projection_text (Err (errors.UnknownField side)) = IsUnexplained holds zones filter_text projection_text (errors.UnknownField side)
+Explains holds zones filter_text projection_text (Err (errors.DuplicateField side)) = IsUnexplained holds zones filter_text projection_text (errors.DuplicateField side)
+Explains holds zones filter_text projection_text (Err (errors.TypeMismatch side)) = IsUnexplained holds zones filter_text projection_text (errors.TypeMismatch side)
+Explains holds zones filter_text projection_text (Err errors.FilterNotBool) = IsUnexplained holds zones filter_text projection_text errors.FilterNotBool
 
 -- the line of an expression: its compact text
 abbrev pub shown_line : Tree → Bytes
@@ -52,4 +63,18 @@ query_line e = query_text e ++ codes "\n"
 abbrev pub Shows : (Tree → Bytes) → (ExprEncoding → Bool) → Bytes → Result (String Global) ScanError → Type 0
 Shows shown holds bytes (Ok text) = (e : Tree) × SpellsTree holds bytes e × (string_bytes text ≡ shown e)
 Shows shown holds bytes (Err errors.NoMemory) = Unit {0}
-Shows shown holds bytes (Err e) = IsTextRefused holds Text bytes e
+Shows shown holds bytes (Err (errors.BadWire side)) = IsTextRefused holds Text bytes (errors.BadWire side)
+Shows shown holds bytes (Err (errors.TooDeep side)) = IsTextRefused holds Text bytes (errors.TooDeep side)
+Shows shown holds bytes (Err (errors.TooManyNodes side)) = IsTextRefused holds Text bytes (errors.TooManyNodes side)
+Shows shown holds bytes (Err (errors.UnknownExpr side)) = IsTextRefused holds Text bytes (errors.UnknownExpr side)
+Shows shown holds bytes (Err (errors.BadMetadata side)) = IsTextRefused holds Text bytes (errors.BadMetadata side)
+Shows shown holds bytes (Err (errors.WrongChildren side)) = IsTextRefused holds Text bytes (errors.WrongChildren side)
+Shows shown holds bytes (Err (errors.NotStruct side)) = IsTextRefused holds Text bytes (errors.NotStruct side)
+Shows shown holds bytes (Err (errors.NullableSelect side)) = IsTextRefused holds Text bytes (errors.NullableSelect side)
+Shows shown holds bytes (Err (errors.UnknownField side)) = IsTextRefused holds Text bytes (errors.UnknownField side)
+Shows shown holds bytes (Err (errors.DuplicateField side)) = IsTextRefused holds Text bytes (errors.DuplicateField side)
+Shows shown holds bytes (Err (errors.TypeMismatch side)) = IsTextRefused holds Text bytes (errors.TypeMismatch side)
+Shows shown holds bytes (Err errors.FilterNotBool) = IsTextRefused holds Text bytes errors.FilterNotBool
+Shows shown holds bytes (Err errors.Overflow) = IsTextRefused holds Text bytes errors.Overflow
+Shows shown holds bytes (Err errors.BadCast) = IsTextRefused holds Text bytes errors.BadCast
+Shows shown holds bytes (Err errors.StoreFault) = IsTextRefused holds Text bytes errors.StoreFault

@@ -336,3 +336,96 @@ without_merge-stays t e h = rebuilt-same is_simple (merge_removed t) (merge-stay
 
 pub without_packed_fields-stays : (e : Tree) → all_nodes is_simple e ≡ true → without_packed_fields e ≡ Ok e
 without_packed_fields-stays e h = rebuilt-same is_simple field_of_pack field-stays e h
+
+-- ---- each pass by itself
+
+abbrev pub no_merge : Shape → Bool
+no_merge a_merge = false
+no_merge _ = true
+
+-- without selects, an expression stays where selects go; and so without merges where merges go
+select-gone : (t : Ty) (n : Tree) → shaped no_select n ≡ true → select_removed t n ≡ Ok n
+select-gone t (select s e) h = let no : ⊥ = cc in absurd no
+select-gone t n h = refl
+
+merge-gone : (t : Ty) (n : Tree) → shaped no_merge n ≡ true → merge_removed t n ≡ Ok n
+merge-gone t (merge es m) h = let no : ⊥ = cc in absurd no
+merge-gone t n h = refl
+
+pub without_select-twice : (t : Ty) (e d : Tree) → without_select t e ≡ Ok d → without_select t d ≡ Ok d
+without_select-twice t e d h = rebuilt-same (shaped no_select) (select_removed t) (select-gone t) d (without_select-good t e d h)
+
+-- merges go, whatever else stands there
+AllMergeless : List Giving → Type 0
+AllMergeless [] = Unit {0}
+AllMergeless (x ∷ xs) = (all_nodes (shaped no_merge) x.expression ≡ true) × AllMergeless xs
+
+givings-mergeless : (t : Ty) (es : Trees) (gs : List Giving) → nodes_in (shaped no_merge) es ≡ true → givings t es ≡ Ok gs → AllMergeless gs
+unfolding nodes_below AllMergeless
+givings-mergeless t no_trees gs g h = subst AllMergeless (Ok-same (Ok gs) [] gs (sym h) refl) tt
+givings-mergeless t (tree e es) gs g h =
+    let p = and_parts (all_nodes (shaped no_merge) e) (nodes_in (shaped no_merge) es) g in
+    let a = and_then-ok (and_then (loosely_typed t e) (giving_of e)) (λ x. and_then (givings t es) (λ xs. Ok (x ∷ xs))) gs h in
+    let b = and_then-ok (givings t es) (λ xs. Ok (a.given ∷ xs)) gs a.gave in
+    let c = and_then-ok (loosely_typed t e) (giving_of e) a.given a.was in
+    subst AllMergeless (Ok-same (Ok gs) (a.given ∷ b.given) gs (sym b.gave) refl)
+    (subst (λ (z : Tree). all_nodes (shaped no_merge) z ≡ true) (sym (giving_of-good e c.given a.given c.gave)) p.0, givings-mergeless t es b.given p.1 b.was)
+
+giver-mergeless : (f : Bytes) (gs : List Giving) → AllMergeless gs
+    → all_nodes (shaped no_merge) (unwrap_or (option_map (λ y. y.expression) (last_giver giving_names f gs)) root) ≡ true
+unfolding nodes_below AllMergeless
+giver-mergeless f [] h = refl
+giver-mergeless f (x ∷ gs) h = by-last (last_giver giving_names f gs) (has_name f x.names) (giver-mergeless f gs h.1)
+  where
+    by-last : (p : Option Giving) (b : Bool) → all_nodes (shaped no_merge) (unwrap_or (option_map (λ (y : Giving). y.expression) p) root) ≡ true
+        → all_nodes (shaped no_merge) (unwrap_or (option_map (λ (y : Giving). y.expression) (option_or p (cond b (Some x) None))) root) ≡ true
+    by-last (Some z) b r = r
+    by-last None true r = h.0
+    by-last None false r = refl
+
+merge_removed-mergeless : (t : Ty) → MakesGood any_shape (shaped no_merge) (merge_removed t)
+unfolding nodes_below
+merge_removed-mergeless t (merge es n) d q g h =
+    let a = and_then-ok (givings t es) (λ gs. Ok (givings_pack n gs)) d h in
+    subst (λ (z : Tree). all_nodes (shaped no_merge) z ≡ true) (Ok-same (Ok d) (givings_pack n a.given) d (sym a.gave) refl)
+    (items-good (shaped no_merge) (given_field a.given) (λ f. giver-mergeless f a.given (givings-mergeless t es a.given g a.was)) (merged_names giving_names a.given))
+merge_removed-mergeless t n d q g h = all-pass (shaped no_merge) n d refl g h
+
+pub without_merge-twice : (t : Ty) (e d : Tree) → without_merge t e ≡ Ok d → without_merge t d ≡ Ok d
+without_merge-twice t e d h =
+    rebuilt-same (shaped no_merge) (merge_removed t) (merge-gone t) d
+    (rebuilt-good any_shape (shaped no_merge) (merge_removed t) (merge_removed-mergeless t) e d (any_below e) h)
+
+-- fields straight on packs go, whatever else stands there
+abbrev pub is_unpacked : Tree → Bool
+is_unpacked (get_item f (pack names es n)) = false
+is_unpacked _ = true
+
+unpacked-good : (f : Bytes) (names : List Bytes) (es : Trees) (d : Tree) → nodes_in is_unpacked es ≡ true → known_field (packed_value f names es) ≡ Ok d
+    → all_nodes is_unpacked d ≡ true
+unfolding nodes_below
+unpacked-good f [] es d g h = let no : ⊥ = cc in absurd no
+unpacked-good f (n ∷ names) no_trees d g h = let no : ⊥ = cc in absurd no
+unpacked-good f (n ∷ names) (tree e es) d g h =
+    let p = and_parts (all_nodes is_unpacked e) (nodes_in is_unpacked es) g in by-test (bytes_eq f n) h p.0 (unpacked-good f names es d p.1)
+  where
+    by-test : (b : Bool) → known_field (cond b (Some e) (packed_value f names es)) ≡ Ok d → all_nodes is_unpacked e ≡ true
+        → (known_field (packed_value f names es) ≡ Ok d → all_nodes is_unpacked d ≡ true) → all_nodes is_unpacked d ≡ true
+    by-test true i j r = subst (λ (z : Tree). all_nodes is_unpacked z ≡ true) (Ok-same (Ok d) e d (sym i) refl) j
+    by-test false i j r = r i
+
+field_of_pack-unpacked : MakesGood any_shape is_unpacked field_of_pack
+unfolding nodes_below
+field_of_pack-unpacked (get_item f (pack names es n)) d q g h = unpacked-good f names es d g h
+field_of_pack-unpacked (get_item f e) d q g h = all-pass is_unpacked (get_item f e) d refl g h
+field_of_pack-unpacked n d q g h = all-pass is_unpacked n d refl g h
+
+field-gone : (n : Tree) → is_unpacked n ≡ true → field_of_pack n ≡ Ok n
+field-gone (get_item f (pack names es m)) h = let no : ⊥ = cc in absurd no
+field-gone n h = refl
+
+pub without_packed_fields-unpacked : (e d : Tree) → without_packed_fields e ≡ Ok d → all_nodes is_unpacked d ≡ true
+without_packed_fields-unpacked e d h = rebuilt-good any_shape is_unpacked field_of_pack field_of_pack-unpacked e d (any_below e) h
+
+pub unpacked-stays : (e : Tree) → all_nodes is_unpacked e ≡ true → without_packed_fields e ≡ Ok e
+unpacked-stays e h = rebuilt-same is_unpacked field_of_pack field-gone e h

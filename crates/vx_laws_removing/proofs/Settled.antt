@@ -2,6 +2,7 @@
 use Rattle.std.proofs.Common.{◌⊎◌, inl, inr, ◌≡◌, ◌≤◌, ℕ, zero, suc, refl, ap, sym, ◌∙◌, Bool, true, ◌&&◌, Option, Some, None, subst, List, [], ◌∷◌, ◌++◌, Result, Ok, arith}
 use Rattle.std.specs.Prelude.{length, option_map, unwrap_or}
 use Rattle.std.specs.List.{AllByRecursion}
+use Rattle.std.proofs.lemmas.Bool.{and_from}
 use Rattle.vx_dtype.specs.Types.{Ty, bool_ty}
 use Rattle.vx_dtype.specs.declared.Nullability.TheVariants.{NonNullable}
 use Rattle.vx_dtype.specs.declared.BetweenOptions.{BetweenOptions}
@@ -21,8 +22,8 @@ use Rattle.vx_laws.proofs.Conjunctions.{conjuncts_of-chain}
 use Rattle.vx_laws_simplifying.proofs.Observing.{and-assoc, and-comm, and-twice}
 use Rattle.vx_laws_simplifying.proofs.RangeParts.{Reads, left_read, right_read, Bounds, RangeParts, range_of-parts}
 use Rattle.vx_laws_simplifying.proofs.Chains.{Measure, alone-ranged}
-use Rattle.vx_laws_removing.specs.Simplest.{nodes_below, all_nodes, is_simple, SimplifiedNodesAreSimple, SimplifiedStays}
-use Rattle.vx_laws_removing.proofs.Nodes.{without_select-good, without_merge-good, without_packed_fields-good, without_select-stays, without_merge-stays, without_packed_fields-stays}
+use Rattle.vx_laws_removing.specs.Simplest.{nodes_below, all_nodes, is_simple, SimplifiedNodesAreSimple, SimplifiedStays, SimplifiedOnceStays}
+use Rattle.vx_laws_removing.proofs.Nodes.{without_select-good, without_merge-good, without_packed_fields-good, without_select-stays, without_merge-stays, without_packed_fields-stays, is_unpacked, without_packed_fields-unpacked, unpacked-stays}
 
 -- what holds of each of these expressions
 abbrev pub Each : (Tree → Type 0) → List Tree → Type 0
@@ -208,47 +209,73 @@ ranged-stays e =
     ∙ (rejoined f.first f.rest (subst (Each Single) list (each-ranges Single range-single (length (conjuncts_of e)) (conjuncts_of e) (conjuncts-single e)))
     (subst Unpaired list (ranges-unpaired (length (conjuncts_of e)) (conjuncts_of e) enough)) ∙ sym joined)
 
--- nodes of ranges
-read-nodes : (c : Tree) (a : Reading) (s : Typed) → Reads c a → a.other ≡ literal s → all_nodes is_simple c ≡ all_nodes is_simple a.operand
-unfolding nodes_below
-read-nodes c a s (left_read l op r) e = ap (λ (z : Tree). all_nodes is_simple l && all_nodes is_simple z) e ∙ and-comm (all_nodes is_simple l) true
-read-nodes c a s (right_read l op r) e = ap (λ (z : Tree). all_nodes is_simple z && all_nodes is_simple r) e
+-- nodes of ranges, of which a test says the same whatever stands below them
+module _ (good : Tree → Bool) (literals : (s : Typed) → good (literal s) ≡ true) (binaries : (l r : Tree) (op : Operator) → good (binary l op r) ≡ true)
+    (betweens : (e l u : Tree) (options : BetweenOptions) → good (between e l u options) ≡ true) where
+  literal-nodes : (s : Typed) → all_nodes good (literal s) ≡ true
+  unfolding nodes_below
+  literal-nodes s = and_from (good (literal s)) true (literals s) refl
 
-between-nodes : (a b : Reading) (x : Tree) → Bounds a b x → all_nodes is_simple x ≡ all_nodes is_simple a.operand
-unfolding nodes_below
-between-nodes a b x k = ap (all_nodes is_simple) k.is ∙ and-comm (all_nodes is_simple a.operand) true
+  binary-nodes : (l r : Tree) (op : Operator) → all_nodes good (binary l op r) ≡ (all_nodes good l && all_nodes good r)
+  unfolding nodes_below
+  binary-nodes l r op = ap (λ (x : Bool). x && (all_nodes good l && all_nodes good r)) (binaries l r op)
 
-range-nodes : (c d x : Tree) → range_of c d ≡ Some x → all_nodes is_simple x ≡ (all_nodes is_simple c && all_nodes is_simple d)
-range-nodes c d x h = let p = range_of-parts c d x h in by-bounds p p.bounds
-  where
-    both : (a b : Reading) (e f : Tree) → Reads e a → Reads f b → Bounds a b x → all_nodes is_simple x ≡ (all_nodes is_simple e && all_nodes is_simple f)
-    both a b e f i j k =
-        between-nodes a b x k
-        ∙ (sym (and-twice (all_nodes is_simple a.operand))
-        ∙ (ap (λ (y : Bool). y && all_nodes is_simple a.operand) (sym (read-nodes e a k.lower i k.is_lower))
-        ∙ ap (λ (y : Bool). all_nodes is_simple e && y) (ap (all_nodes is_simple) k.shared ∙ sym (read-nodes f b k.upper j k.is_upper))))
+  between-two : (e : Tree) (lower upper : Typed) (options : BetweenOptions)
+      → all_nodes good (between e (literal lower) (literal upper) options) ≡ all_nodes good e
+  unfolding nodes_below
+  between-two e lower upper options =
+      ap (λ (x : Bool). x && (all_nodes good e && (all_nodes good (literal lower) && all_nodes good (literal upper))))
+      (betweens e (literal lower) (literal upper) options)
+      ∙ (ap (λ (x : Bool). all_nodes good e && (x && all_nodes good (literal upper))) (literal-nodes lower)
+      ∙ (ap (λ (x : Bool). all_nodes good e && x) (literal-nodes upper) ∙ and-comm (all_nodes good e) true))
 
-    by-bounds : (p : RangeParts c d x) → Bounds p.first p.second x ⊎ Bounds p.second p.first x → all_nodes is_simple x ≡ (all_nodes is_simple c && all_nodes is_simple d)
-    by-bounds p (inl k) = both p.first p.second c d p.reads_first p.reads_second k
-    by-bounds p (inr k) = both p.second p.first d c p.reads_second p.reads_first k ∙ and-comm (all_nodes is_simple d) (all_nodes is_simple c)
+  read-nodes : (c : Tree) (a : Reading) (s : Typed) → Reads c a → a.other ≡ literal s → all_nodes good c ≡ all_nodes good a.operand
+  read-nodes c a s (left_read l op r) e =
+      binary-nodes l r op
+      ∙ (ap (λ (z : Tree). all_nodes good l && all_nodes good z) e
+      ∙ (ap (λ (x : Bool). all_nodes good l && x) (literal-nodes s) ∙ and-comm (all_nodes good l) true))
+  read-nodes c a s (right_read l op r) e =
+      binary-nodes l r op
+      ∙ (ap (λ (z : Tree). all_nodes good z && all_nodes good r) e ∙ ap (λ (x : Bool). x && all_nodes good r) (literal-nodes s))
 
-nodes : Measure Bool
-unfolding nodes_below
-nodes = record {
-  join = λ a b. a && b;
-  assoc = and-assoc;
-  comm = and-comm;
-  alone = all_nodes is_simple;
-  within = all_nodes is_simple;
-  and_alone = λ l r. refl;
-  and_within = λ l r. refl;
-  range_alone = range-nodes;
-  range_within = range-nodes;
-}
+  between-nodes : (a b : Reading) (x : Tree) → Bounds a b x → all_nodes good x ≡ all_nodes good a.operand
+  between-nodes a b x k =
+      ap (all_nodes good) k.is ∙ between-two a.operand k.lower k.upper (record { lower_strict = k.below; upper_strict = k.above })
+
+  range-nodes : (c d x : Tree) → range_of c d ≡ Some x → all_nodes good x ≡ (all_nodes good c && all_nodes good d)
+  range-nodes c d x h = let p = range_of-parts c d x h in by-bounds p p.bounds
+    where
+      both : (a b : Reading) (e f : Tree) → Reads e a → Reads f b → Bounds a b x → all_nodes good x ≡ (all_nodes good e && all_nodes good f)
+      both a b e f i j k =
+          between-nodes a b x k
+          ∙ (sym (and-twice (all_nodes good a.operand))
+          ∙ (ap (λ (y : Bool). y && all_nodes good a.operand) (sym (read-nodes e a k.lower i k.is_lower))
+          ∙ ap (λ (y : Bool). all_nodes good e && y) (ap (all_nodes good) k.shared ∙ sym (read-nodes f b k.upper j k.is_upper))))
+
+      by-bounds : (p : RangeParts c d x) → Bounds p.first p.second x ⊎ Bounds p.second p.first x → all_nodes good x ≡ (all_nodes good c && all_nodes good d)
+      by-bounds p (inl k) = both p.first p.second c d p.reads_first p.reads_second k
+      by-bounds p (inr k) = both p.second p.first d c p.reads_second p.reads_first k ∙ and-comm (all_nodes good d) (all_nodes good c)
+
+  pub nodes : Measure Bool
+  nodes = record {
+    join = λ a b. a && b;
+    assoc = and-assoc;
+    comm = and-comm;
+    alone = all_nodes good;
+    within = all_nodes good;
+    and_alone = λ l r. binary-nodes l r Operator.And;
+    and_within = λ l r. binary-nodes l r Operator.And;
+    range_alone = range-nodes;
+    range_within = range-nodes;
+  }
+
+  -- such a test says the same of the nodes of an expression and of those of the expression with its ranges
+  pub ranged-nodes : (e : Tree) → all_nodes good (ranged e) ≡ all_nodes good e
+  unfolding nodes
+  ranged-nodes e = alone-ranged Bool nodes e
 
 ranged-simple : (e : Tree) → all_nodes is_simple (ranged e) ≡ all_nodes is_simple e
-unfolding nodes
-ranged-simple e = alone-ranged Bool nodes e
+ranged-simple e = ranged-nodes is_simple (λ s. refl) (λ l r op. refl) (λ e l u options. refl) e
 
 -- what simplifying by types makes is an expression of simple nodes with its ranges
 record Settled (d : Tree) : Type 0 where
@@ -280,3 +307,14 @@ simplified_stays t e d h =
     ap (λ (x : Result Tree Refusal). and_then x (λ a. and_then (without_select t a) (λ b. and_then (without_merge t b) simplified))) once
     ∙ (ap (λ (x : Result Tree Refusal). and_then x (λ b. and_then (without_merge t b) simplified)) (without_select-stays t d good)
     ∙ (ap (λ (x : Result Tree Refusal). and_then x simplified) (without_merge-stays t d good) ∙ once))
+
+-- simplifying by itself changes nothing again
+pub simplified-twice : SimplifiedOnceStays
+simplified-twice e d h =
+    let f = and_then-ok (without_packed_fields e) (λ x. Ok (ranged x)) d h in
+    let is : ranged f.given ≡ d = Ok-same (Ok d) (ranged f.given) d (sym f.gave) refl in
+    let good : all_nodes is_unpacked (ranged f.given) ≡ true =
+    ranged-nodes is_unpacked (λ s. refl) (λ l r op. refl) (λ e l u options. refl) f.given ∙ without_packed_fields-unpacked e f.given f.was in
+    let still : ranged d ≡ d = ap ranged (sym is) ∙ (ranged-stays f.given ∙ is) in
+    ap (λ (x : Result Tree Refusal). and_then x (λ y. Ok (ranged y))) (unpacked-stays d (subst (λ (z : Tree). all_nodes is_unpacked z ≡ true) is good))
+    ∙ ap (λ (z : Tree). Ok z) still

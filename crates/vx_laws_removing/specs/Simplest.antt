@@ -3,6 +3,10 @@ use Rattle.std.specs.Prelude.{◌≡◌, Bool, true, false, ◌&&◌, Ok}
 use Rattle.vx_dtype.specs.Types.{Ty}
 use Rattle.vx_expr.specs.Trees.{Tree, root, literal, get_item, binary, not_of, is_null_of, like, between, cast, list_contains, pack, merge, select, dynamic}
 use Rattle.vx_expr.specs.Trees.{Trees, no_trees, tree}
+use Rattle.vx_passes.specs.Ranges.{ranged}
+use Rattle.vx_passes.specs.Simplifying.{simplified}
+use Rattle.vx_passes.specs.Selecting.{without_select}
+use Rattle.vx_passes.specs.Merging.{without_merge}
 use Rattle.vx_passes.specs.TypedSimplifying.{simplified_typed}
 
 unfoldable mutual
@@ -47,3 +51,17 @@ SimplifiedNodesAreSimple = (t : Ty) (e d : Tree) → simplified_typed t e ≡ Ok
 -- and simplified again it stays as it is
 abbrev pub SimplifiedStays : Type 0
 SimplifiedStays = (t : Ty) (e d : Tree) → simplified_typed t e ≡ Ok d → simplified_typed t d ≡ Ok d
+
+-- each pass leaves as it is what it made of any expression: the one that takes fields from packs and finds ranges, finding ranges alone, and the removals
+-- of selects and of merges
+abbrev pub SimplifiedOnceStays : Type 0
+SimplifiedOnceStays = (e d : Tree) → simplified e ≡ Ok d → simplified d ≡ Ok d
+
+abbrev pub RangesStay : Type 0
+RangesStay = (e : Tree) → ranged (ranged e) ≡ ranged e
+
+abbrev pub SelectsStayGone : Type 0
+SelectsStayGone = (t : Ty) (e d : Tree) → without_select t e ≡ Ok d → without_select t d ≡ Ok d
+
+abbrev pub MergesStayGone : Type 0
+MergesStayGone = (t : Ty) (e d : Tree) → without_merge t e ≡ Ok d → without_merge t d ≡ Ok d

@@ -8,6 +8,8 @@ mod sizes;
 mod walking;
 
 pub use removing::{strict_types_are_loose, without_merge_keeps, without_select_keeps};
-pub use simplifying::{simplified_nodes_are_simple, simplified_stays, simplified_typed_keeps};
+pub use simplifying::{
+    passes_stay, simplified_nodes_are_simple, simplified_stays, simplified_typed_keeps,
+};
 pub use sizes::simplified_stays_small;
 pub use walking::{walk_makes_the_passes, walked_structs_keep_names};

@@ -1,7 +1,7 @@
 -- The two comparisons that make a range, each read with the shared field access on the left.
 use Rattle.std.proofs.Common.{◌⊎◌, inl, inr, ◌≡◌, refl, ap, sym, ◌∙◌, Bool, true, false, cond, not, ◌&&◌, Option, Some, None}
 use Rattle.std.specs.Prelude.{is_some}
-use Rattle.std.specs.Option.{option_and_then}
+use Rattle.std.specs.Option.{option_and_then, option_or}
 use Rattle.std.proofs.lemmas.Bool.{and_parts}
 use Rattle.vx_dtype.specs.declared.StrictComparison.{StrictComparison}
 use Rattle.vx_dtype.specs.Values.{Typed}
@@ -10,7 +10,7 @@ use Rattle.vx_expr.specs.Children.{is_get_item, literal_of}
 use Rattle.vx_expr.specs.Equal.{tree_eq}
 use Rattle.vx_expr.specs.EqualLaws.{tree_eq-same}
 use Rattle.vx_expr.specs.Trees.{Tree, literal, binary, between}
-use Rattle.vx_passes.specs.Ranges.{Reading, from_left, from_right, share_access, bound_below, bound_above, range_where, range_between, or_else, range_of_readings, range_of_four, range_of}
+use Rattle.vx_passes.specs.Ranges.{Reading, from_left, from_right, share_access, bound_below, bound_above, range_where, range_between, range_of_readings, range_of_four, range_of}
 
 -- a reading of a conjunct of two operands, from the left or from the right one
 pub data Reads : Tree → Reading → Type 0 where
@@ -69,12 +69,12 @@ range_between-bounds a b x e i j h = by-bounds (bound_below a.operator) (bound_a
 either-bounds : (a b : Reading) (x : Tree) → a.operand ≡ b.operand → range_of_readings (a, b) ≡ Some x → Bounds a b x ⊎ Bounds b a x
 either-bounds a b x e h = by-literals (is_some (literal_of a.other)) (is_some (literal_of b.other)) refl refl h
   where
-    by-first : (o : Option Tree) → range_between a b ≡ o → is_some (literal_of a.other) ≡ true → is_some (literal_of b.other) ≡ true → or_else o (range_between b a) ≡ Some x
+    by-first : (o : Option Tree) → range_between a b ≡ o → is_some (literal_of a.other) ≡ true → is_some (literal_of b.other) ≡ true → option_or o (range_between b a) ≡ Some x
         → Bounds a b x ⊎ Bounds b a x
     by-first (Some y) k i j g = inl (range_between-bounds a b x e i j (k ∙ g))
     by-first None k i j g = inr (range_between-bounds b a x (sym e) j i g)
 
-    by-literals : (y z : Bool) → is_some (literal_of a.other) ≡ y → is_some (literal_of b.other) ≡ z → cond (y && z) (or_else (range_between a b) (range_between b a)) None ≡ Some x
+    by-literals : (y z : Bool) → is_some (literal_of a.other) ≡ y → is_some (literal_of b.other) ≡ z → cond (y && z) (option_or (range_between a b) (range_between b a)) None ≡ Some x
         → Bounds a b x ⊎ Bounds b a x
     by-literals true true i j g = by-first (range_between a b) refl i j g
     by-literals true false i j g = let no : ⊥ = cc in absurd no

@@ -9,6 +9,7 @@ ghost use Rattle.vx_expr.specs.Trees.{literal};
 use crate::pruning::statistic;
 use crate::samples::{above_ten, col, name};
 use std::alloc::Global;
+use std::collections::{HashMap, HashSet};
 use std::test::Fail;
 use vx_build::lit;
 use vx_dtype::{FieldPath, FieldPathSet, Mem, Stat};
@@ -126,6 +127,26 @@ fn relations(rt: HostRuntime) -> Result<(), Fail> {
     let mut relation: RequiredStats = Relation::new(alloc);
     relation.insert(FieldPath::from_name(alloc, name(alloc, "a")?)?, Stat::Max)?;
     assert!(rt; relation.map().len() == 1);
+    Ok(())
+}
+
+/// How many values stand beside the number 1 in the relation of a map from 1 to the numbers 2 and 3.
+fn values_beside_one(alloc: Global) -> Mem<usize> {
+    let mut values = HashSet::new(alloc);
+    values.insert(2u64)?;
+    values.insert(3u64)?;
+    let mut map = HashMap::new(alloc);
+    map.insert(1u64, values)?;
+    let relation = Relation::from_map(map);
+    Ok(match relation.map().get(&1) {
+        Some(beside) => beside.len(),
+        None => 0,
+    })
+}
+
+#[test]
+fn a_map_is_a_relation(rt: HostRuntime) -> Result<(), Fail> {
+    assert!(rt; values_beside_one(rt.alloc())? == 2);
     Ok(())
 }
 

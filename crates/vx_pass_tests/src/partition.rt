@@ -5,9 +5,10 @@ use std::test::Fail;
 use vx_dtype::{FieldName, Mem};
 use vx_expr::ExprRef;
 use vx_partition::{
-    PartitionedExpr, annotate_scope_access, immediate_scope_access, immediate_scope_accesses,
-    partition,
+    PartitionedExpr, annotate_scope_access, descendent_annotations, immediate_scope_access,
+    immediate_scope_accesses, partition,
 };
+use vx_prepare::prepare;
 
 /// `$.x > 10 and $.y > 10`.
 fn both(alloc: Global) -> Mem<ExprRef> {
@@ -94,5 +95,26 @@ fn entries(rt: HostRuntime) -> Result<(), Fail> {
     let alloc = rt.alloc();
     assert!(rt; has_entry(alloc, above_ten(alloc, "x")?)?);
     assert!(rt; !has_entry(alloc, vx_build::root(alloc)?)?);
+    Ok(())
+}
+
+/// How many entries the annotations of `$.x > 10` and of what is below it have.
+fn count_annotated(alloc: Global) -> Mem<usize> {
+    let fields = two_fields(alloc, "x", "y")?;
+    let annotate = annotate_scope_access(&fields);
+    Ok(descendent_annotations(alloc, &above_ten(alloc, "x")?, &annotate)?.len())
+}
+
+/// How many columns `$.x > 10 and $.y > 10` asks, prepared.
+fn count_prepared(alloc: Global) -> Result<usize, Fail> {
+    let prepared = prepare(alloc, &both(alloc)?, &rows(alloc, "x", "y")?, &[])?;
+    Ok(prepared.columns().len())
+}
+
+#[test]
+fn ample(rt: HostRuntime) -> Result<(), Fail> {
+    let alloc = rt.alloc();
+    assert!(rt; count_annotated(alloc)? == 3);
+    assert!(rt; count_prepared(alloc)? == 2);
     Ok(())
 }

@@ -1,11 +1,13 @@
 //! The passes, each call with ample memory.
-use crate::samples::{col, number, rows, two_fields};
+use crate::samples::{col, name, number, rows, two_fields};
 use std::alloc::Global;
 use std::test::Fail;
-use vx_dtype::Mem;
+use vx_dtype::{FieldNames, Mem, Nullability};
 use vx_expr::ExprRef;
 use vx_transform::laws::{find_between, remove_merge, remove_select};
-use vx_transform::{TransformError, replace, replace_root_fields, simplify, simplify_typed};
+use vx_transform::{
+    TransformError, pack_of, replace, replace_root_fields, simplify, simplify_typed,
+};
 
 /// `$.field = 1`, of the field of this name.
 fn equals_one(alloc: Global, field: &str) -> Mem<ExprRef> {
@@ -49,6 +51,13 @@ fn simplified_typed(alloc: Global) -> Result<ExprRef, TransformError> {
     simplify_typed(alloc, number(alloc, 1)?, &scope)
 }
 
+/// The struct of 1 under one name.
+fn one_packed(alloc: Global) -> Mem<ExprRef> {
+    let names = FieldNames::new(alloc, vec![in alloc; name(alloc, "a")?]?)?;
+    let values = vec![in alloc; number(alloc, 1)?]?;
+    pack_of(alloc, names, values, Nullability::NonNullable)
+}
+
 /// Whether an expression is written so.
 fn is(alloc: Global, made: ExprRef, text: &str) -> Mem<bool> {
     Ok(format!(in alloc; "{made}")?.as_str() == text)
@@ -72,5 +81,6 @@ fn ample(rt: HostRuntime) -> Result<(), Fail> {
     assert!(rt; is(alloc, simplified_typed(alloc)?, "1i32")?);
     assert!(rt; is(alloc, without_select(alloc)?, "1i32")?);
     assert!(rt; is(alloc, without_merge(alloc)?, "1i32")?);
+    assert!(rt; is(alloc, one_packed(alloc)?, "pack(a: 1i32)")?);
     Ok(())
 }

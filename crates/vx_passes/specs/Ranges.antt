@@ -1,7 +1,7 @@
 -- Ranges: two comparisons of one field access with constants, one from below and one from above, become one range.
 use Rattle.std.specs.Prelude.{ℕ, zero, suc, Bool, cond, not, ◌&&◌, List, [], ◌∷◌, length, Option, Some, None, is_some, option_map, unwrap_or}
 use Rattle.std.specs.List.{find}
-use Rattle.std.specs.Option.{option_and_then}
+use Rattle.std.specs.Option.{option_and_then, option_or}
 use Rattle.vx_dtype.specs.declared.StrictComparison.{StrictComparison}
 use Rattle.vx_dtype.specs.declared.StrictComparison.TheVariants.{Strict, NonStrict}
 use Rattle.vx_expr.specs.declared.Operator.{Operator}
@@ -48,15 +48,10 @@ range_where e lower upper _ _ = None
 abbrev pub range_between : Reading → Reading → Option Tree
 range_between a b = range_where a.operand a.other b.other (bound_below a.operator) (bound_above b.operator)
 
--- the value of the first option that has one
-abbrev pub or_else : {A : Type 0} → Option A → Option A → Option A
-or_else (Some x) o = Some x
-or_else None o = o
-
 -- the range of two readings whose other operands are constants: either may give the lower bound
 abbrev pub range_of_readings : Reading × Reading → Option Tree
 range_of_readings p =
-    cond (is_some (literal_of p.0.other) && is_some (literal_of p.1.other)) (or_else (range_between p.0 p.1) (range_between p.1 p.0)) None
+    cond (is_some (literal_of p.0.other) && is_some (literal_of p.1.other)) (option_or (range_between p.0 p.1) (range_between p.1 p.0)) None
 
 -- the range of two conjuncts of two operands each, by the first of the four ways in which they share a field access
 abbrev pub range_of_four : Reading → Reading → Reading → Reading → Option Tree

@@ -28,7 +28,7 @@ use Rattle.vx_scan.specs.declared.errors.ScanError.TheVariants as scans
 use Rattle.vx_scan.specs.declared.reports.ScanReport.{ScanReport}
 use Rattle.vx_query.specs.Reports.{report_text}
 use Rattle.vx_request.specs.Requests.{RequestedScan, request_of}
-use Rattle.vx_request.specs.RequestViews.{Answers, scan_view}
+use Rattle.vx_request.specs.RequestViews.{RequestAnswers, scan_view}
 use Rattle.vx_request.specs.declared.errors.RequestError.{RequestError}
 use Rattle.vx_request.specs.declared.errors.RequestError.TheVariants as requests
 use Rattle.vx_query.specs.EndingViews.{EndsBy, IsAnswered, IsScanned, IsUnreported}
@@ -208,7 +208,7 @@ unscanned_by input s LongPart found none = absurd none
 unscanned_by input s (Scan e) found refused = record { asked = s; held = found; refused = refused }
 
 -- an input whose request is refused is answered by the refusal
-pub refused_by : (input : Bytes) (e : RequestError) → Answers scan_view (request_of input) (Err e) → IsUnanswered input (request_refusal e)
+pub refused_by : (input : Bytes) (e : RequestError) → RequestAnswers scan_view (request_of input) (Err e) → IsUnanswered input (request_refusal e)
 refused_by input requests.NoMemory told = tt
 refused_by input requests.InputTooLong told = told
 refused_by input requests.BadJson told = told

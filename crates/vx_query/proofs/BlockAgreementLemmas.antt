@@ -44,13 +44,13 @@ agree_with z fs bs ss filter projection is = subst (λ k. agree (scan_with k fs 
     (λ made h. let shape = made_shape fs bs _ _ _ made refl h in both_true _ _ shape.0 shape.1))
 
 -- the scan of zones, once both texts are read
-abbrev with_zones : RequestText → Bytes → Bytes → Zones → Result RequestedScan RequestError
+abbrev pub with_zones : RequestText → Bytes → Bytes → Zones → Result RequestedScan RequestError
 with_zones r f p z = scan_with z r.columns r.blocks f p
 
-abbrev with_projection : RequestText → Bytes → Bytes → Result RequestedScan RequestError
+abbrev pub with_projection : RequestText → Bytes → Bytes → Result RequestedScan RequestError
 with_projection r f p = sound_zones (zones_of r.columns r.blocks r.stats) >>= with_zones r f p
 
-abbrev with_filter : RequestText → Bytes → Result RequestedScan RequestError
+abbrev pub with_filter : RequestText → Bytes → Result RequestedScan RequestError
 with_filter r f = bytes_in Projection r.projection >>= with_projection r f
 
 agree_text : (r : RequestText) → agree (scan_in r) ≡ true
@@ -60,7 +60,7 @@ agree_text r =
     (λ p _. agree_step (sound_zones (zones_of r.columns r.blocks r.stats)) (with_zones r f p)
     (λ z h. agree_with z r.columns r.blocks r.stats f p (zones_same (zones_of r.columns r.blocks r.stats) z (broken_rule (zones_of r.columns r.blocks r.stats)) h))))
 
-abbrev of_value : Data → Result RequestedScan RequestError
+abbrev pub of_value : Data → Result RequestedScan RequestError
 of_value d = text_in d >>= scan_in
 
 -- what an input holds agrees

@@ -22,10 +22,11 @@ use Rattle.vx_request.specs.declared.errors.RequestError.TheVariants.{InputTooLo
 use Rattle.vx_query.specs.Reports.{report_text}
 use Rattle.vx_query.specs.Refusals.{request_refusal_name, scan_refusal_name, break_name, refusal_line}
 use Rattle.vx_query.specs.Running.{End, Form, HoldsScan, HoldsRefused, scan_table, scan_reads, scan_phases, scan_breaks, scan_breaks_by, scan_report, scanned_store, broken_store, scan_form, explain_form, reads_request, IsTaken, IsRun}
+use Rattle.vx_query.specs.Exclusions.{IsSameScan}
 use Rattle.vx_query.specs.WireLaws.{WireLaws}
 use Rattle.vx_query.specs.Causes.{HasRisen, IsReported, IsRefused, IsUnscanned, IsBroken, IsExplained, HasBroken, TellsScan, told_breaks, told_breaks_by, whole_report}
 use Rattle.vx_query.specs.Exactly.{Tells, RunsWell, EndsWith, taken_of}
-use Rattle.vx_query.proofs.RefusalLemmas.{IsSameScan, one_err, not_err, one_scan, one_held_refusal, held_unrefused}
+use Rattle.vx_query.proofs.RefusalLemmas.{one_err, not_err, one_scan, one_held_refusal, held_unrefused}
 use Rattle.vx_query.proofs.LineLemmas.{one_request, one_scan_error, one_cause, told_name}
 use Rattle.vx_query.proofs.FormLemmas.{broken_reads, broken_scans}
 use Rattle.vx_query.proofs.RequestEnds.{RequestEnd, cut_off, without_memory, not_read, no_request, no_scan, breaks, reports, explains, request_end}
@@ -232,7 +233,7 @@ some_breaks cause t slots (phase ∷ phases) h =
     break_step (phase_breaks t slots phase) (phase_breaks_by cause t slots phase) (first_breaks_by cause t slots phases)
     (list_any (phase_breaks t slots) phases) (some_breaks cause t slots phases) h
 
-breaks_by_one : (cause : Cause) (a : RequestedScan) (f p : Tree) → scan_breaks_by cause a f p ≡ true → scan_breaks a f p ≡ true
+pub breaks_by_one : (cause : Cause) (a : RequestedScan) (f p : Tree) → scan_breaks_by cause a f p ≡ true → scan_breaks a f p ≡ true
 breaks_by_one cause a f p h = some_breaks cause (row_type a.zones.columns) [] (scan_phases a f p) h
 
 -- the scan that is told breaks as the same one does

@@ -2,7 +2,7 @@
 use Rattle.std.proofs.Common.{◌≡◌, ◌∙◌, sym, ap, refl, ℕ, true, false, Option, Some, None, inl, inr, arith, true≢false}
 use Rattle.vx_scan.specs.Stores.{Seen}
 use Rattle.vx_query.specs.Running.{End, Form, scan_form, explain_form, reads_request, Outcome, misused, helped, versioned, out_of_memory, unread, refused, unscanned, broken, answered, explained, undecoded, unshown, shown, unnamed, unserialized, overlong, named, Writing, whole, cut, IsOutcome, IsWriting, IsRun, status_of, text_of, used_by}
-use Rattle.vx_query.specs.Causes.{HasRisen, IsMisuse, IsCut}
+use Rattle.vx_query.specs.Causes.{HasRisen, IsMisuse}
 use Rattle.vx_query.proofs.RequestEnds.{not_none}
 
 -- ---- arguments of no form
@@ -138,55 +138,3 @@ others_take_nothing form i i' o o' used status none run = by run.outcome run.com
     by unserialized comes = comes.1
     by overlong comes = comes.1
     by (named e) comes = comes.1
-
--- ---- faults
-
--- a source that failed
-pub source_risen : (form : Option Form) (i i' o o' : End) (used : Option Seen) → IsRun form i i' o o' used 6 → HasRisen i i'
-source_risen form i i' o o' used run = by run.outcome run.writing run.comes run.written
-  where
-    by : (outcome : Outcome) (writing : Writing) → IsOutcome form i i' outcome → IsWriting o o' (text_of outcome) (status_of outcome) 6 writing
-        → HasRisen i i'
-    by outcome cut comes written = absurd (omega (arith, written.0))
-    by misused whole comes written = absurd (omega (arith, written.0))
-    by helped whole comes written = absurd (omega (arith, written.0))
-    by versioned whole comes written = absurd (omega (arith, written.0))
-    by out_of_memory whole comes written = absurd (omega (arith, written.0))
-    by unread whole comes written = comes.1.1
-    by (refused input e) whole comes written = absurd (omega (arith, written.0))
-    by (unscanned input e) whole comes written = absurd (omega (arith, written.0))
-    by (broken cause input a f p) whole comes written = absurd (omega (arith, written.0))
-    by (answered input a f p) whole comes written = absurd (omega (arith, written.0))
-    by (explained input a f p) whole comes written = absurd (omega (arith, written.0))
-    by undecoded whole comes written = absurd (omega (arith, written.0))
-    by (unshown e) whole comes written = absurd (omega (arith, written.0))
-    by (shown showing e) whole comes written = absurd (omega (arith, written.0))
-    by (unnamed e) whole comes written = absurd (omega (arith, written.0))
-    by unserialized whole comes written = absurd (omega (arith, written.0))
-    by overlong whole comes written = absurd (omega (arith, written.0))
-    by (named e) whole comes written = absurd (omega (arith, written.0))
-
--- a sink that failed
-pub sink_risen : (form : Option Form) (i i' o o' : End) (used : Option Seen) → IsRun form i i' o o' used 7 → IsCut form i i' o o'
-sink_risen form i i' o o' used run = by run.outcome run.writing run.comes run.written
-  where
-    by : (outcome : Outcome) (writing : Writing) → IsOutcome form i i' outcome → IsWriting o o' (text_of outcome) (status_of outcome) 7 writing
-        → IsCut form i i' o o'
-    by outcome cut comes written = record { outcome = outcome; comes = comes; risen = written.1.1; written = written.1.0 }
-    by misused whole comes written = absurd (omega (arith, written.0))
-    by helped whole comes written = absurd (omega (arith, written.0))
-    by versioned whole comes written = absurd (omega (arith, written.0))
-    by out_of_memory whole comes written = absurd (omega (arith, written.0))
-    by unread whole comes written = absurd (omega (arith, written.0))
-    by (refused input e) whole comes written = absurd (omega (arith, written.0))
-    by (unscanned input e) whole comes written = absurd (omega (arith, written.0))
-    by (broken cause input a f p) whole comes written = absurd (omega (arith, written.0))
-    by (answered input a f p) whole comes written = absurd (omega (arith, written.0))
-    by (explained input a f p) whole comes written = absurd (omega (arith, written.0))
-    by undecoded whole comes written = absurd (omega (arith, written.0))
-    by (unshown e) whole comes written = absurd (omega (arith, written.0))
-    by (shown showing e) whole comes written = absurd (omega (arith, written.0))
-    by (unnamed e) whole comes written = absurd (omega (arith, written.0))
-    by unserialized whole comes written = absurd (omega (arith, written.0))
-    by overlong whole comes written = absurd (omega (arith, written.0))
-    by (named e) whole comes written = absurd (omega (arith, written.0))

@@ -12,7 +12,10 @@ mod CauseLemmas
 mod RequestCauseLemmas
 mod ExpressionCauseLemmas
 mod WordLemmas
+mod NameLemmas
 mod ReadLemmas
+mod EndLemmas
+mod ExclusionLemmas
 mod QueryLemmas
 mod ByteLemmas
 mod TextLemmas

@@ -1,15 +1,20 @@
 -- Each read of the scan of a request is of a kept block and of a column that the filter or the projection asks.
-use Rattle.std.proofs.Common.{◌≡◌, ◌∙◌, sym, ap, refl, subst, ℕ, Bool, true, false, cond, List, [], ◌∷◌, ◌++◌, length, map, Option, Some, Ok, inl, inr}
-use Rattle.std.specs.List.{flat_map, list_all}
+use Rattle.std.proofs.Common.{◌≡◌, ◌∙◌, sym, ap, refl, subst, ℕ, Bool, true, false, cond, not, ◌&&◌, ◌||◌, nat_eq, List, [], ◌∷◌, ◌++◌, length, map, Option, Some, Ok, inl, inr}
+use Rattle.std.specs.List.{flat_map, list_all, list_any, AllByRecursion}
+use Rattle.std.specs.Str.{bytes_eq}
+use Rattle.std.proofs.lemmas.Bool.{and_from, or_left, or_right}
+use Rattle.std.proofs.lemmas.List.Folds.{list_all-append}
 use Rattle.std.proofs.lemmas.List.{length-map}
 use Rattle.std.proofs.lemmas.Option.{same_Some}
 use Rattle.vx_dtype.specs.Types.{Bytes, Ty}
 use Rattle.vx_dtype.specs.Values.{Val}
-use Rattle.vx_dtype.specs.TypeRules.{field_names}
+use Rattle.vx_dtype.specs.TypeRules.{has_name, field_names}
 use Rattle.vx_expr.specs.Trees.{Tree}
 use Rattle.vx_semantics.specs.Asked.{asked_columns}
 use Rattle.vx_semantics.specs.Meaning.{Slots}
-use Rattle.vx_semantics.specs.Tables.{row_type}
+use Rattle.vx_laws.proofs.Inverting.{bytes_eq-itself}
+use Rattle.vx_semantics.specs.Pruning.{rules_out}
+use Rattle.vx_semantics.specs.Tables.{row_type, numbered_from}
 use Rattle.vx_semantics.specs.Scans.{Phase, phase_breaks, phase_reads, phases_to_break, phases_of, kept_of, kept_blocks, reads_in, further_columns, matching_rows, has_rows, reads_to_break}
 use Rattle.vx_laws_scan.specs.Pruned.{KeptNumbersAreKeptBlocks}
 use Rattle.vx_laws_scan.proofs.BlockReads.{block_reads, reads_by_block}
@@ -19,13 +24,15 @@ use Rattle.vx_scan.specs.ScanLaws.{is_asked_read}
 use Rattle.vx_scan.specs.Scanning.{AreAmong, asked_reads}
 use Rattle.vx_scan.specs.Stores.{Read, Seen}
 use Rattle.vx_scan.proofs.AmongLemmas.{among_nothing, among_all, among_append}
-use Rattle.vx_scan.proofs.AskedLemmas.{reads_are_asked}
+use Rattle.vx_scan.proofs.AskedLemmas.{all_so, all_passing, all_here, number_itself, among_pass, reads_are_asked, reads_are_distinct}
 use Rattle.vx_scan.proofs.BlockLemmas.{table_lengths}
 use Rattle.vx_request.specs.Requests.{RequestedScan, request_of}
 use Rattle.vx_query.specs.BlockAgreement.{agree}
-use Rattle.vx_query.specs.Running.{End, Form, scan_table, scan_reads, scanned_store, broken_store, Outcome, misused, helped, versioned, out_of_memory, unread, refused, unscanned, broken, answered, explained, undecoded, unshown, shown, unnamed, unserialized, overlong, named, IsOutcome, IsRun, used_by}
-use Rattle.vx_query.specs.Causes.{HasAskedReads}
+use Rattle.vx_query.specs.Running.{End, Form, IsTaken, HoldsScan, scan_table, scan_reads, scanned_store, broken_store, Outcome, misused, helped, versioned, out_of_memory, unread, refused, unscanned, broken, answered, explained, undecoded, unshown, shown, unnamed, unserialized, overlong, named, IsOutcome, IsRun, used_by}
+use Rattle.vx_query.specs.Causes.{store_after, is_needed_read, HasAskedReads}
 use Rattle.vx_query.proofs.CellLemmas.{and_left}
+use Rattle.vx_query.proofs.CauseLemmas.{breaks_by_one}
+use Rattle.vx_query.proofs.NameLemmas.{request_names}
 use Rattle.vx_query.proofs.BlockAgreementLemmas.{agree_in}
 use Rattle.vx_query.proofs.RequestEnds.{not_none}
 
@@ -90,11 +97,73 @@ reads_among kept input a f p asked =
     (subst (λ ns. AreAmong (flat_map (block_reads (row_type a.zones.columns) [] f p) blocks) (flat_map (block_asked a.zones f p) ns)) numbers
     (blocks_among a f p blocks))
 
-to_break : KeptNumbersAreKeptBlocks → (input : Bytes) (a : RequestedScan) (f p : Tree) → request_of input ≡ Ok a
-    → AreAmong (reads_to_break (scan_table a) a.zones [] f p) (asked_reads a.zones [] f p)
-to_break kept input a f p asked =
-    among_trans (reads_to_break (scan_table a) a.zones [] f p) (scan_reads a f p) (asked_reads a.zones [] f p)
-    (to_break_among (row_type a.zones.columns) [] (phases_of (scan_table a) a.zones [] f p)) (reads_among kept input a f p asked)
+-- ---- the reads that are needed
+
+-- what some block of a list meets that a test asks, some block of the other list does
+abbrev Block : Type 0
+Block = ℕ × List Val
+
+abbrev StandsIn : List Block → Block → Type 0
+StandsIn all b = (test : Block → Bool) → test b ≡ true → list_any test all ≡ true
+
+stand_in : (all : List Block) → AllByRecursion (StandsIn all) all
+stand_in [] = tt
+stand_in (b ∷ bs) = (
+  λ test h. or_left (test b) (list_any test bs) h,
+  all_so (StandsIn bs) (StandsIn (b ∷ bs)) (λ c k test h. or_right (test b) (list_any test bs) (k test h)) bs (stand_in bs),
+)
+
+-- whether a block has this number, and a row at which the filter means true
+abbrev is_matching : Ty → Tree → ℕ → Block → Bool
+is_matching t f n b = nat_eq n b.0 && has_rows (matching_rows t [] f b.1)
+
+abbrev is_needed_in : Ty → Tree → List Block → Read → Bool
+is_needed_in t f all r = has_name r.1 (asked_columns t f) || list_any (is_matching t f r.0) all
+
+own_needed : (t : Ty) (f : Tree) (all : List Block) (n : ℕ) (names : List Bytes) → AllByRecursion (λ c. has_name c (asked_columns t f) ≡ true) names
+    → list_all (is_needed_in t f all) (reads_in n names) ≡ true
+own_needed t f all n [] h = refl
+own_needed t f all n (c ∷ names) h =
+    and_from (is_needed_in t f all (n, c)) (list_all (is_needed_in t f all) (reads_in n names))
+    (or_left (has_name c (asked_columns t f)) (list_any (is_matching t f n) all) h.0) (own_needed t f all n names h.1)
+
+further_needed : (t : Ty) (f : Tree) (all : List Block) (n : ℕ) (names : List Bytes) → list_any (is_matching t f n) all ≡ true
+    → list_all (is_needed_in t f all) (reads_in n names) ≡ true
+further_needed t f all n [] h = refl
+further_needed t f all n (c ∷ names) h =
+    and_from (is_needed_in t f all (n, c)) (list_all (is_needed_in t f all) (reads_in n names))
+    (or_right (has_name c (asked_columns t f)) (list_any (is_matching t f n) all) h) (further_needed t f all n names h)
+
+where_some : (t : Ty) (f : Tree) (all : List Block) (b : Block) (names : List Bytes) (some : Bool) → StandsIn all b
+    → has_rows (matching_rows t [] f b.1) ≡ some
+    → list_all (is_needed_in t f all) (cond some (reads_in b.0 names) []) ≡ true
+where_some t f all b names true stands h =
+    further_needed t f all b.0 names
+    (stands (is_matching t f b.0) (and_from (nat_eq b.0 b.0) (has_rows (matching_rows t [] f b.1)) (number_itself b.0) h))
+where_some t f all b names false stands h = refl
+
+blocks_needed : (t : Ty) (f p : Tree) (all bs : List Block) → AllByRecursion (StandsIn all) bs
+    → list_all (is_needed_in t f all) (flat_map (block_reads t [] f p) bs) ≡ true
+blocks_needed t f p all [] h = refl
+blocks_needed t f p all (b ∷ bs) h =
+    let test = is_needed_in t f all in
+    let own = reads_in b.0 (asked_columns t f) in
+    let further = cond (has_rows (matching_rows t [] f b.1)) (reads_in b.0 (further_columns t f p)) [] in
+    let rest = flat_map (block_reads t [] f p) bs in
+    list_all-append test (own ++ further) rest
+    ∙ and_from (list_all test (own ++ further)) (list_all test rest)
+    (list_all-append test own further
+    ∙ and_from (list_all test own) (list_all test further) (own_needed t f all b.0 (asked_columns t f) (all_here bytes_eq bytes_eq-itself (asked_columns t f)))
+    (where_some t f all b (further_columns t f p) (has_rows (matching_rows t [] f b.1)) h.0 refl))
+    (blocks_needed t f p all bs h.1)
+
+reads_needed : (a : RequestedScan) (f p : Tree) → list_all (is_needed_read a f) (scan_reads a f p) ≡ true
+reads_needed a f p =
+    let t = row_type a.zones.columns in
+    let all = numbered_from 0 (scan_table a).blocks in
+    let kept = all_passing (StandsIn all) (λ (b : Block). not (rules_out a.zones [] b.0 f)) all (stand_in all) in
+    ap (list_all (is_needed_read a f)) (reads_by_block (scan_table a) a.zones [] f p)
+    ∙ blocks_needed t f p all (kept_of (scan_table a) a.zones [] f) kept
 
 -- ---- the store of a run
 
@@ -102,6 +171,23 @@ pub asked_alone : KeptNumbersAreKeptBlocks → (form : Option Form) (i i' o o' :
     → IsRun form i i' o o' (Some store) status → HasAskedReads i i' store
 asked_alone kept form i i' o o' store status run = by run.outcome run.comes run.held
   where
+    store_of : (input : Bytes) (a : RequestedScan) (f p : Tree) → IsTaken i i' input → HoldsScan input a f p → store ≡ store_after a f p
+        → AreAmong store.log (scan_reads a f p) → HasAskedReads i i' store
+    store_of input a f p taken asks held among =
+        let all = among_trans store.log (scan_reads a f p) (asked_reads a.zones [] f p) among (reads_among kept input a f p asks.asked) in
+        record {
+          input = input;
+          asked = a;
+          filter = f;
+          projection = p;
+          taken = taken;
+          asks = asks;
+          held = held;
+          all_asked = reads_are_asked a.zones [] f p store.log all;
+          all_needed = among_pass (is_needed_read a f) store.log (scan_reads a f p) among (reads_needed a f p);
+          distinct = reads_are_distinct a.zones [] f p store.log (request_names input a asks.asked) all;
+        }
+
     by : (outcome : Outcome) → IsOutcome form i i' outcome → Some store ≡ used_by outcome → HasAskedReads i i' store
     by misused comes held = absurd (not_none held)
     by helped comes held = absurd (not_none held)
@@ -111,31 +197,17 @@ asked_alone kept form i i' o o' store status run = by run.outcome run.comes run.
     by (refused input e) comes held = absurd (not_none held)
     by (unscanned input e) comes held = absurd (not_none held)
     by (broken cause input a f p) comes held =
+        let whole : store_after a f p ≡ broken_store a f p =
+        ap (λ b. cond b (broken_store a f p) (scanned_store a f p)) (breaks_by_one cause a f p comes.1.1.1) in
         let log : store.log ≡ reads_to_break (scan_table a) a.zones [] f p = ap (λ s. s.log) (same_Some store (broken_store a f p) held) in
-        record {
-          input = input;
-          asked = a;
-          filter = f;
-          projection = p;
-          taken = comes.1.0;
-          asks = comes.1.1.0;
-          reads = inr log;
-          all_asked = subst (λ rs. list_all (is_asked_read a.zones [] f p) rs ≡ true) (sym log)
-              (reads_are_asked a.zones [] f p (reads_to_break (scan_table a) a.zones [] f p) (to_break kept input a f p comes.1.1.0.asked));
-        }
+        store_of input a f p comes.1.0 comes.1.1.0 (same_Some store (broken_store a f p) held ∙ sym whole)
+        (subst (λ rs. AreAmong rs (scan_reads a f p)) (sym log) (to_break_among (row_type a.zones.columns) [] (phases_of (scan_table a) a.zones [] f p)))
     by (answered input a f p) comes held =
+        let whole : store_after a f p ≡ scanned_store a f p =
+        ap (λ b. cond b (broken_store a f p) (scanned_store a f p)) comes.1.1.1 in
         let log : store.log ≡ scan_reads a f p = ap (λ s. s.log) (same_Some store (scanned_store a f p) held) in
-        record {
-          input = input;
-          asked = a;
-          filter = f;
-          projection = p;
-          taken = comes.1.0;
-          asks = comes.1.1.0;
-          reads = inl log;
-          all_asked = subst (λ rs. list_all (is_asked_read a.zones [] f p) rs ≡ true) (sym log)
-              (reads_are_asked a.zones [] f p (scan_reads a f p) (reads_among kept input a f p comes.1.1.0.asked));
-        }
+        store_of input a f p comes.1.0 comes.1.1.0 (same_Some store (scanned_store a f p) held ∙ sym whole)
+        (subst (λ rs. AreAmong rs (scan_reads a f p)) (sym log) (among_all (scan_reads a f p)))
     by (explained input a f p) comes held = absurd (not_none held)
     by undecoded comes held = absurd (not_none held)
     by (unshown e) comes held = absurd (not_none held)

@@ -9,6 +9,7 @@ use Rattle.vx_scan.specs.Texts.{SpellsTree}
 use Rattle.vx_scan.specs.declared.errors.ScanError.{ScanError}
 use Rattle.vx_scan.proofs.TextLemmas.{both_are_taken, one_text_refusal}
 use Rattle.vx_request.specs.Requests.{RequestedScan, request_of}
+use Rattle.vx_query.specs.Exclusions.{IsSameScan}
 use Rattle.vx_query.specs.WireLaws.{WireLaws}
 use Rattle.vx_query.specs.Running.{Spells, HoldsScan, HoldsRefused, IsScanRefused, type_of_scan}
 
@@ -89,11 +90,6 @@ held_unrefused laws input a f p e h k =
     not_refused laws a f p h.ty e h.spelled h.typed (subst (λ b. IsScanRefused b e) same k.refused)
 
 -- an input holds one scan
-pub record IsSameScan (a : RequestedScan) (f p : Tree) (b : RequestedScan) (g q : Tree) : Type 0 where
-  pub asked : a ≡ b
-  pub filter : f ≡ g
-  pub projection : p ≡ q
-
 pub one_scan : WireLaws → (input : Bytes) (a : RequestedScan) (f p : Tree) (b : RequestedScan) (g q : Tree) → HoldsScan input a f p
     → HoldsScan input b g q → IsSameScan a f p b g q
 one_scan laws input a f p b g q h k =

@@ -13,7 +13,7 @@ use Rattle.vx_request.specs.RequestMembers.{columns_in, blocks_in, stats_in}
 use Rattle.vx_request.specs.Objects.{object_of}
 use Rattle.vx_request.specs.Cells.{blocks_of}
 use Rattle.serde_json.specs.Find.{as_str}
-use Rattle.vx_request.specs.Requests.{◌>>=◌, RequestText, RequestedScan, request_of, ensured, most_bytes, value_in, json_in, at_place, text_of, text_in, member_names, hex_bytes, bytes_in, zones_by, sound_zones, block_columns, scan_with, scan_in, scan_of}
+use Rattle.vx_request.specs.Requests.{◌>>=◌, RequestText, RequestedScan, request_of, ensured, most_bytes, value_in, json_in, at_place, members_text, text_in, member_names, hex_bytes, bytes_in, zones_by, sound_zones, block_columns, scan_with, scan_in, scan_of}
 use Rattle.vx_request.specs.declared.errors.Place.{Place}
 use Rattle.vx_request.specs.declared.errors.Place.TheVariants.{Top, Columns, Blocks, Stats}
 use Rattle.vx_request.specs.declared.errors.Place.TheVariants as places
@@ -110,7 +110,7 @@ at_top e h = let same : BadRequest Top ≡ e = cc h in subst (λ g. is_place g �
 none_refused : {A : Type 0} (x : A) → ByPlace (Ok x)
 none_refused x e h = absurd (cc h)
 
-places_of : (ds : List Data) → ByPlace (text_of ds)
+places_of : (ds : List Data) → ByPlace (members_text ds)
 places_of [] = at_top
 places_of (a ∷ []) = at_top
 places_of (a ∷ b ∷ []) = at_top
@@ -128,7 +128,7 @@ places_of (columns ∷ blocks ∷ stats ∷ filter ∷ projection ∷ []) =
 -- a value that isn't of a request's form is refused by a place
 misformed : (input : Bytes) (d : Data) (e : RequestError) → IsTextOf input d → text_in d ≡ Err e → IsNoRequest e input
 unfolding is_place
-misformed input d e read h = by e (place_step (at_place Top (object_of member_names d)) text_of (at_its_place Top (object_of member_names d)) places_of e h) h
+misformed input d e read h = by e (place_step (at_place Top (object_of member_names d)) members_text (at_its_place Top (object_of member_names d)) places_of e h) h
   where
     by : (g : RequestError) → is_place g ≡ true → text_in d ≡ Err g → IsNoRequest g input
     by NoMemory named h = absurd (true≢false (sym named))

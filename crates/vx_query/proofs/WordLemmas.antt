@@ -22,17 +22,17 @@ use Rattle.vx_query.proofs.WordEnds.{WordEnd, cut_off, without_memory, no_digits
 -- ---- words
 
 -- a word spells one expression, and is refused for one reason; both never
-one_word : (word : Bytes) (e g : Tree) → WordSpells word e → WordSpells word g → e ≡ g
+pub one_word : (word : Bytes) (e g : Tree) → WordSpells word e → WordSpells word g → e ≡ g
 one_word word e g x y =
     let same : x.bytes ≡ y.bytes = same_Some _ _ (sym x.digits ∙ y.digits) in
     one_spelled is_default_kind y.bytes e g (subst (λ b. SpellsTree is_default_kind b e) same x.spelled) y.spelled
 
-one_word_refusal : (word : Bytes) (e g : ScanError) → WordIsRefused word e → WordIsRefused word g → e ≡ g
+pub one_word_refusal : (word : Bytes) (e g : ScanError) → WordIsRefused word e → WordIsRefused word g → e ≡ g
 one_word_refusal word e g x y =
     let same : x.bytes ≡ y.bytes = same_Some _ _ (sym x.digits ∙ y.digits) in
     one_refusal_of is_default_kind Text y.bytes e g (subst (λ b. IsTextRefused is_default_kind Text b e) same x.refused) y.refused
 
-unrefused_word : (word : Bytes) (e : Tree) (r : ScanError) → WordSpells word e → ¬ (WordIsRefused word r)
+pub unrefused_word : (word : Bytes) (e : Tree) (r : ScanError) → WordSpells word e → ¬ (WordIsRefused word r)
 unrefused_word word e r x y =
     let same : x.bytes ≡ y.bytes = same_Some _ _ (sym x.digits ∙ y.digits) in
     spelled_is_taken is_default_kind Text y.bytes e r (subst (λ b. SpellsTree is_default_kind b e) same x.spelled) y.refused

@@ -1,23 +1,28 @@
 -- What the exit status of a run tells: the report, the explanation or the shown text that 0 means, and the cause of each other one.
-use Rattle.std.specs.Prelude.{◌≡◌, ◌⊎◌, ℕ, ◌≤◌, [], map, length, codes, Bool, true, false, Option, Some, None, Err}
-use Rattle.std.specs.List.{list_all}
+use Rattle.std.specs.Prelude.{◌≡◌, ◌⊎◌, ℕ, ◌≤◌, nat_eq, [], map, length, codes, Bool, true, false, cond, ◌&&◌, ◌||◌, Option, Some, None, Err}
+use Rattle.std.specs.List.{list_any, list_all}
 use Rattle.vx_dtype.specs.Types.{Bytes}
 use Rattle.vx_expr.specs.Trees.{Tree}
 use Rattle.vx_semantics.specs.Breaks.{Cause}
-use Rattle.vx_semantics.specs.Scans.{rows_of, skipped_blocks, read_columns, reads_to_break}
+use Rattle.vx_dtype.specs.TypeRules.{has_name}
+use Rattle.vx_semantics.specs.Asked.{asked_columns}
+use Rattle.vx_semantics.specs.Tables.{row_type, numbered_from}
+use Rattle.vx_semantics.specs.Scans.{rows_of, skipped_blocks, read_columns, matching_rows, has_rows}
 use Rattle.vx_display.specs.ValueTexts.{value_text}
 use Rattle.vx_io.specs.Counts.{one_more}
 use Rattle.vx_io.specs.Ends.{Added, AddedPrefix}
-use Rattle.vx_scan.specs.ScanLaws.{is_asked_read}
-use Rattle.vx_scan.specs.Stores.{Seen}
+use Rattle.vx_scan.specs.ScanLaws.{is_asked_read, distinct_reads}
+use Rattle.vx_scan.specs.Stores.{Read, Seen}
 use Rattle.vx_scan.specs.declared.errors.ScanError.{ScanError}
-use Rattle.vx_request.specs.Requests.{RequestedScan, request_of}
+use Rattle.vx_request.specs.Requests.{RequestedScan, request_of, hex_bytes}
 use Rattle.vx_request.specs.declared.errors.RequestError.{RequestError}
 use Rattle.vx_query.specs.Reports.{report_text}
-use Rattle.vx_query.specs.Refusals.{request_refusal_name, scan_refusal_name, break_name, refusal_line}
+use Rattle.vx_query.specs.Refusals.{request_refusal_name, scan_refusal_name, text_refusal_name, break_name, refusal_line}
 use Rattle.vx_text.specs.Reading.{reading_of}
+use Rattle.vx_text.specs.declared.errors.TextError.{TextError}
 use Rattle.vx_text.specs.declared.errors.TextError.TheVariants.{TooLong}
 use Rattle.vx_explain.specs.Explanations.{explain_text}
+use Rattle.vx_query.specs.Running.{reads_request, IsPartTaken, IsCutShort, used_by, WordIsRefused}
 use Rattle.vx_query.specs.Running.{End, Form, IsTaken, HoldsScan, HoldsRefused, WordSpells, Names, IsShallow, IsOverlong, HasBytes, bytes_line, Outcome}
 use Rattle.vx_query.specs.Running.{IsOutcome, text_of, scan_form, scan_table, scan_reads, scan_report, scan_breaks, scan_breaks_by, scanned_store, broken_store}
 
@@ -69,8 +74,18 @@ pub record IsBroken (in_before in_after out_before out_after : End) (used : Opti
   pub written : Added out_before.bytes out_after.bytes (refusal_line (break_name cause))
   pub held : used ≡ Some (broken_store asked filter projection)
 
--- a store whose reads are those of the scan that the input holds, or those up to the end of its first phase that breaks; each of them is of a kept block
--- and of a column that the filter or the projection asks
+-- the store after a scan: with the reads up to the end of its first phase that breaks where one does, with all where none does
+abbrev pub store_after : RequestedScan → Tree → Tree → Seen
+store_after a f p = cond (scan_breaks a f p) (broken_store a f p) (scanned_store a f p)
+
+-- whether a read is of a column that the filter asks, or of a block at some row of which the filter means true
+abbrev pub is_needed_read : RequestedScan → Tree → Read → Bool
+is_needed_read a f r =
+    has_name r.1 (asked_columns (row_type a.zones.columns) f)
+    || list_any (λ b. nat_eq r.0 b.0 && has_rows (matching_rows (row_type a.zones.columns) [] f b.1)) (numbered_from 0 (scan_table a).blocks)
+
+-- a store that was scanned as the input asks. Each of its reads is of a kept block and of a column that the filter or the projection asks, for the
+-- projection alone only where the filter means true at some row of the block; and none stands twice
 pub record HasAskedReads (in_before in_after : End) (store : Seen) : Type 0 where
   pub input : Bytes
   pub asked : RequestedScan
@@ -78,8 +93,10 @@ pub record HasAskedReads (in_before in_after : End) (store : Seen) : Type 0 wher
   pub projection : Tree
   pub taken : IsTaken in_before in_after input
   pub asks : HoldsScan input asked filter projection
-  pub reads : (store.log ≡ scan_reads asked filter projection) ⊎ (store.log ≡ reads_to_break (scan_table asked) asked.zones [] filter projection)
+  pub held : store ≡ store_after asked filter projection
   pub all_asked : list_all (is_asked_read asked.zones [] filter projection) store.log ≡ true
+  pub all_needed : list_all (is_needed_read asked filter) store.log ≡ true
+  pub distinct : distinct_reads store.log ≡ true
 
 -- an explanation was written whole: of the scan that the input holds; no store is held
 pub record IsExplained (in_before in_after out_before out_after : End) (used : Option Seen) : Type 0 where
@@ -138,12 +155,65 @@ pub record HasBroken (cause : Cause) (form : Option Form) (in_before in_after : 
   pub asks : HoldsScan input asked filter projection
   pub breaks : scan_breaks_by cause asked filter projection ≡ true
 
--- the sink counted a fault, and the first bytes were written of the text in which the run was to end
-pub record IsCut (form : Option Form) (in_before in_after out_before out_after : End) : Type 0 where
+-- the sink counted a fault, and the first bytes were written of the text in which the run was to end; what was taken, and the store that is held, are
+-- those of that end
+pub record IsCut (form : Option Form) (in_before in_after out_before out_after : End) (used : Option Seen) : Type 0 where
   pub outcome : Outcome
   pub comes : IsOutcome form in_before in_after outcome
   pub risen : HasRisen out_before out_after
   pub written : AddedPrefix out_before.bytes out_after.bytes (text_of outcome)
+  pub held : used ≡ used_by outcome
+
+-- arguments that read a request couldn't read it: a first part of the input was taken, the source counted a fault, and its line was written whole; no
+-- store is held
+pub record IsUnread (form : Option Form) (in_before in_after out_before out_after : End) (used : Option Seen) : Type 0 where
+  pub reads : reads_request form ≡ true
+  pub part : IsPartTaken in_before in_after
+  pub risen : HasRisen in_before in_after
+  pub written : Added out_before.bytes out_after.bytes (refusal_line (codes "ReadFault"))
+  pub unheld : used ≡ None
+
+-- there was no memory: its line was written whole; no store is held
+pub record IsWithoutMemory (form : Option Form) (in_before in_after out_before out_after : End) (used : Option Seen) : Type 0 where
+  pub part : IsCutShort form in_before in_after
+  pub written : Added out_before.bytes out_after.bytes (refusal_line (codes "NoMemory"))
+  pub unheld : used ≡ None
+
+-- a text was written whole, whatever the input, of which nothing was taken; no store is held
+pub record IsTold (text : Bytes) (in_before in_after out_before out_after : End) (used : Option Seen) (status : ℕ) : Type 0 where
+  pub ends : status ≡ 0
+  pub written : Added out_before.bytes out_after.bytes text
+  pub untaken : in_after ≡ in_before
+  pub unheld : used ≡ None
+
+-- the line of a word that is no hexadecimal text was written whole; nothing was taken, and no store is held
+pub record IsUndigited (word : Bytes) (in_before in_after out_before out_after : End) (used : Option Seen) : Type 0 where
+  pub cause : hex_bytes word ≡ None
+  pub written : Added out_before.bytes out_after.bytes (refusal_line (codes "BadHex text"))
+  pub untaken : in_after ≡ in_before
+  pub unheld : used ≡ None
+
+-- that of a word whose bytes spell no expression, for a reason
+pub record IsUnshown (word : Bytes) (in_before in_after out_before out_after : End) (used : Option Seen) : Type 0 where
+  pub refusal : ScanError
+  pub cause : WordIsRefused word refusal
+  pub written : Added out_before.bytes out_after.bytes (refusal_line (scan_refusal_name refusal))
+  pub untaken : in_after ≡ in_before
+  pub unheld : used ≡ None
+
+-- a query has no bytes, for the reason of this name: its reading is refused, or a type in the expression that it names is too deep, or a part too long
+abbrev pub HasNoBytes : Bytes → Bytes → Type 0
+HasNoBytes query name =
+    ((e : TextError) × (reading_of query ≡ Err e) × (name ≡ text_refusal_name e))
+    ⊎ ((HasDeepType query × (name ≡ codes "NotSerializable")) ⊎ (HasLongPart query × (name ≡ codes "TooLong")))
+
+-- the line of a query that has none was written whole
+pub record IsUnnamed (query : Bytes) (in_before in_after out_before out_after : End) (used : Option Seen) : Type 0 where
+  pub name : Bytes
+  pub cause : HasNoBytes query name
+  pub written : Added out_before.bytes out_after.bytes (refusal_line name)
+  pub untaken : in_after ≡ in_before
+  pub unheld : used ≡ None
 
 -- an end that tells its bytes, which hold the scan of this filter and projection
 pub record TellsScan (before : End) : Type 0 where

@@ -10,4 +10,5 @@ pub mod Causes
 pub mod RequestCauses
 pub mod ExpressionCauses
 pub mod Exactly
+pub mod Exclusions
 pub mod WireLaws

@@ -1,5 +1,5 @@
 // What the exit status of a run tells.
-ghost use Rattle.std.specs.Prelude.{◌≡◌, ℕ, true, false, Option, Some};
+ghost use Rattle.std.specs.Prelude.{◌≡◌, ℕ, ◌<◌, ◌-◌, ◌^◌, true, false, Option, Some};
 ghost use Rattle.vx_dtype.specs.Types.{Bytes};
 ghost use Rattle.vx_expr.specs.Trees.{Tree};
 ghost use Rattle.vx_semantics.specs.Breaks.{Cause};
@@ -7,7 +7,8 @@ ghost use Rattle.vx_semantics.specs.Honest.{IsHonest};
 ghost use Rattle.vx_io.specs.Ends.{Added};
 ghost use Rattle.vx_scan.specs.Stores.{Seen};
 ghost use Rattle.vx_explain.specs.Explanations.{explain_text};
-ghost use Rattle.vx_query.specs.Causes.{HasRisen, IsReported, IsRefused, IsUnscanned, IsBroken, HasBroken, HasAskedReads, IsCut, TellsScan};
+ghost use Rattle.vx_query.specs.Causes.{HasRisen, IsReported, IsRefused, IsUnscanned, IsBroken, HasBroken, HasAskedReads, IsCut, IsUnread, IsWithoutMemory};
+ghost use Rattle.vx_query.specs.Causes.{TellsScan};
 ghost use Rattle.vx_query.specs.Causes.{told_breaks, told_breaks_by, whole_report};
 ghost use Rattle.vx_query.specs.Exactly.{Tells, RunsWell, EndsWith};
 ghost use Rattle.vx_query.specs.Refusals.{refusal_line, break_name};
@@ -44,14 +45,24 @@ pub fn breaks_exactly()
     wire_laws();
 }
 
-/// 6 comes only where the source counted a fault.
+/// 6 comes only of arguments that read a request, where the source counted a fault: a first part of the input was taken, the
+/// line of ReadFault was written whole, and no store is held. And where the source counted one, and the sink none, a run ends
+/// so, as long as the count isn't at its last value.
 pub fn read_faults_are_counted()
-    ensures { (form : Option Form) (i i' o o' : End) (used : Option Seen) → IsRun form i i' o o' used 6 → HasRisen i i' }
+    ensures only { (form : Option Form) (i i' o o' : End) (used : Option Seen) → IsRun form i i' o o' used 6 → IsUnread form i i' o o' used }
+    ensures always { (form : Option Form) (i i' o o' : End) (used : Option Seen) (status : ℕ) → i.faults < 2 ^ 64 - 1 → HasRisen i i'
+        → ¬ (HasRisen o o') → IsRun form i i' o o' used status → status ≡ 6 }
 {}
 
-/// 7 comes only where the sink counted a fault; what was written then is a first part of the text in which the run was to end.
+/// 7 comes only where the sink counted a fault; what was written then is a first part of the text in which the run was to end,
+/// and what was taken and which store is held are as that end says.
 pub fn write_faults_are_counted()
-    ensures { (form : Option Form) (i i' o o' : End) (used : Option Seen) → IsRun form i i' o o' used 7 → IsCut form i i' o o' }
+    ensures { (form : Option Form) (i i' o o' : End) (used : Option Seen) → IsRun form i i' o o' used 7 → IsCut form i i' o o' used }
+{}
+
+/// 8 comes only with the line of NoMemory written whole: no read of the input failed, and no store is held.
+pub fn want_of_memory_is_told()
+    ensures { (form : Option Form) (i i' o o' : End) (used : Option Seen) → IsRun form i i' o o' used 8 → IsWithoutMemory form i i' o o' used }
 {}
 
 /// 0 of the argument `scan` means that the input was taken, that it is a request whose two byte texts spell expressions that
@@ -61,9 +72,9 @@ pub fn reports_are_typed()
     ensures { (i i' o o' : End) (used : Option Seen) → IsRun (Some scan_form) i i' o o' used 0 → IsReported i i' o o' used }
 {}
 
-/// The store that is held afterwards has just the reads of the scan that the input holds, or those up to the end of its first
-/// phase that breaks: each is of a block that the statistics don't rule out, and of a column that the filter or the projection
-/// asks.
+/// The store that is held afterwards has just the reads of the scan that the input holds, up to the end of its first phase that
+/// breaks where one does: each is of a block that the statistics don't rule out, and of a column that the filter asks or, where
+/// this means true at some row of the block, the projection; and none stands twice.
 pub fn reads_are_asked()
     ensures { (form : Option Form) (i i' o o' : End) (store : Seen) (status : ℕ) → IsRun form i i' o o' (Some store) status
         → HasAskedReads i i' store }

@@ -4,8 +4,9 @@ ghost use Rattle.vx_dtype.specs.Types.{Bytes};
 ghost use Rattle.vx_io.specs.Ends.{Added};
 ghost use Rattle.vx_scan.specs.Stores.{Seen};
 ghost use Rattle.vx_explain.specs.Explanations.{explain_text};
-ghost use Rattle.vx_query.specs.Causes.{HasRisen, IsExplained, IsShown, IsMisuse, TellsScan};
-ghost use Rattle.vx_query.specs.Running.{End, Form, IsRun, Showing, reads_request, scan_form, explain_form, show_form, shown_text};
+ghost use Rattle.vx_query.specs.Causes.{HasRisen, IsExplained, IsShown, IsMisuse, IsTold, IsUndigited, IsUnshown, IsUnnamed, TellsScan};
+ghost use Rattle.vx_query.specs.Running.{End, Form, IsRun, Showing, reads_request, shown_word, scan_form, explain_form, show_form, text_form, shown_text};
+ghost use Rattle.vx_query.specs.Running.{help_form, version_form, help_text, version_text};
 
 use crate::causes::wire_laws;
 
@@ -42,4 +43,26 @@ pub fn explanations_are_of_the_request()
 pub fn shown_texts_are_spelled()
     ensures { (showing : Showing) (word : Bytes) (i i' o o' : End) (used : Option Seen) → IsRun (Some (show_form showing word)) i i' o o' used 0
         → IsShown (shown_text showing) word i i' o o' used }
+{}
+
+/// Where the argument is `--help`, a run takes nothing, and ends with 0 and the text of help where the sink counts no fault; and
+/// where it is `--version`, with the version.
+pub fn help_and_version_are_told()
+    ensures help { (i i' o o' : End) (used : Option Seen) (status : ℕ) → IsRun (Some help_form) i i' o o' used status → ¬ (HasRisen o o')
+        → IsTold help_text i i' o o' used status }
+    ensures version { (i i' o o' : End) (used : Option Seen) (status : ℕ) → IsRun (Some version_form) i i' o o' used status → ¬ (HasRisen o o')
+        → IsTold version_text i i' o o' used status }
+{}
+
+/// 3 of the argument `show` means that the word is no hexadecimal text, 4 that its bytes spell no expression, and 4 of `text`
+/// that the query has no bytes; the line of the cause was written whole, nothing was taken, and no store is held. `text` doesn't
+/// end with 3. Which refusal a line tells is said by the laws of `refusal_causes` and `query_causes`.
+pub fn refused_words_have_their_causes()
+    ensures no_digits { (form : Option Form) (word : Bytes) (i i' o o' : End) (used : Option Seen) → shown_word form ≡ Some word
+        → IsRun form i i' o o' used 3 → IsUndigited word i i' o o' used }
+    ensures no_expression { (form : Option Form) (word : Bytes) (i i' o o' : End) (used : Option Seen) → shown_word form ≡ Some word
+        → IsRun form i i' o o' used 4 → IsUnshown word i i' o o' used }
+    ensures no_bytes { (query : Bytes) (i i' o o' : End) (used : Option Seen) → IsRun (Some (text_form query)) i i' o o' used 4
+        → IsUnnamed query i i' o o' used }
+    ensures no_third { (query : Bytes) (i i' o o' : End) (used : Option Seen) → ¬ (IsRun (Some (text_form query)) i i' o o' used 3) }
 {}

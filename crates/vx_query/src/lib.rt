@@ -5,6 +5,7 @@ mod answers;
 mod block_agreement;
 mod causes;
 mod endings;
+mod exclusions;
 mod form_causes;
 mod forms;
 mod queries;
@@ -20,11 +21,12 @@ pub use block_agreement::requested_blocks_agree;
 pub use causes::{
     answers_are_complete, breaks_exactly, honest_reports_are_whole, read_faults_are_counted,
     reads_are_asked, reports_are_of_the_request, reports_are_typed, statuses_have_their_causes,
-    write_faults_are_counted,
+    want_of_memory_is_told, write_faults_are_counted,
 };
+pub use exclusions::causes_exclude_one_another;
 pub use form_causes::{
-    explanations_are_of_the_request, scans_alone_break_and_hold, shown_texts_are_spelled,
-    usage_exactly,
+    explanations_are_of_the_request, help_and_version_are_told, refused_words_have_their_causes,
+    scans_alone_break_and_hold, shown_texts_are_spelled, usage_exactly,
 };
 pub use query_causes::{text_is_named_exactly, texts_say_why};
 pub use refusal_causes::{

@@ -55,7 +55,7 @@ abbrev pub scan_view : ScanRequest → RequestedScan
 scan_view a = record { zones = a.zones; blocks = map columns_view a.blocks.items; filter = a.filter.items; projection = a.projection.items }
 
 -- the answer is the one that is told, seen so; want of memory may be answered at any time
-abbrev pub Answers : {A B : Type 0} → (A → B) → Result B RequestError → Result A RequestError → Type 0
-Answers see told (Ok x) = told ≡ Ok (see x)
-Answers see told (Err NoMemory) = Unit {0}
-Answers see told (Err e) = told ≡ Err e
+abbrev pub RequestAnswers : {A B : Type 0} → (A → B) → Result B RequestError → Result A RequestError → Type 0
+RequestAnswers see told (Ok x) = told ≡ Ok (see x)
+RequestAnswers see told (Err NoMemory) = Unit {0}
+RequestAnswers see told (Err e) = told ≡ Err e

@@ -71,15 +71,15 @@ abbrev pub at_place : {A : Type 0} → Place → Option A → Result A RequestEr
 at_place p found = ok_or found (BadRequest p)
 
 -- a request's five members, read one after another
-abbrev pub text_of : List Data → Result RequestText RequestError
-text_of (columns ∷ blocks ∷ stats ∷ filter ∷ projection ∷ []) = do
+abbrev pub members_text : List Data → Result RequestText RequestError
+members_text (columns ∷ blocks ∷ stats ∷ filter ∷ projection ∷ []) = do
   cs ← at_place Columns (columns_in columns)
   bs ← at_place Blocks (blocks_in blocks)
   ss ← at_place Stats (stats_in stats)
   f ← at_place places.Filter (as_str filter)
   p ← at_place places.Projection (as_str projection)
   Ok (record { columns = cs; blocks = bs; stats = ss; filter = f; projection = p })
-text_of _ = Err (BadRequest Top)
+members_text _ = Err (BadRequest Top)
 
 abbrev pub member_names : List Bytes
 member_names = codes "columns" ∷ codes "blocks" ∷ codes "stats" ∷ codes "filter" ∷ codes "projection" ∷ []
@@ -88,7 +88,7 @@ member_names = codes "columns" ∷ codes "blocks" ∷ codes "stats" ∷ codes "f
 abbrev pub text_in : Data → Result RequestText RequestError
 text_in d = do
   members ← at_place Top (object_of member_names d)
-  text_of members
+  members_text members
 
 -- the bytes that hexadecimal digits stand for, two digits a byte
 abbrev pub hex_bytes : Bytes → Option Bytes

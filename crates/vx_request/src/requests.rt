@@ -1,10 +1,10 @@
 // What a request holds: a scan.
 ghost use Rattle.std.specs.Prelude.{◌≡◌, ◌∷◌, [], ◌^◌, ◌<◌, codes, length, map, option_map, IfOk};
 ghost use Rattle.serde_json.specs.View.{view};
-ghost use Rattle.vx_zones.specs.ZoneAnswers.{Answers as ZonesAnswer};
+ghost use Rattle.vx_zones.specs.ZoneAnswers.{MakesZones};
 ghost use Rattle.vx_request.specs.Objects.{object_of};
 ghost use Rattle.vx_request.specs.Requests.{value_in, member_names, hex_bytes, zones_of, sound_zones, scan_with, scan_in, scan_of, request_of};
-ghost use Rattle.vx_request.specs.RequestViews.{block_view, stat_view, scan_view, Answers};
+ghost use Rattle.vx_request.specs.RequestViews.{block_view, stat_view, scan_view, RequestAnswers};
 
 use crate::columns::{are_rectangles, blocks_of};
 use crate::errors::{Place, RequestError, Side, TableRefusal};
@@ -109,7 +109,7 @@ fn sound_zones(
     stats: &[Statistic<'_>],
 ) -> Result<ZoneMap, ZoneError>
     requires { length blocks.now < 2 ^ 32 }
-    ensures { ZonesAnswer (zones_of columns (map block_view blocks.now) (map stat_view stats.now)) result }
+    ensures { MakesZones (zones_of columns (map block_view blocks.now) (map stat_view stats.now)) result }
 {
     let stats = stats_of(alloc, &columns, stats)?;
     let lengths = lengths_of(alloc, blocks)?;
@@ -125,7 +125,7 @@ fn scan_with(
     filter: Vec<u8>,
     projection: Vec<u8>,
 ) -> Result<ScanRequest, RequestError>
-    ensures { Answers scan_view (scan_with zones columns.now (map block_view blocks.now) filter.items projection.items) result }
+    ensures { RequestAnswers scan_view (scan_with zones columns.now (map block_view blocks.now) filter.items projection.items) result }
 {
     if !are_rectangles(columns.nfields(), blocks) {
         return Err(RequestError::BadTable(TableRefusal::WrongLength));
@@ -152,7 +152,7 @@ fn scan_in(
     projection: &str,
 ) -> Result<ScanRequest, RequestError>
     requires { length blocks.now < 2 ^ 32 }
-    ensures { Answers scan_view (scan_in (record {
+    ensures { RequestAnswers scan_view (scan_in (record {
       columns = columns;
       blocks = map block_view blocks.now;
       stats = map stat_view stats.now;
@@ -174,7 +174,7 @@ fn scan_in(
 
 /// The scan that a value holds: its places are read one after another, each whole before the next.
 fn scan_of(alloc: Global, value: &Value) -> Result<ScanRequest, RequestError>
-    ensures { Answers scan_view (scan_of (view value.now)) result }
+    ensures { RequestAnswers scan_view (scan_of (view value.now)) result }
 {
     let Some(members) = request_members(value) else {
         return Err(RequestError::BadRequest(Place::Top));
@@ -202,7 +202,7 @@ fn scan_of(alloc: Global, value: &Value) -> Result<ScanRequest, RequestError>
 /// parts. A member given twice counts once, with its last value.
 #[tactic(auto, unfolding(crate::specs::Requests::request_of))]
 pub fn decode_request(alloc: Global, input: &[u8]) -> Result<ScanRequest, RequestError>
-    ensures { Answers scan_view (request_of input.now) result }
+    ensures { RequestAnswers scan_view (request_of input.now) result }
 {
     if input.len() > MOST_BYTES {
         return Err(RequestError::InputTooLong);

@@ -20,7 +20,7 @@ use Rattle.vx_scan.specs.Runs.{block_asked}
 use Rattle.vx_scan.specs.ScanLaws.{is_asked_read, same_read, distinct_reads, ReadsAreAsked, ReadsAreDistinct}
 
 -- what holds of each of some items
-all_so : {X : Type 0} (P Q : X → Type 0) → ((x : X) → P x → Q x) → (xs : List X) → AllByRecursion P xs → AllByRecursion Q xs
+pub all_so : {X : Type 0} (P Q : X → Type 0) → ((x : X) → P x → Q x) → (xs : List X) → AllByRecursion P xs → AllByRecursion Q xs
 all_so P Q e [] h = tt
 all_so P Q e (x ∷ xs) h = (e x h.0, all_so P Q e xs h.1)
 
@@ -28,7 +28,7 @@ all_joined : {X : Type 0} (P : X → Type 0) (xs ys : List X) → AllByRecursion
 all_joined P [] ys h k = k
 all_joined P (x ∷ xs) ys h k = (h.0, all_joined P xs ys h.1 k)
 
-all_passing : {X : Type 0} (P : X → Type 0) (test : X → Bool) (xs : List X) → AllByRecursion P xs → AllByRecursion P (filter test xs)
+pub all_passing : {X : Type 0} (P : X → Type 0) (test : X → Bool) (xs : List X) → AllByRecursion P xs → AllByRecursion P (filter test xs)
 all_passing P test [] h = tt
 all_passing {X} P test (x ∷ xs) h = by-test (test x) h.0 (all_passing P test xs h.1)
   where
@@ -37,7 +37,7 @@ all_passing {X} P test (x ∷ xs) h = by-test (test x) h.0 (all_passing P test x
     by-test false k r = r
 
 -- each item is one of them, by a test that tells it from itself
-all_here : {X : Type 0} (same : X → X → Bool) → ((x : X) → same x x ≡ true) → (xs : List X) → AllByRecursion (λ x. list_any (same x) xs ≡ true) xs
+pub all_here : {X : Type 0} (same : X → X → Bool) → ((x : X) → same x x ≡ true) → (xs : List X) → AllByRecursion (λ x. list_any (same x) xs ≡ true) xs
 all_here same itself [] = tt
 all_here {X} same itself (x ∷ xs) = (
   or_left (same x x) (list_any (same x) xs) (itself x),
@@ -46,7 +46,7 @@ all_here {X} same itself (x ∷ xs) = (
 )
 
 -- what a test says of all reads it says of some of them
-among_pass : (test : Read → Bool) (made all : List Read) → AreAmong made all → list_all test all ≡ true → list_all test made ≡ true
+pub among_pass : (test : Read → Bool) (made all : List Read) → AreAmong made all → list_all test all ≡ true → list_all test made ≡ true
 among_pass test [] all h k = refl
 among_pass test (r ∷ made) [] h k = absurd h
 among_pass test (r ∷ made) (s ∷ all) (inl h) k =
@@ -108,7 +108,7 @@ blocks_pass zones slots f p (b ∷ blocks) h =
     list_all-append test (block_asked zones f p b) rest
     ∙ and_from (list_all test (block_asked zones f p b)) (list_all test rest) (block_passes zones slots f p b h.0) (blocks_pass zones slots f p blocks h.1)
 
-number_itself : (n : ℕ) → nat_eq n n ≡ true
+pub number_itself : (n : ℕ) → nat_eq n n ≡ true
 number_itself n = eq-eqb n n refl
 
 pub reads_are_asked : ReadsAreAsked

@@ -127,21 +127,55 @@ pub record IsCutOff (slots : Slots) (filter_expr projection : Tree) (before afte
       (λ table made. (left : List Read) × (reads_to_break table before.zones slots filter_expr projection ≡ made ++ left))
   pub unfailed : after.failed ≡ before.failed
 
--- how the scan of two expressions ends
+-- the expressions are refused before the first block, by this answer of their typing: nothing was read
+abbrev pub AreIllTyped : Slots → Tree → Tree → Seen → Seen → ScanError → Type 0
+AreIllTyped slots filter_expr projection before after e =
+    (after ≡ before) × (scan_type (row_type before.zones.columns) slots filter_expr projection ≡ Err e)
+
+-- how the scan of two expressions ends; typing gives none of the six refusals of texts, so that none of these comes
 abbrev pub IsScanOf : Slots → Tree → Tree → Seen → Seen → Result ScanReport ScanError → Type 0
 IsScanOf slots filter_expr projection before after (Ok report) = IsReport slots filter_expr projection before after (report_view report)
 IsScanOf slots filter_expr projection before after (Err errors.Overflow) = IsBroken by_sum slots filter_expr projection before after
 IsScanOf slots filter_expr projection before after (Err errors.BadCast) = IsBroken by_cast slots filter_expr projection before after
 IsScanOf slots filter_expr projection before after (Err errors.StoreFault) = IsStoreFault slots filter_expr projection before after
 IsScanOf slots filter_expr projection before after (Err errors.NoMemory) = (after ≡ before) ⊎ IsCutOff slots filter_expr projection before after
-IsScanOf slots filter_expr projection before after (Err e) =
-    (after ≡ before) × (scan_type (row_type before.zones.columns) slots filter_expr projection ≡ Err e)
+IsScanOf slots filter_expr projection before after (Err (errors.NotStruct side)) = AreIllTyped slots filter_expr projection before after (errors.NotStruct side)
+IsScanOf slots filter_expr projection before after (Err (errors.NullableSelect side)) = AreIllTyped slots filter_expr projection before after (errors.NullableSelect side)
+IsScanOf slots filter_expr projection before after (Err (errors.UnknownField side)) = AreIllTyped slots filter_expr projection before after (errors.UnknownField side)
+IsScanOf slots filter_expr projection before after (Err (errors.DuplicateField side)) = AreIllTyped slots filter_expr projection before after (errors.DuplicateField side)
+IsScanOf slots filter_expr projection before after (Err (errors.TypeMismatch side)) = AreIllTyped slots filter_expr projection before after (errors.TypeMismatch side)
+IsScanOf slots filter_expr projection before after (Err errors.FilterNotBool) = AreIllTyped slots filter_expr projection before after errors.FilterNotBool
+IsScanOf slots filter_expr projection before after (Err (errors.BadWire side)) = AreIllTyped slots filter_expr projection before after (errors.BadWire side)
+IsScanOf slots filter_expr projection before after (Err (errors.TooDeep side)) = AreIllTyped slots filter_expr projection before after (errors.TooDeep side)
+IsScanOf slots filter_expr projection before after (Err (errors.TooManyNodes side)) = AreIllTyped slots filter_expr projection before after (errors.TooManyNodes side)
+IsScanOf slots filter_expr projection before after (Err (errors.UnknownExpr side)) = AreIllTyped slots filter_expr projection before after (errors.UnknownExpr side)
+IsScanOf slots filter_expr projection before after (Err (errors.BadMetadata side)) = AreIllTyped slots filter_expr projection before after (errors.BadMetadata side)
+IsScanOf slots filter_expr projection before after (Err (errors.WrongChildren side)) = AreIllTyped slots filter_expr projection before after (errors.WrongChildren side)
 
--- two texts that were refused, or of which it wasn't known for want of memory: nothing was read
+-- two texts are refused so: nothing was read
+abbrev pub AreUntaken : (ExprEncoding → Bool) → Bytes → Bytes → Seen → Seen → ScanError → Type 0
+AreUntaken holds filter_text projection_text before after e = (after ≡ before) × AreRefused holds filter_text projection_text e
+
+-- two texts that were refused, or of which it wasn't known for want of memory: nothing was read; texts are refused by six errors alone, so that none of the
+-- others comes
 abbrev pub IsUnspelled : (ExprEncoding → Bool) → Bytes → Bytes → Seen → Seen → Result ScanReport ScanError → Type 0
 IsUnspelled holds filter_text projection_text before after (Ok report) = ⊥
 IsUnspelled holds filter_text projection_text before after (Err errors.NoMemory) = after ≡ before
-IsUnspelled holds filter_text projection_text before after (Err e) = (after ≡ before) × AreRefused holds filter_text projection_text e
+IsUnspelled holds filter_text projection_text before after (Err (errors.BadWire side)) = AreUntaken holds filter_text projection_text before after (errors.BadWire side)
+IsUnspelled holds filter_text projection_text before after (Err (errors.TooDeep side)) = AreUntaken holds filter_text projection_text before after (errors.TooDeep side)
+IsUnspelled holds filter_text projection_text before after (Err (errors.TooManyNodes side)) = AreUntaken holds filter_text projection_text before after (errors.TooManyNodes side)
+IsUnspelled holds filter_text projection_text before after (Err (errors.UnknownExpr side)) = AreUntaken holds filter_text projection_text before after (errors.UnknownExpr side)
+IsUnspelled holds filter_text projection_text before after (Err (errors.BadMetadata side)) = AreUntaken holds filter_text projection_text before after (errors.BadMetadata side)
+IsUnspelled holds filter_text projection_text before after (Err (errors.WrongChildren side)) = AreUntaken holds filter_text projection_text before after (errors.WrongChildren side)
+IsUnspelled holds filter_text projection_text before after (Err (errors.NotStruct side)) = AreUntaken holds filter_text projection_text before after (errors.NotStruct side)
+IsUnspelled holds filter_text projection_text before after (Err (errors.NullableSelect side)) = AreUntaken holds filter_text projection_text before after (errors.NullableSelect side)
+IsUnspelled holds filter_text projection_text before after (Err (errors.UnknownField side)) = AreUntaken holds filter_text projection_text before after (errors.UnknownField side)
+IsUnspelled holds filter_text projection_text before after (Err (errors.DuplicateField side)) = AreUntaken holds filter_text projection_text before after (errors.DuplicateField side)
+IsUnspelled holds filter_text projection_text before after (Err (errors.TypeMismatch side)) = AreUntaken holds filter_text projection_text before after (errors.TypeMismatch side)
+IsUnspelled holds filter_text projection_text before after (Err errors.FilterNotBool) = AreUntaken holds filter_text projection_text before after errors.FilterNotBool
+IsUnspelled holds filter_text projection_text before after (Err errors.Overflow) = AreUntaken holds filter_text projection_text before after errors.Overflow
+IsUnspelled holds filter_text projection_text before after (Err errors.BadCast) = AreUntaken holds filter_text projection_text before after errors.BadCast
+IsUnspelled holds filter_text projection_text before after (Err errors.StoreFault) = AreUntaken holds filter_text projection_text before after errors.StoreFault
 
 -- how the scan of two byte texts ends: they are refused, or it ends as that of the expressions that they spell, without slots
 abbrev pub IsScan : (ExprEncoding → Bool) → Bytes → Bytes → Seen → Seen → Result ScanReport ScanError → Type 0

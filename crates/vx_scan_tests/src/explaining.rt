@@ -1,8 +1,9 @@
 //! Queries that name the expressions which bytes spell.
 use std::alloc::Global;
-use vx_explain::show_query;
+use vx_explain::{show_query, show_tree};
+use vx_expr::Expr;
 use vx_request::hex_bytes;
-use vx_scan::{ScanError, Side};
+use vx_scan::{ScanError, Side, decode_expr};
 use vx_wire::{ExprRegistry, ExprRegistryExt};
 
 /// The query of the expression that the bytes of hexadecimal digits spell, or why there is none.
@@ -41,11 +42,29 @@ const QUERIES: [(&str, &str); 2] = [
     ),
 ];
 
+/// The row's bytes.
+const ROW: [u8; 7] = [4, b'r', b'o', b'o', b't', 0, 0];
+
+/// The tree text of the row, from its bytes.
+fn row_tree(alloc: Global) -> Result<String, ScanError> {
+    show_tree(alloc, &ExprRegistry::default(), &ROW)
+}
+
+/// Whether the row's bytes spell the row.
+fn row_is_decoded(alloc: Global) -> bool {
+    match decode_expr(alloc, &ExprRegistry::default(), &ROW, Side::Filter) {
+        Ok(expr) => matches!(expr.expr(), Expr::Root(_)),
+        Err(_) => false,
+    }
+}
+
 #[test]
 fn ample(rt: HostRuntime) {
     for (hex, text) in QUERIES {
         assert!(rt; is_written(shown(rt.alloc(), hex), text));
     }
+    assert!(rt; is_written(row_tree(rt.alloc()), "Root\n"));
+    assert!(rt; row_is_decoded(rt.alloc()));
 }
 
 /// Bytes of no expression, and why.

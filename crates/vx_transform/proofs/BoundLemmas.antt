@@ -1,7 +1,7 @@
 -- Two conjuncts make a range exactly where both are bounds of one field access, one from below and one from above.
 use Rattle.std.proofs.Common.{◌≡◌, refl, ap, sym, ◌∙◌, Bool, true, false, cond, not, ◌&&◌, ◌||◌, Option, Some, None}
 use Rattle.std.specs.Prelude.{is_some}
-use Rattle.std.specs.Option.{option_and_then}
+use Rattle.std.specs.Option.{option_and_then, option_or}
 use Rattle.std.proofs.lemmas.Bool.{and_parts}
 use Rattle.vx_dtype.specs.declared.StrictComparison.{StrictComparison}
 use Rattle.vx_expr.specs.declared.Operator.{Operator}
@@ -9,7 +9,7 @@ use Rattle.vx_expr.specs.Children.{is_get_item, literal_of}
 use Rattle.vx_expr.specs.Equal.{tree_eq}
 use Rattle.vx_expr.specs.EqualLaws.{tree_eq-same}
 use Rattle.vx_expr.specs.Trees.{Tree, get_item, binary, between}
-use Rattle.vx_passes.specs.Ranges.{Reading, from_left, from_right, share_access, bound_below, bound_above, range_where, range_between, or_else, range_of_readings, range_of_four, range_of}
+use Rattle.vx_passes.specs.Ranges.{Reading, from_left, from_right, share_access, bound_below, bound_above, range_where, range_between, range_of_readings, range_of_four, range_of}
 use Rattle.vx_transform.specs.Pairs.{is_bound, as_bound, bound_of, range_of_bounds, range_of_both, is_from_below, bounds_by, bounds_below, bounds_above}
 
 -- ---- tests of one reading
@@ -56,21 +56,21 @@ no_upper e lower upper None = refl
 no_upper e lower upper (Some s) = refl
 
 -- no range where an operator bounds from no side
-no_first : (a b : Reading) → (is_some (bound_below a.operator) || is_some (bound_above a.operator)) ≡ false → or_else (range_between a b) (range_between b a) ≡ None
+no_first : (a b : Reading) → (is_some (bound_below a.operator) || is_some (bound_above a.operator)) ≡ false → option_or (range_between a b) (range_between b a) ≡ None
 no_first a b h = by-sides (bound_below a.operator) (bound_above a.operator) h
   where
     by-sides : (o p : Option StrictComparison) → (is_some o || is_some p) ≡ false
-        → or_else (range_where a.operand a.other b.other o (bound_above b.operator)) (range_where b.operand b.other a.other (bound_below b.operator) p) ≡ None
+        → option_or (range_where a.operand a.other b.other o (bound_above b.operator)) (range_where b.operand b.other a.other (bound_below b.operator) p) ≡ None
     by-sides None None i = no_upper b.operand b.other a.other (bound_below b.operator)
     by-sides None (Some s) i = let no : ⊥ = cc in absurd no
     by-sides (Some s) p i = let no : ⊥ = cc in absurd no
 
-no_second : (a b : Reading) → (is_some (bound_below b.operator) || is_some (bound_above b.operator)) ≡ false → or_else (range_between a b) (range_between b a) ≡ None
+no_second : (a b : Reading) → (is_some (bound_below b.operator) || is_some (bound_above b.operator)) ≡ false → option_or (range_between a b) (range_between b a) ≡ None
 no_second a b h = by-sides (bound_below b.operator) (bound_above b.operator) h
   where
     by-sides : (o p : Option StrictComparison) → (is_some o || is_some p) ≡ false
-        → or_else (range_where a.operand a.other b.other (bound_below a.operator) p) (range_where b.operand b.other a.other o (bound_above a.operator)) ≡ None
-    by-sides None None i = ap (λ (o : Option Tree). or_else o None) (no_upper a.operand a.other b.other (bound_below a.operator))
+        → option_or (range_where a.operand a.other b.other (bound_below a.operator) p) (range_where b.operand b.other a.other o (bound_above a.operator)) ≡ None
+    by-sides None None i = ap (λ (o : Option Tree). option_or o None) (no_upper a.operand a.other b.other (bound_below a.operator))
     by-sides None (Some s) i = let no : ⊥ = cc in absurd no
     by-sides (Some s) p i = let no : ⊥ = cc in absurd no
 
@@ -104,17 +104,17 @@ shared_range : (a b : Reading) → cond (share_access (a, b)) (range_of_readings
 shared_range a b =
     by_tests (is_get_item a.operand) (tree_eq a.operand b.operand) (is_get_item b.operand) (is_some (literal_of a.other)) (is_some (literal_of b.other))
     (is_some (bound_below a.operator) || is_some (bound_above a.operator)) (is_some (bound_below b.operator) || is_some (bound_above b.operator))
-    (or_else (range_between a b) (range_between b a)) (λ e. sym (ap is_get_item (tree_eq-same a.operand b.operand e))) (no_first a b) (no_second a b)
+    (option_or (range_between a b) (range_between b a)) (λ e. sym (ap is_get_item (tree_eq-same a.operand b.operand e))) (no_first a b) (no_second a b)
     ∙ sym (both_by (is_bound a) (is_bound b) a b)
 
 -- ---- two conjuncts
 
-or_none : (x : Option Reading) → or_else x None ≡ x
+or_none : (x : Option Reading) → option_or x None ≡ x
 or_none None = refl
 or_none (Some a) = refl
 
 none_of_four : (w x y z : Option Reading) → range_of_both w y ≡ None → range_of_both w z ≡ None → range_of_both x y ≡ None → range_of_both x z ≡ None
-    → range_of_both (or_else w x) (or_else y z) ≡ None
+    → range_of_both (option_or w x) (option_or y z) ≡ None
 none_of_four (Some a) x (Some b) z h i j k = h
 none_of_four (Some a) x None z h i j k = i
 none_of_four None x (Some b) z h i j k = j
@@ -151,20 +151,20 @@ module _ (l : Tree) (op : Operator) (r k : Tree) (oq : Operator) (q : Tree) wher
   none_by : (x y : Reading) → share_access (x, y) ≡ false → range_of_both (as_bound x) (as_bound y) ≡ None
   none_by x y h = sym (shared_range x y) ∙ ap (λ (z : Bool). cond z (range_of_readings (x, y)) None) h
 
-  first_only : as_bound b ≡ None → as_bound a ≡ or_else (as_bound a) (as_bound b)
-  first_only h = sym (or_none (as_bound a)) ∙ ap (or_else (as_bound a)) (sym h)
+  first_only : as_bound b ≡ None → as_bound a ≡ option_or (as_bound a) (as_bound b)
+  first_only h = sym (or_none (as_bound a)) ∙ ap (option_or (as_bound a)) (sym h)
 
-  first_other : as_bound a ≡ None → as_bound b ≡ or_else (as_bound a) (as_bound b)
-  first_other h = ap (λ (o : Option Reading). or_else o (as_bound b)) (sym h)
+  first_other : as_bound a ≡ None → as_bound b ≡ option_or (as_bound a) (as_bound b)
+  first_other h = ap (λ (o : Option Reading). option_or o (as_bound b)) (sym h)
 
-  later_only : as_bound d ≡ None → as_bound c ≡ or_else (as_bound c) (as_bound d)
-  later_only h = sym (or_none (as_bound c)) ∙ ap (or_else (as_bound c)) (sym h)
+  later_only : as_bound d ≡ None → as_bound c ≡ option_or (as_bound c) (as_bound d)
+  later_only h = sym (or_none (as_bound c)) ∙ ap (option_or (as_bound c)) (sym h)
 
-  later_other : as_bound c ≡ None → as_bound d ≡ or_else (as_bound c) (as_bound d)
-  later_other h = ap (λ (o : Option Reading). or_else o (as_bound d)) (sym h)
+  later_other : as_bound c ≡ None → as_bound d ≡ option_or (as_bound c) (as_bound d)
+  later_other h = ap (λ (o : Option Reading). option_or o (as_bound d)) (sym h)
 
   abbrev whole : Option Tree
-  whole = range_of_both (or_else (as_bound a) (as_bound b)) (or_else (as_bound c) (as_bound d))
+  whole = range_of_both (option_or (as_bound a) (as_bound b)) (option_or (as_bound c) (as_bound d))
 
   of_four : range_of_four a b c d ≡ whole
   of_four = by-tests (share_access (a, c)) (share_access (a, d)) (share_access (b, c)) (share_access (b, d)) refl refl refl refl
@@ -174,22 +174,22 @@ module _ (l : Tree) (op : Operator) (r k : Tree) (oq : Operator) (q : Tree) wher
       by-tests true t u v e f g h =
           let items = item_of a c e in
           given_by a c e
-          ∙ both_same (as_bound a) (or_else (as_bound a) (as_bound b)) (as_bound c) (or_else (as_bound c) (as_bound d))
+          ∙ both_same (as_bound a) (option_or (as_bound a) (as_bound b)) (as_bound c) (option_or (as_bound c) (as_bound d))
           (first_only (item_no_bound b items.0)) (later_only (item_no_bound d items.1))
       by-tests false true u v e f g h =
           let items = item_of a d f in
           given_by a d f
-          ∙ both_same (as_bound a) (or_else (as_bound a) (as_bound b)) (as_bound d) (or_else (as_bound c) (as_bound d))
+          ∙ both_same (as_bound a) (option_or (as_bound a) (as_bound b)) (as_bound d) (option_or (as_bound c) (as_bound d))
           (first_only (item_no_bound b items.0)) (later_other (item_no_bound c items.1))
       by-tests false false true v e f g h =
           let items = item_of b c g in
           given_by b c g
-          ∙ both_same (as_bound b) (or_else (as_bound a) (as_bound b)) (as_bound c) (or_else (as_bound c) (as_bound d))
+          ∙ both_same (as_bound b) (option_or (as_bound a) (as_bound b)) (as_bound c) (option_or (as_bound c) (as_bound d))
           (first_other (item_no_bound a items.0)) (later_only (item_no_bound d items.1))
       by-tests false false false true e f g h =
           let items = item_of b d h in
           given_by b d h
-          ∙ both_same (as_bound b) (or_else (as_bound a) (as_bound b)) (as_bound d) (or_else (as_bound c) (as_bound d))
+          ∙ both_same (as_bound b) (option_or (as_bound a) (as_bound b)) (as_bound d) (option_or (as_bound c) (as_bound d))
           (first_other (item_no_bound a items.0)) (later_other (item_no_bound c items.1))
       by-tests false false false false e f g h =
           sym (none_of_four (as_bound a) (as_bound b) (as_bound c) (as_bound d) (none_by a c e) (none_by a d f) (none_by b c g) (none_by b d h))
@@ -200,18 +200,18 @@ module _ (l : Tree) (op : Operator) (r k : Tree) (oq : Operator) (q : Tree) wher
       by-tests : (s t : Bool) → tree_eq l r ≡ s → tree_eq k q ≡ t → cond (not s && not t) (range_of_four a b c d) None ≡ whole
       by-tests true t e f =
           let same : l ≡ r = tree_eq-same l r e in
-          let none : or_else (as_bound a) (as_bound b) ≡ None = sym (first_other (same_no_bound a same)) ∙ same_no_bound b (sym same) in
-          ap (λ (o : Option Reading). range_of_both o (or_else (as_bound c) (as_bound d))) (sym none)
+          let none : option_or (as_bound a) (as_bound b) ≡ None = sym (first_other (same_no_bound a same)) ∙ same_no_bound b (sym same) in
+          ap (λ (o : Option Reading). range_of_both o (option_or (as_bound c) (as_bound d))) (sym none)
       by-tests false true e f =
           let same : k ≡ q = tree_eq-same k q f in
-          let none : or_else (as_bound c) (as_bound d) ≡ None = sym (later_other (same_no_bound c same)) ∙ same_no_bound d (sym same) in
-          sym (both_none (or_else (as_bound a) (as_bound b))) ∙ ap (range_of_both (or_else (as_bound a) (as_bound b))) (sym none)
+          let none : option_or (as_bound c) (as_bound d) ≡ None = sym (later_other (same_no_bound c same)) ∙ same_no_bound d (sym same) in
+          sym (both_none (option_or (as_bound a) (as_bound b))) ∙ ap (range_of_both (option_or (as_bound a) (as_bound b))) (sym none)
       by-tests false false e f = of_four
 
 -- the range of two conjuncts is that of the bounds that they are
 pub range_by_bounds : (c d : Tree) → range_of c d ≡ range_of_both (bound_of c) (bound_of d)
 range_by_bounds (binary l op r) (binary k oq q) = of_two l op r k oq q
-range_by_bounds (binary l op r) _ = sym (both_none (or_else (as_bound (from_left l op r)) (as_bound (from_right l op r))))
+range_by_bounds (binary l op r) _ = sym (both_none (option_or (as_bound (from_left l op r)) (as_bound (from_right l op r))))
 range_by_bounds _ d = refl
 
 -- ---- which conjuncts make a range with a bound
@@ -228,7 +228,7 @@ as_bound-is a b h = by-test (is_bound a) refl h
 bound_of-is : (d : Tree) (b : Reading) → bound_of d ≡ Some b → is_bound b ≡ true
 bound_of-is (binary l op r) b h = by-first (as_bound (from_left l op r)) refl h
   where
-    by-first : (o : Option Reading) → as_bound (from_left l op r) ≡ o → or_else o (as_bound (from_right l op r)) ≡ Some b → is_bound b ≡ true
+    by-first : (o : Option Reading) → as_bound (from_left l op r) ≡ o → option_or o (as_bound (from_right l op r)) ≡ Some b → is_bound b ≡ true
     by-first (Some a) e g = as_bound-is (from_left l op r) b (e ∙ g)
     by-first None e g = as_bound-is (from_right l op r) b g
 bound_of-is _ b h = let no : ⊥ = cc in absurd no
@@ -256,13 +256,13 @@ cond-some false x s h = refl
 -- with a bound from below the bounds of its operand from above do
 with_lower : (a b : Reading) → is_from_below b ≡ true → is_some (range_of_bounds a b) ≡ tree_eq a.operand b.operand && is_some (bound_above a.operator)
 with_lower a b h =
-    cond-some (tree_eq a.operand b.operand) (or_else (range_between a b) (range_between b a)) (is_some (bound_above a.operator))
+    cond-some (tree_eq a.operand b.operand) (option_or (range_between a b) (range_between b a)) (is_some (bound_above a.operator))
     (by-sides (bound_below b.operator) (bound_above b.operator) h (one_sided b.operator h))
   where
     by-sides : (o p : Option StrictComparison) → is_some o ≡ true → p ≡ None
-        → is_some (or_else (range_where a.operand a.other b.other (bound_below a.operator) p) (range_where b.operand b.other a.other o (bound_above a.operator))) ≡ is_some (bound_above a.operator)
+        → is_some (option_or (range_where a.operand a.other b.other (bound_below a.operator) p) (range_where b.operand b.other a.other o (bound_above a.operator))) ≡ is_some (bound_above a.operator)
     by-sides (Some s) None i j =
-        ap (λ (x : Option Tree). is_some (or_else x (range_where b.operand b.other a.other (Some s) (bound_above a.operator)))) (no_upper a.operand a.other b.other (bound_below a.operator))
+        ap (λ (x : Option Tree). is_some (option_or x (range_where b.operand b.other a.other (Some s) (bound_above a.operator)))) (no_upper a.operand a.other b.other (bound_below a.operator))
         ∙ some_upper b.operand b.other a.other s (bound_above a.operator)
     by-sides None p i j = let no : ⊥ = cc in absurd no
     by-sides (Some s) (Some u) i j = let no : ⊥ = cc in absurd no
@@ -270,11 +270,11 @@ with_lower a b h =
 -- with a bound from above those from below do
 with_upper : (a b : Reading) → is_some (bound_above b.operator) ≡ true → is_some (range_of_bounds a b) ≡ tree_eq a.operand b.operand && is_some (bound_below a.operator)
 with_upper a b h =
-    cond-some (tree_eq a.operand b.operand) (or_else (range_between a b) (range_between b a)) (is_some (bound_below a.operator))
+    cond-some (tree_eq a.operand b.operand) (option_or (range_between a b) (range_between b a)) (is_some (bound_below a.operator))
     (by-sides (bound_below a.operator) (bound_above b.operator) (bound_below b.operator) h (other_sided b.operator h))
   where
     by-sides : (n p o : Option StrictComparison) → is_some p ≡ true → o ≡ None
-        → is_some (or_else (range_where a.operand a.other b.other n p) (range_where b.operand b.other a.other o (bound_above a.operator))) ≡ is_some n
+        → is_some (option_or (range_where a.operand a.other b.other n p) (range_where b.operand b.other a.other o (bound_above a.operator))) ≡ is_some n
     by-sides (Some s) (Some u) None i j = refl
     by-sides None (Some u) None i j = refl
     by-sides n None o i j = let no : ⊥ = cc in absurd no
@@ -316,11 +316,11 @@ no_bound e lower upper x (Some s) None h = let no : ⊥ = cc in absurd no
 bounds_range : (a b : Reading) (x : Tree) → range_of_bounds a b ≡ Some x → bound_of x ≡ None
 bounds_range a b x h = by-test (tree_eq a.operand b.operand) h
   where
-    by-first : (o : Option Tree) → range_between a b ≡ o → or_else o (range_between b a) ≡ Some x → bound_of x ≡ None
+    by-first : (o : Option Tree) → range_between a b ≡ o → option_or o (range_between b a) ≡ Some x → bound_of x ≡ None
     by-first (Some y) e g = no_bound a.operand a.other b.other x (bound_below a.operator) (bound_above b.operator) (e ∙ g)
     by-first None e g = no_bound b.operand b.other a.other x (bound_below b.operator) (bound_above a.operator) g
 
-    by-test : (t : Bool) → cond t (or_else (range_between a b) (range_between b a)) None ≡ Some x → bound_of x ≡ None
+    by-test : (t : Bool) → cond t (option_or (range_between a b) (range_between b a)) None ≡ Some x → bound_of x ≡ None
     by-test true g = by-first (range_between a b) refl g
     by-test false g = let no : ⊥ = cc in absurd no
 

@@ -1,13 +1,13 @@
 -- For the checker: no public clause cites this.
 -- Conjuncts taken in one after another, and the places of the bounds among them that a later one may make a range with.
 use Rattle.std.specs.Prelude.{◌≡◌, ℕ, suc, Bool, false, cond, ◌&&◌, ◌||◌, List, [], ◌∷◌, ◌++◌, drop, Option, Some, None, is_some, option_map}
-use Rattle.std.specs.Option.{option_and_then}
+use Rattle.std.specs.Option.{option_and_then, option_or}
 use Rattle.vx_dtype.specs.declared.StrictComparison.{StrictComparison}
 use Rattle.vx_expr.specs.declared.Operator.{Operator}
 use Rattle.vx_expr.specs.Children.{is_get_item, literal_of}
 use Rattle.vx_expr.specs.Equal.{tree_eq}
 use Rattle.vx_expr.specs.Trees.{Tree, binary}
-use Rattle.vx_passes.specs.Ranges.{Paired, Reading, from_left, from_right, bound_below, bound_above, range_between, range_of, or_else}
+use Rattle.vx_passes.specs.Ranges.{Paired, Reading, from_left, from_right, bound_below, bound_above, range_between, range_of}
 
 -- the range of a pair
 abbrev pub range_found : Option Paired → Option Tree
@@ -27,12 +27,12 @@ as_bound a = cond (is_bound a) (Some a) None
 
 -- the bound that a conjunct is, read with the field access on the left
 abbrev pub bound_of : Tree → Option Reading
-bound_of (binary l op r) = or_else (as_bound (from_left l op r)) (as_bound (from_right l op r))
+bound_of (binary l op r) = option_or (as_bound (from_left l op r)) (as_bound (from_right l op r))
 bound_of e = None
 
 -- the range of two bounds of one field access
 abbrev pub range_of_bounds : Reading → Reading → Option Tree
-range_of_bounds a b = cond (tree_eq a.operand b.operand) (or_else (range_between a b) (range_between b a)) None
+range_of_bounds a b = cond (tree_eq a.operand b.operand) (option_or (range_between a b) (range_between b a)) None
 
 -- the range of two conjuncts that may be bounds
 abbrev pub range_of_both : Option Reading → Option Reading → Option Tree

@@ -4,7 +4,7 @@ ghost use Rattle.vx_dtype.specs.TypeViews.{type_view};
 ghost use Rattle.vx_semantics.specs.Tables.{row_type};
 ghost use Rattle.vx_zones.specs.Zoning.{broken_rule, values_fit};
 ghost use Rattle.vx_zones.specs.ZoneViews.{stat_view, statistic_path, statistic_paths};
-ghost use Rattle.vx_zones.specs.ZoneAnswers.{Answers};
+ghost use Rattle.vx_zones.specs.ZoneAnswers.{MakesZones};
 
 use crate::errors::ZoneError;
 use crate::zone_rules::broken_rule;
@@ -103,7 +103,7 @@ impl ZoneMap {
         stats: Vec<ZoneStat>,
     ) -> Result<ZoneMap, ZoneError>
         requires { length lengths.items < 2 ^ 32 }
-        ensures { Answers (record { columns = fields; lengths = lengths.items; stats = map stat_view stats.items }) result }
+        ensures { MakesZones (record { columns = fields; lengths = lengths.items; stats = map stat_view stats.items }) result }
     {
         match broken_rule(alloc, &fields, lengths.as_slice(), stats.as_slice())? {
             Some(error) => Err(error),

@@ -1,5 +1,5 @@
-use Rattle.vx_query.proofs.FormLemmas.{sink_risen}
+use Rattle.vx_query.proofs.EndLemmas.{sink_cut}
 use Rattle.vx_query.proofs.causes.write_faults_are_counted.Goals as goal
 
 pub returns : goal.returns
-returns c = sink_risen
+returns c = sink_cut

@@ -1,0 +1,4 @@
+mod Bulk
+mod Spelled
+mod Tokens
+mod Named

@@ -1,0 +1,38 @@
+-- Of one input, of one word and of one query at most one thing is told: the causes exclude one another.
+use Rattle.std.specs.Prelude.{◌≡◌, None}
+use Rattle.vx_dtype.specs.Types.{Bytes}
+use Rattle.vx_expr.specs.Trees.{Tree}
+use Rattle.vx_scan.specs.declared.errors.ScanError.{ScanError}
+use Rattle.vx_request.specs.Requests.{RequestedScan, hex_bytes}
+use Rattle.vx_request.specs.declared.errors.RequestError.{RequestError}
+use Rattle.vx_query.specs.Running.{HoldsScan, HoldsRefused, WordSpells, WordIsRefused, Names, HasBytes}
+use Rattle.vx_query.specs.RequestCauses.{IsNoRequest}
+use Rattle.vx_query.specs.Causes.{HasNoBytes}
+
+-- two scans are of one table and one pair of byte texts, of one filter and of one projection
+pub record IsSameScan (a : RequestedScan) (f p : Tree) (b : RequestedScan) (g q : Tree) : Type 0 where
+  pub asked : a ≡ b
+  pub filter : f ≡ g
+  pub projection : p ≡ q
+
+-- an input is no request for one reason, is one whose expressions are refused for one reason, or holds one scan; and only one of the three
+pub record InputsMeanOne : Type 0 where
+  pub one_reason : (input : Bytes) (e g : RequestError) → IsNoRequest e input → IsNoRequest g input → e ≡ g
+  pub one_refusal : (input : Bytes) (e g : ScanError) → HoldsRefused input e → HoldsRefused input g → e ≡ g
+  pub one_scan : (input : Bytes) (a b : RequestedScan) (f p g q : Tree) → HoldsScan input a f p → HoldsScan input b g q → IsSameScan a f p b g q
+  pub no_request_refused : (input : Bytes) (e : RequestError) (g : ScanError) → IsNoRequest e input → ¬ (HoldsRefused input g)
+  pub no_request_scanned : (input : Bytes) (e : RequestError) (a : RequestedScan) (f p : Tree) → IsNoRequest e input → ¬ (HoldsScan input a f p)
+  pub none_refused_scanned : (input : Bytes) (e : ScanError) (a : RequestedScan) (f p : Tree) → HoldsRefused input e → ¬ (HoldsScan input a f p)
+
+-- a word is no hexadecimal text, is refused for one reason, or spells one expression; and only one of the three
+pub record WordsMeanOne : Type 0 where
+  pub one_refusal : (word : Bytes) (e g : ScanError) → WordIsRefused word e → WordIsRefused word g → e ≡ g
+  pub one_expression : (word : Bytes) (e g : Tree) → WordSpells word e → WordSpells word g → e ≡ g
+  pub no_digits_refused : (word : Bytes) (e : ScanError) → hex_bytes word ≡ None → ¬ (WordIsRefused word e)
+  pub no_digits_spelled : (word : Bytes) (e : Tree) → hex_bytes word ≡ None → ¬ (WordSpells word e)
+  pub none_refused_spelled : (word : Bytes) (e : ScanError) (g : Tree) → WordIsRefused word e → ¬ (WordSpells word g)
+
+-- a query names one expression, and one that names an expression with bytes isn't refused
+pub record QueriesMeanOne : Type 0 where
+  pub one_expression : (query : Bytes) (e g : Tree) → Names query e → Names query g → e ≡ g
+  pub none_refused_named : (query name : Bytes) (e : Tree) → HasNoBytes query name → Names query e → ¬ (HasBytes e)
