@@ -1,5 +1,5 @@
 -- What tokens name holds no more than they do.
-use Rattle.std.proofs.Common.{◌≡◌, ◌∙◌, sym, ap, refl, subst, ℕ, ◌+◌, ◌*◌, ◌≤◌, ◌<◌, ◌^◌, ◌==◌, Bool, true, false, List, [], ◌∷◌, ◌++◌, length, length-append, map, Option, Some, None, is_some, Ok, arith, true≢false}
+use Rattle.std.proofs.Common.{◌≡◌, ◌∙◌, sym, ap, refl, subst, ℕ, ◌+◌, ◌*◌, ◌≤◌, ◌<◌, ◌^◌, ◌==◌, Bool, true, false, List, [], ◌∷◌, ◌++◌, length, length-append, map, Option, Some, None, is_some, Ok, ℤ, arith, true≢false}
 use Rattle.std.specs.Prelude.{option_map, if◌then◌else◌, codes}
 use Rattle.std.specs.Str.{bytes_eq}
 use Rattle.std.proofs.lemmas.Option.{same_Some}
@@ -134,6 +134,8 @@ struct_bulk ps =
     omega (arith, own, whole)
 
 mutual
+  unfolding pairs_bulk
+
   type_cost : {ts : List Token} {t : Ty} → IsType ts t → type_bulk t ≤ cost ts
   type_cost (plain_base ts t d) = base_cost d
   type_cost (null_base ts t d) =
@@ -152,7 +154,6 @@ mutual
       omega (arith, own, rest, both)
 
   pairs_cost : {ts : List Token} {ps : List (Bytes × Ty)} → AreFields ts ps → pairs_bulk ps ≤ cost ts
-  unfolding pairs_bulk
   pairs_cost no_field_tokens = omega arith
   pairs_cost (one_field ns ts f t n d) =
       let name = name_cost n in
@@ -186,7 +187,7 @@ values_behind [] x = omega arith
 values_behind (y ∷ xs) x = let rest = values_behind xs x in omega (arith, rest)
 
 one_more_item : (acc : Option (List Raw)) (x : Option Raw) → items_bulk (and_one acc x) ≤ items_bulk acc + item_bulk x
-unfolding items_bulk, item_bulk
+unfolding items_bulk item_bulk
 one_more_item (Some xs) (Some x) = let own = values_behind xs x in omega (arith, own)
 one_more_item (Some xs) None = omega arith
 one_more_item None x = omega arith
@@ -200,18 +201,31 @@ gathered_items acc (x ∷ xs) =
     omega (arith, own, rest)
 
 list_bulk : (o : Option (List Raw)) → item_bulk (list_item o) ≤ 1 + items_bulk o
-unfolding items_bulk, item_bulk
+unfolding items_bulk item_bulk
 list_bulk (Some xs) = omega arith
 list_bulk None = omega arith
 
 struct_item_bulk : (o : Option (List Raw)) → item_bulk (struct_item o) ≤ 1 + items_bulk o
-unfolding items_bulk, item_bulk
+unfolding items_bulk item_bulk
 struct_item_bulk (Some xs) = omega arith
 struct_item_bulk None = omega arith
 
+number_of_bulk : (o : Option ℤ) → item_bulk (option_map raw_int o) ≤ 1
+unfolding item_bulk
+number_of_bulk (Some i) = omega arith
+number_of_bulk None = omega arith
+
+number_bulk : (negative : Bool) (digits : Bytes) → item_bulk (option_map raw_int (integer_of negative digits)) ≤ 1
+number_bulk negative digits = number_of_bulk (integer_of negative digits)
+
+no_items_bulk : items_bulk (Some []) ≡ 0
+unfolding items_bulk
+no_items_bulk = refl
+
 mutual
+  unfolding item_bulk items_bulk each_bulk
+
   item_cost : {ts : List Token} {x : Option Raw} → IsItem ts x → item_bulk x ≤ cost ts
-  unfolding item_bulk
   item_cost null_item = omega arith
   item_cost true_item = omega arith
   item_cost false_item = omega arith
@@ -234,7 +248,6 @@ mutual
       omega (arith, own, all, none, rest, both)
 
   items_cost : {ts : List Token} {xs : List (Option Raw)} → AreItems ts xs → each_bulk xs ≤ cost ts
-  unfolding each_bulk
   items_cost no_items = omega arith
   items_cost (one_item ts x d) = let own = item_cost d in omega (arith, own)
   items_cost (more_items ts us x y xs d ds) =
@@ -242,13 +255,6 @@ mutual
       let rest = items_cost ds in
       let both = cost_append ts (Mark signs.Comma ∷ us) in
       omega (arith, own, rest, both)
-
-  number_bulk : (negative : Bool) (digits : Bytes) → item_bulk (option_map raw_int (integer_of negative digits)) ≤ 1
-  number_bulk negative digits = number_of_bulk (integer_of negative digits)
-
-  no_items_bulk : items_bulk (Some []) ≡ 0
-  unfolding items_bulk
-  no_items_bulk = refl
 
 -- ---- expressions
 
@@ -265,7 +271,7 @@ every_bulk [] = 0
 every_bulk (e ∷ es) = 1 + (named_bulk e + every_bulk es)
 
 both_bulk : (l r : Named) (op : Operator) → named_bulk (binary_of l op r) ≤ 1 + (named_bulk l + named_bulk r)
-unfolding named_bulk, binary_of
+unfolding named_bulk binary_of
 both_bulk (Some l) (Some r) op = omega arith
 both_bulk (Some l) None op = omega arith
 both_bulk None r op = omega arith
@@ -296,7 +302,7 @@ cast_bulk (Some e) t = omega arith
 cast_bulk None t = omega arith
 
 constant_bulk : (t : Ty) (x : Option Raw) → named_bulk (constant_of t x) ≤ 1 + (type_bulk t + item_bulk x)
-unfolding named_bulk, item_bulk
+unfolding named_bulk item_bulk
 constant_bulk t None = omega arith
 constant_bulk t (Some r) = by (fits r t)
   where
@@ -316,7 +322,7 @@ trees_behind [] e = omega arith
 trees_behind (d ∷ es) e = let rest = trees_behind es e in omega (arith, rest)
 
 one_more_tree : (acc : Option (List Tree)) (e : Named) → listed_bulk (and_one acc e) ≤ listed_bulk acc + (1 + named_bulk e)
-unfolding listed_bulk, named_bulk
+unfolding listed_bulk named_bulk
 one_more_tree (Some es) (Some e) = let own = trees_behind es e in omega (arith, own)
 one_more_tree (Some es) None = omega arith
 one_more_tree None e = omega arith
@@ -370,7 +376,7 @@ call_bulk words.MergeNull es = omega arith
 call_bulk _ es = omega arith
 
 called_bulk : (k : Keyword) (o : Option (List Tree)) → named_bulk (called_with k o) ≤ 1 + listed_bulk o
-unfolding named_bulk, listed_bulk
+unfolding named_bulk listed_bulk
 called_bulk k (Some es) = call_bulk k es
 called_bulk k None = omega arith
 
@@ -403,7 +409,7 @@ entries_behind [] p = omega arith
 entries_behind (q ∷ ps) p = let rest = entries_behind ps p in omega (arith, rest)
 
 one_more_entry : (acc : Option (List (Bytes × Tree))) (p : Option (Bytes × Tree)) → packed_bulk (and_one acc p) ≤ packed_bulk acc + entry_bulk p
-unfolding packed_bulk, entry_bulk
+unfolding packed_bulk entry_bulk
 one_more_entry (Some ps) (Some p) = let own = entries_behind ps p in omega (arith, own)
 one_more_entry (Some ps) None = omega arith
 one_more_entry None p = omega arith
@@ -418,22 +424,35 @@ gathered_entries acc (p ∷ ps) =
     omega (arith, own, rest)
 
 no_entries_bulk : packed_bulk (Some []) ≡ 0
-unfolding packed_bulk, entries_bulk
+unfolding packed_bulk entries_bulk
 no_entries_bulk = refl
 
 with_name_bulk : (f : Bytes) (e : Named) → entry_bulk (with_name f e) ≤ 2 + (length f + named_bulk e)
-unfolding entry_bulk, named_bulk
+unfolding entry_bulk named_bulk
 with_name_bulk f (Some e) = omega arith
 with_name_bulk f None = omega arith
 
 pack_bulk : (n : Nullability) (o : Option (List (Bytes × Tree))) → named_bulk (pack_of n o) ≤ 1 + packed_bulk o
-unfolding named_bulk, packed_bulk, entries_bulk
+unfolding named_bulk packed_bulk entries_bulk
 pack_bulk n (Some ps) = omega arith
 pack_bulk n None = omega arith
 
 -- ---- queries: what one names holds less than its tokens
 
+operands_cost : (ls rs : List Token) (t : Token) (op : Operator) (l r : Named) → named_bulk l + 1 ≤ cost ls → named_bulk r + 1 ≤ cost rs
+    → named_bulk (binary_of l op r) + 1 ≤ cost (ls ++ t ∷ rs)
+operands_cost ls rs t op l r h k =
+    let own = both_bulk l r op in
+    let both = cost_append ls (t ∷ rs) in
+    omega (arith, own, h, k, both)
+
+no_trees_bulk : listed_bulk (Some []) ≡ 0
+unfolding listed_bulk
+no_trees_bulk = refl
+
 mutual
+  unfolding named_bulk listed_bulk every_bulk all_entries
+
   or_cost : {ts : List Token} {e : Named} → IsOr ts e → named_bulk e + 1 ≤ cost ts
   or_cost (one_or ts e d) = and_cost d
   or_cost (more_or ls rs t op l r d o f) = operands_cost ls rs t op l r (or_cost d) (and_cost f)
@@ -453,13 +472,6 @@ mutual
   sum_cost : {ts : List Token} {e : Named} → IsSum ts e → named_bulk e + 1 ≤ cost ts
   sum_cost (one_sum ts e d) = post_cost d
   sum_cost (more_sum ls rs t op l r d o f) = operands_cost ls rs t op l r (sum_cost d) (post_cost f)
-
-  operands_cost : (ls rs : List Token) (t : Token) (op : Operator) (l r : Named) → named_bulk l + 1 ≤ cost ls → named_bulk r + 1 ≤ cost rs
-      → named_bulk (binary_of l op r) + 1 ≤ cost (ls ++ t ∷ rs)
-  operands_cost ls rs t op l r h k =
-      let own = both_bulk l r op in
-      let both = cost_append ls (t ∷ rs) in
-      omega (arith, own, h, k, both)
 
   post_cost : {ts : List Token} {e : Named} → IsPost ts e → named_bulk e + 1 ≤ cost ts
   post_cost (one_post ts e d) = atom_cost d
@@ -485,7 +497,6 @@ mutual
       omega (arith, own, names, more, inner, both)
 
   atom_cost : {ts : List Token} {e : Named} → IsAtom ts e → named_bulk e + 1 ≤ cost ts
-  unfolding named_bulk
   atom_cost (bracket_atom ts e d) = let own = or_cost d in let both = round_cost ts in omega (arith, own, both)
   atom_cost row_atom = omega arith
   atom_cost (name_atom ts f n) = let name = name_cost n in omega (arith, name)
@@ -528,12 +539,7 @@ mutual
       let both = round_cost ts in
       omega (arith, own, all, none, rest, both)
 
-  no_trees_bulk : listed_bulk (Some []) ≡ 0
-  unfolding listed_bulk
-  no_trees_bulk = refl
-
   queries_cost : {ts : List Token} {es : List Named} → AreQueries ts es → every_bulk es ≤ cost ts
-  unfolding every_bulk
   queries_cost no_queries = omega arith
   queries_cost (one_query ts e d) = let own = or_cost d in omega (arith, own)
   queries_cost (more_queries ts us e d es q qs) =
@@ -543,7 +549,6 @@ mutual
       omega (arith, own, rest, both)
 
   named_cost : {ts : List Token} {es : List (Option (Bytes × Tree))} → AreNamed ts es → all_entries es ≤ cost ts
-  unfolding all_entries
   named_cost no_named = omega arith
   named_cost (one_named ns ts f e n d) =
       let name = name_cost n in
@@ -567,7 +572,7 @@ most : ℕ
 most = 9732096
 
 query_bulk : (query : Bytes) (e : Tree) → IsAnswer query (Ok e) → 9 * bulk e ≤ most
-unfolding named_bulk, most
+unfolding named_bulk most
 query_bulk query e answer =
     let own = or_cost answer.2.1 in
     let cut = cut_cost answer.1.cut in

@@ -186,24 +186,30 @@ module _ (m : ℕ) (large : 16 ≤ m) (small : m < 2 ^ 32) where
     parts_short root h = (id_short root, own_short root h, few_short 0 (omega arith), tt)
     parts_short (literal s) h = (id_short (literal s), own_short (literal s) h, few_short 0 (omega arith), tt)
     parts_short (get_item f e) h =
-        (id_short (get_item f e), own_short (get_item f e) h, few_short 1 (omega (arith, large)), parts_short e (omega (arith, h)), tt)
+        (id_short (get_item f e), own_short (get_item f e) h, few_short 1 (omega (arith, large)), (parts_short e (omega (arith, h)), tt))
     parts_short (binary l op r) h =
-        (id_short (binary l op r), own_short (binary l op r) h, few_short 2 (omega (arith, large)), parts_short l (omega (arith, h)), parts_short r (omega (arith, h)), tt)
-    parts_short (not_of e) h = (id_short (not_of e), own_short (not_of e) h, few_short 1 (omega (arith, large)), parts_short e (omega (arith, h)), tt)
+        (id_short (binary l op r), own_short (binary l op r) h, few_short 2 (omega (arith, large)), (parts_short l (omega (arith, h)), (parts_short r (omega (arith, h)), tt)))
+    parts_short (not_of e) h = (id_short (not_of e), own_short (not_of e) h, few_short 1 (omega (arith, large)), (parts_short e (omega (arith, h)), tt))
     parts_short (is_null_of e) h =
-        (id_short (is_null_of e), own_short (is_null_of e) h, few_short 1 (omega (arith, large)), parts_short e (omega (arith, h)), tt)
+        (id_short (is_null_of e), own_short (is_null_of e) h, few_short 1 (omega (arith, large)), (parts_short e (omega (arith, h)), tt))
     parts_short (like e p negated fold_case) h = (
-      id_short (like e p negated fold_case), own_short (like e p negated fold_case) h, few_short 2 (omega (arith, large)),
-      parts_short e (omega (arith, h)), parts_short p (omega (arith, h)), tt,
+      id_short (like e p negated fold_case),
+      own_short (like e p negated fold_case) h,
+      few_short 2 (omega (arith, large)),
+      (parts_short e (omega (arith, h)), (parts_short p (omega (arith, h)), tt)),
     )
     parts_short (between e lower upper options) h = (
-      id_short (between e lower upper options), own_short (between e lower upper options) h, few_short 3 (omega (arith, large)),
-      parts_short e (omega (arith, h)), parts_short lower (omega (arith, h)), parts_short upper (omega (arith, h)), tt,
+      id_short (between e lower upper options),
+      own_short (between e lower upper options) h,
+      few_short 3 (omega (arith, large)),
+      (parts_short e (omega (arith, h)), (parts_short lower (omega (arith, h)), (parts_short upper (omega (arith, h)), tt))),
     )
-    parts_short (cast e t) h = (id_short (cast e t), own_short (cast e t) h, few_short 1 (omega (arith, large)), parts_short e (omega (arith, h)), tt)
+    parts_short (cast e t) h = (id_short (cast e t), own_short (cast e t) h, few_short 1 (omega (arith, large)), (parts_short e (omega (arith, h)), tt))
     parts_short (list_contains l v) h = (
-      id_short (list_contains l v), own_short (list_contains l v) h, few_short 2 (omega (arith, large)),
-      parts_short l (omega (arith, h)), parts_short v (omega (arith, h)), tt,
+      id_short (list_contains l v),
+      own_short (list_contains l v) h,
+      few_short 2 (omega (arith, large)),
+      (parts_short l (omega (arith, h)), (parts_short v (omega (arith, h)), tt)),
     )
     parts_short (pack names es n) h =
         let few = children_few es in
@@ -211,9 +217,12 @@ module _ (m : ℕ) (large : 16 ≤ m) (small : m < 2 ^ 32) where
     parts_short (merge es n) h =
         let few = children_few es in
         (id_short (merge es n), own_short (merge es n) h, few_short (number_of (wires_of es)) (omega (arith, h, few)), all_short es (omega (arith, h)))
-    parts_short (select s e) h = (id_short (select s e), own_short (select s e) h, few_short 1 (omega (arith, large)), parts_short e (omega (arith, h)), tt)
+    parts_short (select s e) h = (id_short (select s e), own_short (select s e) h, few_short 1 (omega (arith, large)), (parts_short e (omega (arith, h)), tt))
     parts_short (dynamic e op k t default) h = (
-      id_short (dynamic e op k t default), own_short (dynamic e op k t default) h, few_short 1 (omega (arith, large)), parts_short e (omega (arith, h)), tt,
+      id_short (dynamic e op k t default),
+      own_short (dynamic e op k t default) h,
+      few_short 1 (omega (arith, large)),
+      (parts_short e (omega (arith, h)), tt),
     )
 
     all_short : (es : Trees) → 9 * bulks es ≤ m → HaveShortParts (wires_of es)

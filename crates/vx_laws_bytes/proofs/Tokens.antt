@@ -22,7 +22,7 @@ cost [] = 0
 cost (t ∷ ts) = token_cost t + cost ts
 
 pub cost_append : (ts us : List Token) → cost (ts ++ us) ≡ cost ts + cost us
-cost_append [] us = refl
+cost_append [] us = omega arith
 cost_append (t ∷ ts) us = let rest = cost_append ts us in omega (arith, rest)
 
 doubled_some : (mark b : ℕ) → 1 ≤ length (doubled mark b)
