@@ -7,14 +7,14 @@ use Rattle.vx_prune.specs.Finding.{AsksSome, Finds}
 
 -- ---- a first part of questions
 
-some_more : (all rest before after : List Question) → AsksSome all before after → AsksSome (all ++ rest) before after
+pub some_more : (all rest before after : List Question) → AsksSome all before after → AsksSome (all ++ rest) before after
 some_more all rest before after h =
     record { part = h.part; rest = h.rest ++ rest; whole = ap (λ qs. qs ++ rest) h.whole ∙ append_assoc h.part h.rest rest; grown = h.grown }
 
 some_all : (all before after : List Question) → after ≡ before ++ all → AsksSome all before after
 some_all all before after e = record { part = all; rest = []; whole = sym (append-nil all); grown = e }
 
-some_then : (first all before between after : List Question) → between ≡ before ++ first → AsksSome all between after → AsksSome (first ++ all) before after
+pub some_then : (first all before between after : List Question) → between ≡ before ++ first → AsksSome all between after → AsksSome (first ++ all) before after
 some_then first all before between after e h =
     record {
       part = first ++ h.part;

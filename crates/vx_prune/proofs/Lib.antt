@@ -3,3 +3,4 @@ pub mod FindingLemmas
 pub mod JoinedLemmas
 pub mod RelationLemmas
 pub mod RequiredLemmas
+pub mod StepLemmas

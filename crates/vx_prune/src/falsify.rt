@@ -1,21 +1,37 @@
-// The falsification of filters and of their negations: one recursion over the expression.
-ghost use Rattle.vx_expr.specs.Nodes.{binary_tree};
-ghost use Rattle.vx_passes.specs.Falsifying.{and_of, both, either, falsified, negation_falsified, or_of};
+// The falsification of filters and of their negations: one loop over the `and`, `or` and `not` of the expression, however deep they stand.
+ghost use Rattle.std.specs.Prelude.{◌≡◌, ◌+◌, ◌∷◌, ◌++◌, false, [], IfOk};
+ghost use Rattle.vx_expr.specs.Nodes.{binary_left, binary_right, binary_tree};
+ghost use Rattle.vx_passes.specs.Falsifying.{falsified, negation_falsified};
 ghost use Rattle.vx_prune.specs.Finding.{Finds};
+ghost use Rattle.vx_prune.specs.Steps.{Goes, ask, asked_comparison, filtered, further_steps, held, is_joined};
+ghost use Rattle.vx_prune.specs.Steps.{second_task, stepped, task_of, task_steps, tasks_of};
 
 use crate::catalogs::StatsCatalog;
 use crate::comparisons::{comparison_falsified, has_none};
 use crate::joins::joined_known;
 use crate::lists::contains_falsified;
 use crate::ranges::{inverse, range_falsified, range_negation_falsified, slot_falsified};
-use std::alloc::Global;
+use std::alloc::{AllocError, Global};
 use vx_build::and;
-use vx_dtype::{Mem, Stat};
+use vx_dtype::{CompareOperator, Mem, Stat};
 use vx_expr::{BinaryExpr, Expr, ExprRef, Operator, VortexExpr};
 
+/// What is left to find of a filter.
+#[derive(Drop)]
+enum Step<'a> {
+    /// An expression is asked, or its negation.
+    Ask(&'a ExprRef, bool),
+    /// After the first operand: the second is asked, or its negation, and one of both is enough.
+    SecondOfEither(&'a ExprRef, bool),
+    /// After the first operand: where it is found, the second is asked, or its negation, and both are needed.
+    SecondOfBoth(&'a ExprRef, bool),
+    /// After the second operand: what was found of the first one is joined with it by `or`.
+    JoinEither(Option<ExprRef>),
+    /// After the second operand: the first one is joined with it by `and`.
+    JoinBoth(ExprRef),
+}
+
 /// The falsification of a filter over a catalog.
-#[cycle(falsify)]
-#[tactic(auto, unfolding(vx_passes::specs::Falsifying::falsified))]
 pub(crate) fn falsified<C: StatsCatalog>(
     alloc: Global,
     expr: &ExprRef,
@@ -23,56 +39,108 @@ pub(crate) fn falsified<C: StatsCatalog>(
 ) -> Mem<Option<ExprRef>>
     ensures { Finds C.answer C.asked (λ known. falsified known expr.now) catalog.old catalog.new result }
 {
-    match expr.expr() {
-        Expr::Binary(node) => binary_falsified(alloc, node, catalog),
-        Expr::Between(node) => {
-            let (value, lower, upper) = (expr.child_at(0), expr.child_at(1), expr.child_at(2));
-            range_falsified(alloc, value, lower, upper, node.options(), catalog)
+    let mut found: Option<ExprRef> = None;
+    let mut left = Vec::new(alloc);
+    left.push(Step::Ask(expr, false))?;
+    while let Some(step) = left.pop() {
+        found = take_step(alloc, step, found, &mut left, catalog)?;
+    }
+    Ok(found)
+}
+
+/// Takes a step after what was found last, and adds the steps that it leaves. Answers what was found, None where that is still left.
+fn take_step<'a, C: StatsCatalog>(
+    alloc: Global,
+    step: Step<'a>,
+    found: Option<ExprRef>,
+    left: &mut Vec<Step<'a>>,
+    catalog: &mut C,
+) -> Mem<Option<ExprRef>>
+    ensures { Goes C.answer C.asked (λ known. stepped known (task_of step.entry) (held found)) (task_steps (task_of step.entry))
+        (tasks_of left.old.items) (tasks_of left.new.items) catalog.old catalog.new result }
+{
+    match step {
+        Step::Ask(expr, negated) => ask(alloc, expr, negated, left, catalog),
+        Step::SecondOfEither(expr, negated) => {
+            add_steps(left, Step::Ask(expr, negated), Step::JoinEither(found))?;
+            Ok(None)
         }
-        Expr::IsNull(node) => has_none(alloc, node.child(), Stat::NullCount, catalog),
-        Expr::ListContains(node) => contains_falsified(alloc, node.list(), node.value(), catalog),
-        Expr::Dynamic(node) => slot_falsified(alloc, node, expr.child_at(0), catalog),
-        Expr::Not(node) => negation_falsified(alloc, node.child(), catalog),
-        _ => Ok(None),
+        Step::SecondOfBoth(expr, negated) => match found {
+            Some(first) => {
+                add_steps(left, Step::Ask(expr, negated), Step::JoinBoth(first))?;
+                Ok(None)
+            }
+            None => Ok(None),
+        },
+        Step::JoinEither(first) => joined_known(alloc, Operator::Or, first, found),
+        Step::JoinBoth(first) => match found {
+            Some(second) => Ok(Some(and(alloc, first, second)?)),
+            None => Ok(None),
+        },
     }
 }
 
-/// The falsification of the negation of a filter.
-#[cycle(falsify)]
+/// Adds two steps, the one that is taken first and the one behind it.
+fn add_steps<'a>(
+    left: &mut Vec<Step<'a>>,
+    first: Step<'a>,
+    later: Step<'a>,
+) -> Result<(), AllocError>
+    ensures { IfOk result (λ _. tasks_of left.new.items ≡ tasks_of left.old.items ++ task_of later.entry ∷ task_of first.entry ∷ []) }
+{
+    left.push(later)?;
+    left.push(first)?;
+    Ok(())
+}
+
+/// Asks for an expression or its negation. The operands of an `and`, an `or` and a `not` are left to be asked.
 #[tactic(auto, unfolding(vx_passes::specs::Falsifying::falsified))]
-fn negation_falsified<C: StatsCatalog>(
+fn ask<'a, C: StatsCatalog>(
     alloc: Global,
-    expr: &ExprRef,
+    expr: &'a ExprRef,
+    negated: bool,
+    left: &mut Vec<Step<'a>>,
     catalog: &mut C,
 ) -> Mem<Option<ExprRef>>
-    ensures { Finds C.answer C.asked (λ known. negation_falsified known expr.now) catalog.old catalog.new result }
+    ensures { Goes C.answer C.asked (λ known. filtered negated known expr.now) (1 + further_steps expr.now)
+        (tasks_of left.old.items) (tasks_of left.new.items) catalog.old catalog.new result }
 {
     match expr.expr() {
-        Expr::Binary(node) => binary_negation_falsified(alloc, node, catalog),
-        Expr::Between(node) => {
-            let (value, lower, upper) = (expr.child_at(0), expr.child_at(1), expr.child_at(2));
-            range_negation_falsified(alloc, value, lower, upper, node.options(), catalog)
+        Expr::Binary(node) => ask_binary(alloc, node, negated, left, catalog),
+        Expr::Not(node) => {
+            left.push(Step::Ask(node.child(), !negated))?;
+            Ok(None)
         }
-        Expr::Not(node) => falsified(alloc, node.child(), catalog),
-        _ => Ok(None),
+        _ => ask_alone(alloc, expr, negated, catalog),
     }
 }
 
-/// The falsification of two operands under an operator.
-#[cycle(falsify)]
+/// Asks for two operands under an operator, or the negation of this. Those of an `and` and of an `or` are left to be asked.
 #[tactic(auto, unfolding(vx_passes::specs::Falsifying::falsified))]
-fn binary_falsified<C: StatsCatalog>(
+fn ask_binary<'a, C: StatsCatalog>(
     alloc: Global,
-    node: &BinaryExpr,
+    node: &'a BinaryExpr,
+    negated: bool,
+    left: &mut Vec<Step<'a>>,
     catalog: &mut C,
 ) -> Mem<Option<ExprRef>>
-    ensures { Finds C.answer C.asked (λ known. falsified known (binary_tree node.now)) catalog.old catalog.new result }
+    ensures { Goes C.answer C.asked (λ known. filtered negated known (binary_tree node.now)) (1 + further_steps (binary_tree node.now))
+        (tasks_of left.old.items) (tasks_of left.new.items) catalog.old catalog.new result }
 {
     match node.op() {
-        Operator::And => either_falsified(alloc, node.lhs(), node.rhs(), catalog),
-        Operator::Or => both_falsified(alloc, node.lhs(), node.rhs(), catalog),
+        Operator::And => {
+            let second = second_step(node.rhs(), !negated, negated);
+            add_steps(left, Step::Ask(node.lhs(), negated), second)?;
+            Ok(None)
+        }
+        Operator::Or => {
+            let second = second_step(node.rhs(), negated, negated);
+            add_steps(left, Step::Ask(node.lhs(), negated), second)?;
+            Ok(None)
+        }
         other => match other.maybe_cmp_operator() {
             Some(operator) => {
+                let operator = asked_operator(operator, negated);
                 comparison_falsified(alloc, node.lhs(), node.rhs(), operator, catalog)
             }
             None => Ok(None),
@@ -80,95 +148,79 @@ fn binary_falsified<C: StatsCatalog>(
     }
 }
 
-/// The falsification of the negation of two operands under an operator.
-#[cycle(falsify)]
-#[tactic(auto, unfolding(vx_passes::specs::Falsifying::falsified))]
-fn binary_negation_falsified<C: StatsCatalog>(
-    alloc: Global,
-    node: &BinaryExpr,
-    catalog: &mut C,
-) -> Mem<Option<ExprRef>>
-    ensures { Finds C.answer C.asked (λ known. negation_falsified known (binary_tree node.now)) catalog.old catalog.new result }
+/// The step that asks a second operand, or its negation, where one of both is enough or both are needed.
+fn second_step(operand: &ExprRef, either: bool, negated: bool) -> Step<'_>
+    ensures { task_of result ≡ second_task either negated operand.now }
 {
-    match node.op() {
-        Operator::And => both_negations_falsified(alloc, node.lhs(), node.rhs(), catalog),
-        Operator::Or => either_negation_falsified(alloc, node.lhs(), node.rhs(), catalog),
-        other => match other.maybe_cmp_operator() {
-            Some(operator) => {
-                let inverse = inverse(operator);
-                comparison_falsified(alloc, node.lhs(), node.rhs(), inverse, catalog)
-            }
-            None => Ok(None),
-        },
+    if either {
+        Step::SecondOfEither(operand, negated)
+    } else {
+        Step::SecondOfBoth(operand, negated)
     }
 }
 
-/// One of two filters is falsified; both are asked.
-#[cycle(falsify)]
-fn either_falsified<C: StatsCatalog>(
-    alloc: Global,
-    left: &ExprRef,
-    right: &ExprRef,
-    catalog: &mut C,
-) -> Mem<Option<ExprRef>>
-    ensures { Finds C.answer C.asked (λ known. either or_of (falsified known left.now) (falsified known right.now)) catalog.old catalog.new result }
+/// The comparison itself, or that which is true where it is false.
+fn asked_operator(operator: CompareOperator, negated: bool) -> CompareOperator
+    ensures { result ≡ asked_comparison negated operator }
 {
-    let first = falsified(alloc, left, catalog)?;
-    let second = falsified(alloc, right, catalog)?;
-    joined_known(alloc, Operator::Or, first, second)
+    if negated { inverse(operator) } else { operator }
 }
 
-/// Both filters are falsified; the second is asked only where the first is found.
-#[cycle(falsify)]
-fn both_falsified<C: StatsCatalog>(
+/// The falsification of a node without operands that are asked, or of its negation.
+fn ask_alone<C: StatsCatalog>(
     alloc: Global,
-    left: &ExprRef,
-    right: &ExprRef,
+    expr: &ExprRef,
+    negated: bool,
     catalog: &mut C,
 ) -> Mem<Option<ExprRef>>
-    ensures { Finds C.answer C.asked (λ known. both and_of (falsified known left.now) (falsified known right.now)) catalog.old catalog.new result }
+    requires { is_joined expr.now ≡ false }
+    ensures { Finds C.answer C.asked (λ known. filtered negated known expr.now) catalog.old catalog.new result }
 {
-    let Some(first) = falsified(alloc, left, catalog)? else {
-        return Ok(None);
-    };
-    let Some(second) = falsified(alloc, right, catalog)? else {
-        return Ok(None);
-    };
-    Ok(Some(and(alloc, first, second)?))
+    if negated {
+        return alone_negation_falsified(alloc, expr, catalog);
+    }
+    alone_falsified(alloc, expr, catalog)
 }
 
-/// The negation of one of two filters is falsified; both are asked.
-#[cycle(falsify)]
-fn either_negation_falsified<C: StatsCatalog>(
+/// The falsification of a node without operands that are asked.
+#[tactic(auto, unfolding(vx_passes::specs::Falsifying::falsified))]
+fn alone_falsified<C: StatsCatalog>(
     alloc: Global,
-    left: &ExprRef,
-    right: &ExprRef,
+    expr: &ExprRef,
     catalog: &mut C,
 ) -> Mem<Option<ExprRef>>
-    ensures { Finds C.answer C.asked
-        (λ known. either or_of (negation_falsified known left.now) (negation_falsified known right.now)) catalog.old catalog.new result }
+    requires { is_joined expr.now ≡ false }
+    ensures { Finds C.answer C.asked (λ known. falsified known expr.now) catalog.old catalog.new result }
 {
-    let first = negation_falsified(alloc, left, catalog)?;
-    let second = negation_falsified(alloc, right, catalog)?;
-    joined_known(alloc, Operator::Or, first, second)
+    match expr.expr() {
+        Expr::Between(node) => {
+            let (value, lower, upper) = (expr.child_at(0), expr.child_at(1), expr.child_at(2));
+            range_falsified(alloc, value, lower, upper, node.options(), catalog)
+        }
+        Expr::IsNull(node) => has_none(alloc, node.child(), Stat::NullCount, catalog),
+        Expr::ListContains(node) => contains_falsified(alloc, node.list(), node.value(), catalog),
+        Expr::Dynamic(node) => slot_falsified(alloc, node, expr.child_at(0), catalog),
+        Expr::Binary(_) | Expr::Not(_) => unreachable!(),
+        _ => Ok(None),
+    }
 }
 
-/// The negations of both filters are falsified; the second is asked only where the first is found.
-#[cycle(falsify)]
-fn both_negations_falsified<C: StatsCatalog>(
+/// The falsification of the negation of a node without operands that are asked: only a range tells anything.
+#[tactic(auto, unfolding(vx_passes::specs::Falsifying::falsified))]
+fn alone_negation_falsified<C: StatsCatalog>(
     alloc: Global,
-    left: &ExprRef,
-    right: &ExprRef,
+    expr: &ExprRef,
     catalog: &mut C,
 ) -> Mem<Option<ExprRef>>
-    ensures { Finds C.answer C.asked
-        (λ known. both and_of (negation_falsified known left.now) (negation_falsified known right.now)) catalog.old catalog.new result }
+    requires { is_joined expr.now ≡ false }
+    ensures { Finds C.answer C.asked (λ known. negation_falsified known expr.now) catalog.old catalog.new result }
 {
-    let Some(first) = negation_falsified(alloc, left, catalog)? else {
-        return Ok(None);
-    };
-    let Some(second) = negation_falsified(alloc, right, catalog)? else {
-        return Ok(None);
-    };
-    Ok(Some(and(alloc, first, second)?))
+    match expr.expr() {
+        Expr::Between(node) => {
+            let (value, lower, upper) = (expr.child_at(0), expr.child_at(1), expr.child_at(2));
+            range_negation_falsified(alloc, value, lower, upper, node.options(), catalog)
+        }
+        Expr::Binary(_) | Expr::Not(_) => unreachable!(),
+        _ => Ok(None),
+    }
 }

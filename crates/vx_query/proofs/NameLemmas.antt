@@ -28,7 +28,7 @@ step (Ok x) f h = h x refl
 
 -- zones that break no rule have them
 unbroken_names : (z : Zones) → broken_rule z ≡ None → distinct_names (field_names z.columns) ≡ true
-unfolding broken_rule, no_name_twice
+unfolding broken_rule no_name_twice
 unbroken_names z h = by (distinct_names (field_names z.columns)) (no_name_twice_below z.columns) _ h
   where
     by : (own below : Bool) (others : Option ZoneError) → cond (not (own && below)) (Some rules.DuplicateName) others ≡ None → own ≡ true

@@ -12,7 +12,7 @@ use Rattle.vx_dtype.specs.TypeRules.{has_name, field_names}
 use Rattle.vx_expr.specs.Trees.{Tree}
 use Rattle.vx_semantics.specs.Asked.{asked_columns}
 use Rattle.vx_semantics.specs.Meaning.{Slots}
-use Rattle.vx_laws.proofs.Inverting.{bytes_eq-itself}
+use Rattle.std.proofs.lemmas.Slice.Eq.{bytes_eq-Decides}
 use Rattle.vx_semantics.specs.Pruning.{rules_out}
 use Rattle.vx_semantics.specs.Tables.{row_type, numbered_from}
 use Rattle.vx_semantics.specs.Scans.{Phase, phase_breaks, phase_reads, phases_to_break, phases_of, kept_of, kept_blocks, reads_in, further_columns, matching_rows, has_rows, reads_to_break}
@@ -99,6 +99,9 @@ reads_among kept input a f p asked =
 
 -- ---- the reads that are needed
 
+name_itself : (f : Bytes) → bytes_eq f f ≡ true
+name_itself f = (bytes_eq-Decides f f).1 refl
+
 -- what some block of a list meets that a test asks, some block of the other list does
 abbrev Block : Type 0
 Block = ℕ × List Val
@@ -153,7 +156,7 @@ blocks_needed t f p all (b ∷ bs) h =
     list_all-append test (own ++ further) rest
     ∙ and_from (list_all test (own ++ further)) (list_all test rest)
     (list_all-append test own further
-    ∙ and_from (list_all test own) (list_all test further) (own_needed t f all b.0 (asked_columns t f) (all_here bytes_eq bytes_eq-itself (asked_columns t f)))
+    ∙ and_from (list_all test own) (list_all test further) (own_needed t f all b.0 (asked_columns t f) (all_here bytes_eq name_itself (asked_columns t f)))
     (where_some t f all b (further_columns t f p) (has_rows (matching_rows t [] f b.1)) h.0 refl))
     (blocks_needed t f p all bs h.1)
 
