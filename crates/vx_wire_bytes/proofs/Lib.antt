@@ -7,6 +7,7 @@ pub mod TreeLemmas
 pub mod StackLemmas
 pub mod ReadLemmas
 pub mod WriteLemmas
+pub mod LeftLemmas
 pub mod TypeLemmas
 pub mod FieldLoops
 pub mod PlaceFields

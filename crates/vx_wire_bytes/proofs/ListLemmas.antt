@@ -3,11 +3,7 @@ use Rattle.std.proofs.Common.{◌≡◌, ◌+◌, ◌++◌, refl, sym, ap, ◌�
 use Rattle.std.proofs.lemmas.List.{append-nil}
 use Rattle.vx_wire_bytes.specs.Wires.{Wire, Wires, no_wires, first, number_of, size_of, sizes_of, wire_bytes, wires_bytes, IsSpellable, AreSpellable}
 use Rattle.vx_wire_bytes.specs.Reading.{appended}
-
--- one list behind another
-abbrev pub joined : Wires → Wires → Wires
-joined no_wires ms = ms
-joined (first n ns) ms = first n (joined ns ms)
+use Rattle.vx_wire_bytes.specs.LeftToWrite.{joined}
 
 pub joined-nil : (ns : Wires) → joined ns no_wires ≡ ns
 joined-nil no_wires = refl

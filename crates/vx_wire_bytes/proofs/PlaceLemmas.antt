@@ -7,7 +7,8 @@ use Rattle.vx_wire_bytes.specs.Wires.{Wire, node, Wires, no_wires, first, number
 use Rattle.vx_wire_bytes.specs.Openings.{Open, IsOpen, open_bytes, opening_bytes, begun}
 use Rattle.vx_wire_bytes.specs.Reading.{appended, Closed, still_open, settled, closed, before, place_of, begins, place_after, next, place}
 use Rattle.vx_wire_bytes.proofs.HeadLemmas.{head_again}
-use Rattle.vx_wire_bytes.proofs.ListLemmas.{joined, joined-nil, joined-appended, joined-one, number_of-appended, number_of-none}
+use Rattle.vx_wire_bytes.specs.LeftToWrite.{joined}
+use Rattle.vx_wire_bytes.proofs.ListLemmas.{joined-nil, joined-appended, joined-one, number_of-appended, number_of-none}
 
 -- ---- what is spelled is read
 

@@ -8,6 +8,7 @@ pub mod WireViews
 pub mod OpenViews
 pub mod ReadAnswers
 pub mod WriteAnswers
+pub mod LeftToWrite
 pub mod Fields
 pub mod TypeForms
 pub mod TypeReading

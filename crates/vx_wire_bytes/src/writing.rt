@@ -1,10 +1,11 @@
 // Writing the fields of the wire form, and whole trees.
-ghost use Rattle.std.specs.Prelude.{◌≡◌, ◌<◌, ◌^◌, ◌++◌, List, length, vec_len, IfOk, IfErr, OnOk, OnErr};
+ghost use Rattle.std.specs.Prelude.{◌≡◌, ◌<◌, ◌^◌, ◌++◌, ◌∷◌, [], List, length, map, vec_len, IfOk, IfErr, OnOk, OnErr};
 ghost use Rattle.vx_dtype.specs.Types.{Bytes};
 ghost use Rattle.vx_wire_bytes.specs.Numbers.{number_bytes, piece_bytes};
 ghost use Rattle.vx_wire_bytes.specs.Fields.{IsShort};
-ghost use Rattle.vx_wire_bytes.specs.Wires.{wire_bytes, head_bytes, head_of_tree, IsHead, IsSpellable, Spells};
-ghost use Rattle.vx_wire_bytes.specs.WireViews.{tree_view};
+ghost use Rattle.vx_wire_bytes.specs.Wires.{head_bytes, head_of_tree, IsHead, Spells};
+ghost use Rattle.vx_wire_bytes.specs.LeftToWrite.{children_in};
+ghost use Rattle.vx_wire_bytes.specs.WireViews.{tree_view, trees_view};
 ghost use Rattle.vx_wire_bytes.specs.WriteAnswers.{IsUnwritten};
 
 use crate::errors::WireError;
@@ -70,18 +71,6 @@ pub fn write_text(out: &mut Vec<u8>, text: &Text) -> Mem<()>
     write_piece(out, text.as_str().as_bytes())
 }
 
-/// Writes a node at the end.
-fn push_node(out: &mut Vec<u8>, tree: &WireTree) -> Result<(), WireError>
-    ensures ok { OnOk result (IsSpellable (tree_view tree.now) × (out.new.items ≡ out.old.items ++ wire_bytes (tree_view tree.now))) }
-    ensures err { IfErr result (IsUnwritten (tree_view tree.now)) }
-{
-    push_head(out, tree)?;
-    for child in &tree.children {
-        push_node(out, child)?;
-    }
-    Ok(())
-}
-
 /// Writes the head of a node at the end.
 fn push_head(out: &mut Vec<u8>, tree: &WireTree) -> Result<(), WireError>
     ensures ok { OnOk result (IsHead (head_of_tree (tree_view tree.now))
@@ -104,6 +93,22 @@ fn push_head(out: &mut Vec<u8>, tree: &WireTree) -> Result<(), WireError>
     Ok(())
 }
 
+/// Writes the head of a node at the end, and adds its children to what is left to write.
+fn push_node<'a>(
+    out: &mut Vec<u8>,
+    left: &mut Vec<&'a [WireTree]>,
+    node: &'a WireTree,
+) -> Result<(), WireError>
+    ensures ok { OnOk result (IsHead (head_of_tree (tree_view node.now))
+        × (out.new.items ≡ out.old.items ++ head_bytes (head_of_tree (tree_view node.now)))
+        × (map (λ s. trees_view s.now) left.new.items ≡ map (λ s. trees_view s.now) left.old.items ++ children_in (tree_view node.now) ∷ [])) }
+    ensures err { IfErr result (IsUnwritten (tree_view node.now)) }
+{
+    push_head(out, node)?;
+    left.push(node.children.as_slice())?;
+    Ok(())
+}
+
 /// The bytes that spell the tree.
 ///
 /// Refuses with `TooLong` exactly where an id, metadata or a list of children in the tree has 2^32 or more.
@@ -112,6 +117,13 @@ pub fn write_tree(alloc: Global, tree: &WireTree) -> Result<Vec<u8>, WireError>
     ensures refused { IfErr result (IsUnwritten (tree_view tree.now)) }
 {
     let mut out = Vec::new(alloc);
-    push_node(&mut out, tree)?;
+    let mut left = Vec::new(alloc);
+    push_node(&mut out, &mut left, tree)?;
+    while let Some(nodes) = left.pop() {
+        if let Some((node, others)) = nodes.split_first() {
+            left.push(others)?;
+            push_node(&mut out, &mut left, node)?;
+        }
+    }
     Ok(out)
 }
