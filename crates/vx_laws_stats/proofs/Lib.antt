@@ -1,0 +1,5 @@
+pub mod Extremes
+pub mod LeafFacts
+pub mod LeafPaths
+pub mod HonestBlocks
+pub mod BuiltZones

@@ -1,0 +1,2 @@
+pub mod BuiltStatistics
+pub mod BuiltLaws
