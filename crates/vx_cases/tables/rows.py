@@ -11,6 +11,7 @@ import os
 import subprocess
 import sys
 
+import generated
 from wire import ROOT, TRUE, binary, cast, contains, item, like, lit, merge, negated, node, pack, request, select, struct
 
 CRATES = os.path.dirname(os.path.dirname(os.path.dirname(os.path.abspath(__file__))))
@@ -259,6 +260,16 @@ WORDS = [
     ("a type of depth 65", ["text", "cast(x, %sbool%s)" % ("list(" * 64, ")" * 64)], b"", "error: NotSerializable", 4),
     ("a query without its word", ["text"], b"", "error: Usage", 2),
     ("a query that isn't UTF-8", ["text", b"\xff"], b"", "error: Usage", 2),
+    ("no generated row", ["gen", "0"], b"", "blocks 0 skipped 0 rows 0 sum 0", 0),
+    ("four generated rows", ["gen", "4"], b"", "blocks 1 skipped 0 rows 1 sum 3", 0),
+    ("200 generated rows", ["gen", "200"], b"", "blocks 4 skipped 1 rows 45 sum 6730", 0),
+    *(("%d generated rows" % n, ["gen", str(n)], b"", generated.line(n), 0) for n in [1, 10, 63, 64, 65, 128, 129, 1_000]),
+    *(("200,000 generated rows", ["gen", "200000"], b"", generated.line(200_000), 0) for _ in range(2)),
+    *(("generated rows %s" % word, ["gen", word], b"", "error: Usage", 2)
+      for word in ["007", "00", "", "+1", "-1", "200001", "1000000", "99999999999999999999999", "1 ", "1_0", "x", "٣"]),
+    ("generated rows without their number", ["gen"], b"", "error: Usage", 2),
+    ("generated rows of two numbers", ["gen", "1", "1"], b"", "error: Usage", 2),
+    ("generated rows of no input", ["gen", "4"], b"{", "blocks 1 skipped 0 rows 1 sum 3", 0),
     ("the version", ["--version"], b"", "vx 0.1.0", 0),
 ]
 

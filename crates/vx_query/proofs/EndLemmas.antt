@@ -4,7 +4,7 @@ use Rattle.vx_dtype.specs.Types.{Bytes}
 use Rattle.vx_scan.specs.Stores.{Seen}
 use Rattle.vx_io.specs.Counts.{one_more}
 use Rattle.vx_query.specs.Refusals.{text_refusal_name}
-use Rattle.vx_query.specs.Running.{End, Form, scan_form, explain_form, show_form, text_form, help_form, version_form, help_text, version_text, reads_request, shown_word, asked_query, Outcome, misused, helped, versioned, out_of_memory, unread, refused, unscanned, broken, answered, explained, undecoded, unshown, shown, unnamed, unserialized, overlong, named, Writing, whole, cut, IsOutcome, IsWriting, IsRun, status_of, text_of, used_by}
+use Rattle.vx_query.specs.Running.{End, Form, scan_form, explain_form, show_form, text_form, gen_form, help_form, version_form, help_text, version_text, reads_request, shown_word, asked_query, asked_rows, Outcome, misused, helped, versioned, out_of_memory, unread, refused, unscanned, broken, answered, explained, undecoded, unshown, shown, unnamed, unserialized, overlong, named, summed, Writing, whole, cut, IsOutcome, IsWriting, IsRun, status_of, text_of, used_by}
 use Rattle.vx_query.specs.Causes.{HasRisen, IsCut, IsUnread, IsWithoutMemory, IsTold, IsUndigited, IsUnshown, IsUnnamed}
 use Rattle.vx_query.proofs.FormLemmas.{scans_hold, others_take_nothing}
 use Rattle.vx_query.proofs.RequestEnds.{not_none}
@@ -37,6 +37,7 @@ source_unread form i i' o o' used run = by run.outcome run.writing run.comes run
     by unserialized whole comes written held = absurd (omega (arith, written.0))
     by overlong whole comes written held = absurd (omega (arith, written.0))
     by (named e) whole comes written held = absurd (omega (arith, written.0))
+    by (summed rows) whole comes written held = absurd (omega (arith, written.0))
 
 -- a sink that failed
 pub sink_cut : (form : Option Form) (i i' o o' : End) (used : Option Seen) → IsRun form i i' o o' used 7 → IsCut form i i' o o' used
@@ -62,6 +63,7 @@ sink_cut form i i' o o' used run = by run.outcome run.writing run.comes run.writ
     by unserialized whole comes written held = absurd (omega (arith, written.0))
     by overlong whole comes written held = absurd (omega (arith, written.0))
     by (named e) whole comes written held = absurd (omega (arith, written.0))
+    by (summed rows) whole comes written held = absurd (omega (arith, written.0))
 
 -- want of memory
 pub without_any : (form : Option Form) (i i' o o' : End) (used : Option Seen) → IsRun form i i' o o' used 8 → IsWithoutMemory form i i' o o' used
@@ -87,6 +89,7 @@ without_any form i i' o o' used run = by run.outcome run.writing run.comes run.w
     by unserialized whole comes written held = absurd (omega (arith, written.0))
     by overlong whole comes written held = absurd (omega (arith, written.0))
     by (named e) whole comes written held = absurd (omega (arith, written.0))
+    by (summed rows) whole comes written held = absurd (omega (arith, written.0))
 
 -- a count that stayed hasn't risen, where it isn't at its last value
 stayed : (i i' : End) → i.faults < 2 ^ 64 - 1 → i'.faults ≡ i.faults → ¬ (HasRisen i i')
@@ -123,6 +126,7 @@ risen_unread form i i' o o' used status below risen quiet run = by run.outcome r
     by unserialized whole comes written = kept comes.1
     by overlong whole comes written = kept comes.1
     by (named e) whole comes written = kept comes.1
+    by (summed rows) whole comes written = kept comes.1
 
 -- ---- help, and the version
 
@@ -147,7 +151,10 @@ help_told i i' o o' used status run quiet = by run.outcome run.writing run.comes
     by versioned whole comes written held = absurd (other_form comes.0)
     by out_of_memory whole comes written held = elim comes [
       | inl part ↦ absurd (true≢false (sym part.0))
-      | inr word ↦ elim word.0.1 [ inl shows ↦ absurd (not_none (sym shows)) | inr asks ↦ absurd (not_none (sym asks)) ]
+      | inr given ↦ elim given.0 [
+        | inl word ↦ elim word.1 [ inl shows ↦ absurd (not_none (sym shows)) | inr asks ↦ absurd (not_none (sym asks)) ]
+        | inr rows ↦ absurd (not_none (sym rows.1))
+      ]
     ]
     by unread whole comes written held = absurd (true≢false (sym comes.0))
     by (refused input e) whole comes written held = absurd (true≢false (sym comes.0))
@@ -162,6 +169,7 @@ help_told i i' o o' used status run quiet = by run.outcome run.writing run.comes
     by unserialized whole comes written held = absurd (not_none (sym comes.0.2))
     by overlong whole comes written held = absurd (not_none (sym comes.0.2))
     by (named e) whole comes written held = absurd (not_none (sym comes.0.1))
+    by (summed rows) whole comes written held = absurd (not_none (sym (ap asked_rows comes.0)))
 
 pub version_told : (i i' o o' : End) (used : Option Seen) (status : ℕ) → IsRun (Some version_form) i i' o o' used status → ¬ (HasRisen o o')
     → IsTold version_text i i' o o' used status
@@ -176,7 +184,10 @@ version_told i i' o o' used status run quiet = by run.outcome run.writing run.co
     by versioned whole comes written held = record { ends = written.0; written = written.1.0; untaken = comes.1; unheld = held }
     by out_of_memory whole comes written held = elim comes [
       | inl part ↦ absurd (true≢false (sym part.0))
-      | inr word ↦ elim word.0.1 [ inl shows ↦ absurd (not_none (sym shows)) | inr asks ↦ absurd (not_none (sym asks)) ]
+      | inr given ↦ elim given.0 [
+        | inl word ↦ elim word.1 [ inl shows ↦ absurd (not_none (sym shows)) | inr asks ↦ absurd (not_none (sym asks)) ]
+        | inr rows ↦ absurd (not_none (sym rows.1))
+      ]
     ]
     by unread whole comes written held = absurd (true≢false (sym comes.0))
     by (refused input e) whole comes written held = absurd (true≢false (sym comes.0))
@@ -191,6 +202,7 @@ version_told i i' o o' used status run quiet = by run.outcome run.writing run.co
     by unserialized whole comes written held = absurd (not_none (sym comes.0.2))
     by overlong whole comes written held = absurd (not_none (sym comes.0.2))
     by (named e) whole comes written held = absurd (not_none (sym comes.0.1))
+    by (summed rows) whole comes written held = absurd (not_none (sym (ap asked_rows comes.0)))
 
 -- ---- words and queries that are refused
 
@@ -201,11 +213,22 @@ word_reads_none (Some scan_form) word shows = absurd (not_none (sym shows))
 word_reads_none (Some explain_form) word shows = absurd (not_none (sym shows))
 word_reads_none (Some (show_form showing other)) word shows = refl
 word_reads_none (Some (text_form other)) word shows = refl
+word_reads_none (Some (gen_form rows)) word shows = absurd (not_none (sym shows))
 word_reads_none (Some help_form) word shows = refl
 word_reads_none (Some version_form) word shows = refl
 
 word_holds_none : (form : Option Form) (word : Bytes) → shown_word form ≡ Some word → ¬ (form ≡ Some scan_form)
 word_holds_none form word shows same = not_none (sym shows ∙ ap shown_word same)
+
+word_asks_none : (form : Option Form) (word : Bytes) → shown_word form ≡ Some word → asked_rows form ≡ None
+word_asks_none None word shows = refl
+word_asks_none (Some scan_form) word shows = refl
+word_asks_none (Some explain_form) word shows = refl
+word_asks_none (Some (show_form showing other)) word shows = refl
+word_asks_none (Some (text_form other)) word shows = refl
+word_asks_none (Some (gen_form rows)) word shows = absurd (not_none (sym shows))
+word_asks_none (Some help_form) word shows = refl
+word_asks_none (Some version_form) word shows = refl
 
 pub no_digits_told : (form : Option Form) (word : Bytes) (i i' o o' : End) (used : Option Seen) → shown_word form ≡ Some word
     → IsRun form i i' o o' used 3 → IsUndigited word i i' o o' used
@@ -218,7 +241,7 @@ no_digits_told form word i i' o o' used shows run = by (words.word_end form word
       cause = none;
       written = written;
       untaken = others_take_nothing form i i' o o' used 3 (word_reads_none form word shows) run;
-      unheld = scans_hold form i i' o o' used 3 (word_holds_none form word shows) run;
+      unheld = scans_hold form i i' o o' used 3 (word_holds_none form word shows) (word_asks_none form word shows) run;
     }
     by (words.no_expression e s why written) = absurd (omega (arith, s))
     by (words.told showing e s is spells untaken written held) = absurd (omega (arith, s))
@@ -236,7 +259,7 @@ refused_word_told form word i i' o o' used shows run = by (words.word_end form w
       cause = why;
       written = written;
       untaken = others_take_nothing form i i' o o' used 4 (word_reads_none form word shows) run;
-      unheld = scans_hold form i i' o o' used 4 (word_holds_none form word shows) run;
+      unheld = scans_hold form i i' o o' used 4 (word_holds_none form word shows) (word_asks_none form word shows) run;
     }
     by (words.told showing e s is spells untaken written held) = absurd (omega (arith, s))
 
@@ -251,7 +274,7 @@ refused_query_told query i i' o o' used run = by (queries.query_end query i i' o
     untaken = others_take_nothing (Some (text_form query)) i i' o o' used 4 refl run
 
     unheld : used ≡ None
-    unheld = scans_hold (Some (text_form query)) i i' o o' used 4 (asks_no_scan query) run
+    unheld = scans_hold (Some (text_form query)) i i' o o' used 4 (asks_no_scan query) refl run
 
     by : queries.QueryEnd query i i' o o' used 4 → IsUnnamed query i i' o o' used
     by (queries.cut_off s risen) = absurd (omega (arith, s))

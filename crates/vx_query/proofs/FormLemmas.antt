@@ -1,7 +1,7 @@
 -- What the status of a run tells of the form of its arguments: none, which forms break, hold stores and take nothing; and of faults.
 use Rattle.std.proofs.Common.{◌≡◌, ◌∙◌, sym, ap, refl, ℕ, true, false, Option, Some, None, inl, inr, arith, true≢false}
 use Rattle.vx_scan.specs.Stores.{Seen}
-use Rattle.vx_query.specs.Running.{End, Form, scan_form, explain_form, reads_request, Outcome, misused, helped, versioned, out_of_memory, unread, refused, unscanned, broken, answered, explained, undecoded, unshown, shown, unnamed, unserialized, overlong, named, Writing, whole, cut, IsOutcome, IsWriting, IsRun, status_of, text_of, used_by}
+use Rattle.vx_query.specs.Running.{End, Form, scan_form, explain_form, reads_request, asked_rows, Outcome, misused, helped, versioned, out_of_memory, unread, refused, unscanned, broken, answered, explained, undecoded, unshown, shown, unnamed, unserialized, overlong, named, summed, Writing, whole, cut, IsOutcome, IsWriting, IsRun, status_of, text_of, used_by}
 use Rattle.vx_query.specs.Causes.{HasRisen, IsMisuse}
 use Rattle.vx_query.proofs.RequestEnds.{not_none}
 
@@ -29,6 +29,7 @@ unformed form i i' o o' used run = by run.outcome run.writing run.comes run.writ
     by unserialized whole comes written = absurd (omega (arith, written.0))
     by overlong whole comes written = absurd (omega (arith, written.0))
     by (named e) whole comes written = absurd (omega (arith, written.0))
+    by (summed rows) whole comes written = absurd (omega (arith, written.0))
 
 pub misuses : (i i' o o' : End) (used : Option Seen) (status : ℕ) → IsRun None i i' o o' used status → ¬ (HasRisen o o')
     → IsMisuse i i' o o' used status
@@ -44,7 +45,10 @@ misuses i i' o o' used status run quiet = by run.outcome run.writing run.comes r
     by versioned whole comes written held = absurd (not_none (sym comes.0))
     by out_of_memory whole comes written held = elim comes [
       | inl part ↦ absurd (true≢false (sym part.0))
-      | inr word ↦ elim word.0.1 [ inl shows ↦ absurd (not_none (sym shows)) | inr asks ↦ absurd (not_none (sym asks)) ]
+      | inr given ↦ elim given.0 [
+        | inl word ↦ elim word.1 [ inl shows ↦ absurd (not_none (sym shows)) | inr asks ↦ absurd (not_none (sym asks)) ]
+        | inr rows ↦ absurd (not_none (sym rows.1))
+      ]
     ]
     by unread whole comes written held = absurd (true≢false (sym comes.0))
     by (refused input e) whole comes written held = absurd (true≢false (sym comes.0))
@@ -59,6 +63,7 @@ misuses i i' o o' used status run quiet = by run.outcome run.writing run.comes r
     by unserialized whole comes written held = absurd (not_none (sym comes.0.2))
     by overlong whole comes written held = absurd (not_none (sym comes.0.2))
     by (named e) whole comes written held = absurd (not_none (sym comes.0.1))
+    by (summed rows) whole comes written held = absurd (not_none (sym comes.0))
 
 -- ---- which forms break, hold stores and take nothing
 
@@ -86,13 +91,14 @@ broken_scans form i i' o o' used run = by run.outcome run.writing run.comes run.
     by unserialized whole comes written = absurd (omega (arith, written.0))
     by overlong whole comes written = absurd (omega (arith, written.0))
     by (named e) whole comes written = absurd (omega (arith, written.0))
+    by (summed rows) whole comes written = absurd (omega (arith, written.0))
 
 pub broken_reads : (form : Option Form) (i i' o o' : End) (used : Option Seen) → IsRun form i i' o o' used 5 → reads_request form ≡ true
 broken_reads form i i' o o' used run = ap reads_request (broken_scans form i i' o o' used run)
 
-pub scans_hold : (form : Option Form) (i i' o o' : End) (used : Option Seen) (status : ℕ) → ¬ (form ≡ Some scan_form) → IsRun form i i' o o' used status
-    → used ≡ None
-scans_hold form i i' o o' used status other run = by run.outcome run.comes run.held
+pub scans_hold : (form : Option Form) (i i' o o' : End) (used : Option Seen) (status : ℕ) → ¬ (form ≡ Some scan_form) → asked_rows form ≡ None
+    → IsRun form i i' o o' used status → used ≡ None
+scans_hold form i i' o o' used status other none run = by run.outcome run.comes run.held
   where
     by : (outcome : Outcome) → IsOutcome form i i' outcome → used ≡ used_by outcome → used ≡ None
     by misused comes held = held
@@ -112,6 +118,7 @@ scans_hold form i i' o o' used status other run = by run.outcome run.comes run.h
     by unserialized comes held = held
     by overlong comes held = held
     by (named e) comes held = held
+    by (summed rows) comes held = absurd (not_none (sym (ap asked_rows comes.0) ∙ none))
 
 pub others_take_nothing : (form : Option Form) (i i' o o' : End) (used : Option Seen) (status : ℕ) → reads_request form ≡ false
     → IsRun form i i' o o' used status → i' ≡ i
@@ -138,3 +145,4 @@ others_take_nothing form i i' o o' used status none run = by run.outcome run.com
     by unserialized comes = comes.1
     by overlong comes = comes.1
     by (named e) comes = comes.1
+    by (summed rows) comes = comes.1

@@ -19,3 +19,5 @@ mod ExclusionLemmas
 mod QueryLemmas
 mod ByteLemmas
 mod TextLemmas
+mod RowWordLemmas
+mod GeneratedEnds

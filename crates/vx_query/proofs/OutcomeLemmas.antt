@@ -54,7 +54,7 @@ refused_taken form reads before after input LongPart part taken told = absurd to
 -- a word that is not shown
 word_refused : (form : Option Form) (word : Bytes) → shown_word form ≡ Some word → (source : End) (r : Refusal) → IsWordUnshown word r
     → IsRefused form source source r
-word_refused form word is source NoMemory told = (out_of_memory, inr ((word, inl is), refl), refl, refl, refl)
+word_refused form word is source NoMemory told = (out_of_memory, inr (inl (word, inl is), refl), refl, refl, refl)
 word_refused form word is source ReadFault told = absurd told
 word_refused form word is source InputTooLong told = absurd told
 word_refused form word is source BadJson told = absurd told
@@ -69,7 +69,7 @@ word_refused form word is source LongPart told = absurd told
 
 -- a query that has no bytes
 query_refused : (query : Bytes) (source : End) (r : Refusal) → IsQueryRefused query r → IsRefused (Some (text_form query)) source source r
-query_refused query source NoMemory told = (out_of_memory, inr ((query, inr refl), refl), refl, refl, refl)
+query_refused query source NoMemory told = (out_of_memory, inr (inl (query, inr refl), refl), refl, refl, refl)
 query_refused query source ReadFault told = absurd told
 query_refused query source InputTooLong told = absurd told
 query_refused query source BadJson told = absurd told
@@ -156,6 +156,13 @@ pub run_of : (form : Option Form) (i i' o o' : End) (used : Option Seen) (status
     → (writing : Writing) × IsWriting o o' (text_of outcome) (status_of outcome) status writing → IsRun form i i' o o' used status
 run_of form i i' o o' used status outcome comes held (writing, written) =
     record { outcome = outcome; comes = comes; writing = writing; written = written; held = held }
+
+-- and of one that is told of another writing of the form
+pub run_told : (form other : Option Form) (i i' o o' : End) (used : Option Seen) (status : ℕ) (outcome : Outcome) → form ≡ other → IsOutcome other i i' outcome
+    → used ≡ used_by outcome
+    → (writing : Writing) × IsWriting o o' (text_of outcome) (status_of outcome) status writing → IsRun form i i' o o' used status
+run_told form other i i' o o' used status outcome is comes held written =
+    run_of form i i' o o' used status outcome (subst (λ f. IsOutcome f i i' outcome) (sym is) comes) held written
 
 -- a run whose answer is a text or a line, and holds no store
 pub run_answered : (form other : Option Form) (i i' o o' : End) (status : ℕ) (answer : Result (String Global) Refusal) → form ≡ other

@@ -1,5 +1,5 @@
 -- Each read of the scan of a request is of a kept block and of a column that the filter or the projection asks.
-use Rattle.std.proofs.Common.{◌≡◌, ◌∙◌, sym, ap, refl, subst, ℕ, Bool, true, false, cond, not, ◌&&◌, ◌||◌, nat_eq, List, [], ◌∷◌, ◌++◌, length, map, Option, Some, Ok, inl, inr}
+use Rattle.std.proofs.Common.{◌≡◌, ◌∙◌, sym, ap, refl, subst, ℕ, Bool, true, false, cond, not, ◌&&◌, ◌||◌, nat_eq, List, [], ◌∷◌, ◌++◌, length, map, Option, Some, Ok, inl, inr, true≢false}
 use Rattle.std.specs.List.{flat_map, list_all, list_any, AllByRecursion}
 use Rattle.std.specs.Str.{bytes_eq}
 use Rattle.std.proofs.lemmas.Bool.{and_from, or_left, or_right}
@@ -28,7 +28,7 @@ use Rattle.vx_scan.proofs.AskedLemmas.{all_so, all_passing, all_here, number_its
 use Rattle.vx_scan.proofs.BlockLemmas.{table_lengths}
 use Rattle.vx_request.specs.Requests.{RequestedScan, request_of}
 use Rattle.vx_query.specs.BlockAgreement.{agree}
-use Rattle.vx_query.specs.Running.{End, Form, IsTaken, HoldsScan, scan_table, scan_reads, scanned_store, broken_store, Outcome, misused, helped, versioned, out_of_memory, unread, refused, unscanned, broken, answered, explained, undecoded, unshown, shown, unnamed, unserialized, overlong, named, IsOutcome, IsRun, used_by}
+use Rattle.vx_query.specs.Running.{End, Form, reads_request, IsTaken, HoldsScan, scan_table, scan_reads, scanned_store, broken_store, Outcome, misused, helped, versioned, out_of_memory, unread, refused, unscanned, broken, answered, explained, undecoded, unshown, shown, unnamed, unserialized, overlong, named, summed, IsOutcome, IsRun, used_by}
 use Rattle.vx_query.specs.Causes.{store_after, is_needed_read, HasAskedReads}
 use Rattle.vx_query.proofs.CellLemmas.{and_left}
 use Rattle.vx_query.proofs.CauseLemmas.{breaks_by_one}
@@ -69,7 +69,7 @@ further_among : (b : Bool) (further : List Read) → AreAmong (cond b further []
 further_among true further = among_all further
 further_among false further = among_nothing further
 
-blocks_among : (a : RequestedScan) (f p : Tree) (bs : List (ℕ × List Val))
+pub blocks_among : (a : RequestedScan) (f p : Tree) (bs : List (ℕ × List Val))
     → AreAmong (flat_map (block_reads (row_type a.zones.columns) [] f p) bs) (flat_map (block_asked a.zones f p) (map (λ b. b.0) bs))
 blocks_among a f p [] = tt
 blocks_among a f p (b ∷ bs) =
@@ -171,8 +171,8 @@ reads_needed a f p =
 -- ---- the store of a run
 
 pub asked_alone : KeptNumbersAreKeptBlocks → (form : Option Form) (i i' o o' : End) (store : Seen) (status : ℕ)
-    → IsRun form i i' o o' (Some store) status → HasAskedReads i i' store
-asked_alone kept form i i' o o' store status run = by run.outcome run.comes run.held
+    → reads_request form ≡ true → IsRun form i i' o o' (Some store) status → HasAskedReads i i' store
+asked_alone kept form i i' o o' store status reads run = by run.outcome run.comes run.held
   where
     store_of : (input : Bytes) (a : RequestedScan) (f p : Tree) → IsTaken i i' input → HoldsScan input a f p → store ≡ store_after a f p
         → AreAmong store.log (scan_reads a f p) → HasAskedReads i i' store
@@ -219,3 +219,4 @@ asked_alone kept form i i' o o' store status run = by run.outcome run.comes run.
     by unserialized comes held = absurd (not_none held)
     by overlong comes held = absurd (not_none held)
     by (named e) comes held = absurd (not_none held)
+    by (summed rows) comes held = absurd (true≢false (sym reads ∙ ap reads_request comes.0))

@@ -10,7 +10,7 @@ use Rattle.vx_explain.specs.Explanations.{explain_text}
 use Rattle.vx_request.specs.Requests.{RequestedScan, request_of}
 use Rattle.vx_request.specs.declared.errors.RequestError.{RequestError}
 use Rattle.vx_query.specs.Refusals.{request_refusal_name, scan_refusal_name, break_name, refusal_line}
-use Rattle.vx_query.specs.Running.{End, Form, HoldsScan, HoldsRefused, scan_breaks, scan_breaks_by, scan_report, scanned_store, broken_store, scan_form, explain_form, show_form, text_form, help_form, version_form, reads_request, shown_word, asked_query, IsTaken, Outcome, misused, helped, versioned, out_of_memory, unread, refused, unscanned, broken, answered, explained, undecoded, unshown, shown, unnamed, unserialized, overlong, named, Writing, whole, cut, IsOutcome, IsWriting, IsRun, status_of, text_of, used_by}
+use Rattle.vx_query.specs.Running.{End, Form, HoldsScan, HoldsRefused, scan_breaks, scan_breaks_by, scan_report, scanned_store, broken_store, scan_form, explain_form, show_form, text_form, gen_form, help_form, version_form, reads_request, shown_word, asked_query, IsTaken, Outcome, misused, helped, versioned, out_of_memory, unread, refused, unscanned, broken, answered, explained, undecoded, unshown, shown, unnamed, unserialized, overlong, named, summed, Writing, whole, cut, IsOutcome, IsWriting, IsRun, status_of, text_of, used_by}
 use Rattle.vx_query.specs.Causes.{HasRisen}
 
 pub not_none : {X : Type 0} {x : X} → Some x ≡ None → ⊥
@@ -44,6 +44,7 @@ shows_none (Some scan_form) word reads h = not_none (sym h)
 shows_none (Some explain_form) word reads h = not_none (sym h)
 shows_none (Some (show_form showing other)) word reads h = true≢false (sym reads)
 shows_none (Some (text_form other)) word reads h = true≢false (sym reads)
+shows_none (Some (gen_form rows)) word reads h = true≢false (sym reads)
 shows_none (Some help_form) word reads h = true≢false (sym reads)
 shows_none (Some version_form) word reads h = true≢false (sym reads)
 
@@ -53,6 +54,7 @@ asks_none (Some scan_form) query reads h = not_none (sym h)
 asks_none (Some explain_form) query reads h = not_none (sym h)
 asks_none (Some (show_form showing other)) query reads h = true≢false (sym reads)
 asks_none (Some (text_form other)) query reads h = true≢false (sym reads)
+asks_none (Some (gen_form rows)) query reads h = true≢false (sym reads)
 asks_none (Some help_form) query reads h = true≢false (sym reads)
 asks_none (Some version_form) query reads h = true≢false (sym reads)
 
@@ -81,3 +83,4 @@ request_end form i i' o o' used status reads run = by run.outcome run.writing ru
     by unserialized whole comes written held = absurd (asks_none form comes.0.0 reads comes.0.2)
     by overlong whole comes written held = absurd (asks_none form comes.0.0 reads comes.0.2)
     by (named e) whole comes written held = absurd (asks_none form comes.0.0 reads comes.0.1)
+    by (summed rows) whole comes written held = absurd (reads_other form (Some (gen_form rows)) reads refl comes.0)

@@ -1,6 +1,7 @@
 pub mod Reports
 pub mod BlockAgreement
 pub mod Refusals
+pub mod GeneratedWords
 pub mod Running
 pub mod RunViews
 pub mod RefusalViews
@@ -12,3 +13,4 @@ pub mod ExpressionCauses
 pub mod Exactly
 pub mod Exclusions
 pub mod WireLaws
+pub mod GeneratedCauses

@@ -6,7 +6,7 @@ use Rattle.vx_query.specs.Running as running
 use Rattle.vx_query.specs.declared.forms.Showing.{Showing}
 use Rattle.vx_query.specs.declared.forms.Showing.TheVariants.{Line, Tree, Query}
 use Rattle.vx_query.specs.declared.forms.Form.{Form}
-use Rattle.vx_query.specs.declared.forms.Form.TheVariants.{Scan, Explain, Show, Text, Help, Version}
+use Rattle.vx_query.specs.declared.forms.Form.TheVariants.{Scan, Explain, Show, Text, Generated, Help, Version}
 
 -- how an expression is shown, as a value of the code says
 abbrev pub showing_view : Showing → running.Showing
@@ -20,6 +20,7 @@ form_view Scan = running.scan_form
 form_view Explain = running.explain_form
 form_view (Show showing hex) = running.show_form (showing_view showing) hex.now
 form_view (Text query) = running.text_form query.now
+form_view (Generated rows) = running.gen_form rows
 form_view Help = running.help_form
 form_view Version = running.version_form
 

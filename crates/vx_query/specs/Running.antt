@@ -1,6 +1,6 @@
 -- What the program does: the forms of its arguments, how it comes to an end, and what it writes then.
 use Rattle.std.specs.Prelude.{◌≡◌, ◌⊎◌, ℕ, ◌+◌, ◌≤◌, Bool, true, false, ◌&&◌, cond, List, [], ◌∷◌, ◌++◌, length, map, codes, Option, Some, None, Result, Ok}
-use Rattle.std.specs.Prelude.{Err}
+use Rattle.std.specs.Prelude.{Err, option_map}
 use Rattle.std.specs.Str.{bytes_eq}
 use Rattle.vx_dtype.specs.Types.{Bytes, Ty}
 use Rattle.vx_expr.specs.Trees.{Tree}
@@ -26,6 +26,9 @@ use Rattle.vx_scan.specs.Texts.{SpellBoth, AreRefused, SpellsTree, IsTextRefused
 use Rattle.vx_scan.specs.declared.errors.Side.TheVariants.{Text}
 use Rattle.vx_scan.specs.declared.errors.ScanError.{ScanError}
 use Rattle.vx_io.specs.Ends.{TookPart, TookUpTo, Added, AddedPrefix}
+use Rattle.vx_laws_generated.specs.GeneratedLine.{gen_line}
+use Rattle.vx_generated.specs.GeneratedBlocks.{generated_store}
+use Rattle.vx_query.specs.GeneratedWords.{rows_of_word}
 use Rattle.vx_query.specs.Reports.{report_text}
 use Rattle.vx_request.specs.Requests.{RequestedScan, request_of, most_bytes, hex_bytes}
 use Rattle.vx_request.specs.declared.errors.RequestError.{RequestError}
@@ -49,6 +52,7 @@ pub data Form : Type 0 where
   explain_form : Form
   show_form : Showing → Bytes → Form
   text_form : Bytes → Form
+  gen_form : ℕ → Form
   help_form : Form
   version_form : Form
 
@@ -60,11 +64,13 @@ form_named argument =
     (cond (bytes_eq argument (codes "--help")) (Some help_form)
     (cond (bytes_eq argument (codes "--version")) (Some version_form) None)))
 
--- the form that arguments have; any one word may stand behind `show`, `show tree`, `show query` and `text`
+-- the form that arguments have; any one word may stand behind `show`, `show tree`, `show query` and `text`, and one that tells a number of rows behind `gen`
 abbrev pub form_of : List Bytes → Option Form
 form_of (argument ∷ []) = form_named argument
 form_of (first ∷ word ∷ []) =
-    cond (bytes_eq first (codes "show")) (Some (show_form as_line word)) (cond (bytes_eq first (codes "text")) (Some (text_form word)) None)
+    cond (bytes_eq first (codes "show")) (Some (show_form as_line word))
+    (cond (bytes_eq first (codes "text")) (Some (text_form word))
+    (cond (bytes_eq first (codes "gen")) (option_map gen_form (rows_of_word word)) None))
 form_of (first ∷ second ∷ word ∷ []) =
     cond (bytes_eq first (codes "show") && bytes_eq second (codes "tree")) (Some (show_form as_tree word))
     (cond (bytes_eq first (codes "show") && bytes_eq second (codes "query")) (Some (show_form as_query word)) None)
@@ -85,6 +91,11 @@ shown_word _ = None
 abbrev pub asked_query : Option Form → Option Bytes
 asked_query (Some (text_form query)) = Some query
 asked_query _ = None
+
+-- the number of rows of the generated table that is to be scanned, where the arguments have that form
+abbrev pub asked_rows : Option Form → Option ℕ
+asked_rows (Some (gen_form rows)) = Some rows
+asked_rows _ = None
 
 -- an end of the program: its bytes, to come or written, where they are told, and how many of its faults were counted
 pub record End : Type 0 where
@@ -193,7 +204,8 @@ scan_breaks_by cause a f p = first_breaks_by cause (row_type a.zones.columns) []
 -- how the program comes to an end: arguments of no form, help, the version, no memory, an input that can't be read, one that is no request, one whose
 -- expressions are refused, one whose scan breaks by a sum or a cast, one that is answered by a report and one by an explanation; a word to be shown that
 -- is no hexadecimal text, one whose bytes spell no expression, and one that is shown; a query that names no expression, one of whose
--- expression there are no bytes, for a type that is too deep or a part that is too long, and one of whose expression the bytes are written
+-- expression there are no bytes, for a type that is too deep or a part that is too long, and one of whose expression the bytes are written; and a generated
+-- table of so many rows that is scanned
 pub data Outcome : Type 0 where
   misused : Outcome
   helped : Outcome
@@ -212,6 +224,7 @@ pub data Outcome : Type 0 where
   unserialized : Outcome
   overlong : Outcome
   named : Tree → Outcome
+  summed : ℕ → Outcome
 
 -- the input was taken to its end, or to one byte more than the most, and no read failed; that many bytes are no request
 pub record IsTaken (before after : End) (input : Bytes) : Type 0 where
@@ -224,11 +237,12 @@ abbrev pub IsPartTaken : End → End → Type 0
 IsPartTaken before after = TookPart (most_bytes + 1) before.bytes after.bytes
 
 -- what was taken where there was no memory: a first part of the input, no read of which failed, by arguments that read a request, and nothing by those
--- that give a word or a query
+-- that give a word, a query or a number of rows
 abbrev pub IsCutShort : Option Form → End → End → Type 0
 IsCutShort form before after =
     ((reads_request form ≡ true) × (IsPartTaken before after × (after.faults ≡ before.faults)))
-    ⊎ (((word : Bytes) × ((shown_word form ≡ Some word) ⊎ (asked_query form ≡ Some word))) × (after ≡ before))
+    ⊎ ((((word : Bytes) × ((shown_word form ≡ Some word) ⊎ (asked_query form ≡ Some word))) ⊎ ((rows : ℕ) × (asked_rows form ≡ Some rows)))
+    × (after ≡ before))
 
 -- what an outcome says of arguments and of the source: arguments that read no request take nothing
 abbrev pub IsOutcome : Option Form → End → End → Outcome → Type 0
@@ -253,6 +267,7 @@ IsOutcome form before after unserialized =
 IsOutcome form before after overlong =
     ((query : Bytes) × (e : Tree) × (asked_query form ≡ Some query) × Names query e × IsShallow e × IsOverlong e) × (after ≡ before)
 IsOutcome form before after (named e) = ((query : Bytes) × (asked_query form ≡ Some query) × Names query e × HasBytes e) × (after ≡ before)
+IsOutcome form before after (summed rows) = (form ≡ Some (gen_form rows)) × (after ≡ before)
 
 -- the text of `--version`
 abbrev pub version_text : Bytes
@@ -267,10 +282,11 @@ help_text =
     ++ (codes "vx show tree HEX       prints it as a tree, as in: vx show tree 04726f6f740000\n"
     ++ (codes "vx show query HEX      prints the query that names it, as in: vx show query 04726f6f740000\n"
     ++ (codes "vx text QUERY          prints the bytes of the expression that a query names, as in: vx text 'x > 10i32'\n"
+    ++ (codes "vx gen ROWS            prints what the scan of a generated table of so many rows gives, as in: vx gen 200\n"
     ++ (codes "vx --help              prints this text\n"
     ++ (codes "vx --version           prints the version\n"
     ++ (codes "exit status: 0 written whole, 2 wrong arguments, 3 no request or no hex, 4 refused expressions or query, 5 overflow or bad cast,\n"
-    ++ (codes "6 input not read, 7 output not written, 8 no memory\n")))))))))
+    ++ (codes "6 input not read, 7 output not written, 8 no memory\n"))))))))))
 
 -- the exit status of an outcome
 abbrev pub status_of : Outcome → ℕ
@@ -291,6 +307,7 @@ status_of (unnamed e) = 4
 status_of unserialized = 4
 status_of overlong = 4
 status_of (named e) = 0
+status_of (summed rows) = 0
 
 -- the text that an outcome writes
 abbrev pub text_of : Outcome → Bytes
@@ -311,11 +328,13 @@ text_of (unnamed e) = refusal_line (text_refusal_name e)
 text_of unserialized = refusal_line (codes "NotSerializable")
 text_of overlong = refusal_line (codes "TooLong")
 text_of (named e) = bytes_line e
+text_of (summed rows) = gen_line rows
 
--- the store that is held after an outcome: the one that was scanned, where a report was made or a phase broke
+-- the store that is held after an outcome: the one that was scanned, where a report or the line of a generated table was made, or a phase broke
 abbrev pub used_by : Outcome → Option Seen
 used_by (broken cause input a f p) = Some (broken_store a f p)
 used_by (answered input a f p) = Some (scanned_store a f p)
+used_by (summed rows) = Some (generated_store rows)
 used_by _ = None
 
 -- how a text is written: whole, or only a first part of it

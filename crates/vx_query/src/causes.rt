@@ -7,6 +7,7 @@ ghost use Rattle.vx_semantics.specs.Honest.{IsHonest};
 ghost use Rattle.vx_io.specs.Ends.{Added};
 ghost use Rattle.vx_scan.specs.Stores.{Seen};
 ghost use Rattle.vx_explain.specs.Explanations.{explain_text};
+ghost use Rattle.vx_laws_generated.specs.GeneratedLine.{gen_line};
 ghost use Rattle.vx_query.specs.Causes.{HasRisen, IsReported, IsRefused, IsUnscanned, IsBroken, HasBroken, HasAskedReads, IsCut, IsUnread, IsWithoutMemory};
 ghost use Rattle.vx_query.specs.Causes.{TellsScan};
 ghost use Rattle.vx_query.specs.Causes.{told_breaks, told_breaks_by, whole_report};
@@ -14,7 +15,7 @@ ghost use Rattle.vx_query.specs.Exactly.{Tells, RunsWell, EndsWith};
 ghost use Rattle.vx_query.specs.Refusals.{refusal_line, break_name};
 ghost use Rattle.vx_query.specs.WireLaws.{WireLaws};
 ghost use Rattle.vx_query.specs.Running.{End, Form, IsRun, reads_request, scan_table, scan_report, scanned_store, broken_store, bytes_line};
-ghost use Rattle.vx_query.specs.Running.{Showing, scan_form, explain_form, show_form, text_form, shown_text, WordSpells, Names, HasBytes};
+ghost use Rattle.vx_query.specs.Running.{Showing, scan_form, explain_form, show_form, text_form, gen_form, shown_text, WordSpells, Names, HasBytes};
 
 use vx_laws_scan::{kept_numbers_are_kept_blocks, kept_rows_are_all};
 use vx_wire::{one_expression, one_tree};
@@ -72,11 +73,11 @@ pub fn reports_are_typed()
     ensures { (i i' o o' : End) (used : Option Seen) → IsRun (Some scan_form) i i' o o' used 0 → IsReported i i' o o' used }
 {}
 
-/// The store that is held afterwards has just the reads of the scan that the input holds, up to the end of its first phase that
+/// The store that is held after the scan of a request has just the reads of the scan that the input holds, up to the end of its first phase that
 /// breaks where one does: each is of a block that the statistics don't rule out, and of a column that the filter asks or, where
 /// this means true at some row of the block, the projection; and none stands twice.
 pub fn reads_are_asked()
-    ensures { (form : Option Form) (i i' o o' : End) (store : Seen) (status : ℕ) → IsRun form i i' o o' (Some store) status
+    ensures { (form : Option Form) (i i' o o' : End) (store : Seen) (status : ℕ) → reads_request form ≡ true → IsRun form i i' o o' (Some store) status
         → HasAskedReads i i' store }
 {
     kept_numbers_are_kept_blocks();
@@ -85,7 +86,8 @@ pub fn reads_are_asked()
 /// Where there is memory, and no end counts a fault, a run of `scan` over a source that tells its bytes, which hold a scan no
 /// phase of which breaks, ends with 0 and the report of this scan; one of `explain` over bytes that hold a scan with 0 and its
 /// explanation; and one that shows a word whose bytes spell an expression with 0 and the expression's line, tree or query. One
-/// that asks the bytes of a query ends with 0 and the bytes of the expression that the query names, where this has any.
+/// that asks the bytes of a query ends with 0 and the bytes of the expression that the query names, where this has any; and one of
+/// `gen` with 0 and the line of its table, whatever the number of rows.
 pub fn answers_are_complete()
     ensures scan { (i i' o o' : End) (used : Option Seen) (status : ℕ) (told : TellsScan i) → told_breaks told ≡ false
         → RunsWell (Some scan_form) i i' o o' used status → ¬ (HasRisen i i')
@@ -96,6 +98,8 @@ pub fn answers_are_complete()
         → RunsWell (Some (show_form showing word)) i i' o o' used status → EndsWith 0 (shown_text showing e) o o' status }
     ensures text { (query : Bytes) (e : Tree) (i i' o o' : End) (used : Option Seen) (status : ℕ) → Names query e → HasBytes e
         → RunsWell (Some (text_form query)) i i' o o' used status → EndsWith 0 (bytes_line e) o o' status }
+    ensures generated { (rows : ℕ) (i i' o o' : End) (used : Option Seen) (status : ℕ) → RunsWell (Some (gen_form rows)) i i' o o' used status
+        → EndsWith 0 (gen_line rows) o o' status }
 {
     wire_laws();
 }

@@ -1,8 +1,11 @@
 // The forms of the program's arguments.
 ghost use Rattle.std.specs.Prelude.{◌≡◌, map, option_map};
 ghost use Rattle.std.specs.String.{string_bytes};
-ghost use Rattle.vx_query.specs.Running.{form_of};
+ghost use Rattle.vx_query.specs.GeneratedWords.{rows_of_word};
+ghost use Rattle.vx_query.specs.Running.{form_of, gen_form};
 ghost use Rattle.vx_query.specs.RunViews.{form_view};
+
+use crate::row_words::rows_of_word;
 
 /// How an expression is shown.
 #[derive(Clone, Copy)]
@@ -26,6 +29,8 @@ pub(crate) enum Form<'a> {
     Show(Showing, &'a str),
     /// Tells the bytes of the expression that a query names.
     Text(&'a str),
+    /// Scans the generated table of this many rows.
+    Generated(u32),
     /// Tells the forms.
     Help,
     /// Tells the version.
@@ -45,6 +50,7 @@ pub(crate) fn form_of(arguments: &[String]) -> Option<Form<'_>>
             Some(Form::Show(Showing::Line, hex.as_str()))
         }
         [first, query] if first.as_str() == "text" => Some(Form::Text(query.as_str())),
+        [first, word] if first.as_str() == "gen" => generated_form(word.as_str()),
         [first, second, hex] if first.as_str() == "show" && second.as_str() == "tree" => {
             Some(Form::Show(Showing::Tree, hex.as_str()))
         }
@@ -52,5 +58,15 @@ pub(crate) fn form_of(arguments: &[String]) -> Option<Form<'_>>
             Some(Form::Show(Showing::Query, hex.as_str()))
         }
         _ => None,
+    }
+}
+
+/// The form of `gen` with this word, none where the word tells no number of rows.
+fn generated_form<'a>(word: &str) -> Option<Form<'a>>
+    ensures { option_map form_view result ≡ option_map gen_form (rows_of_word word.now) }
+{
+    match rows_of_word(word) {
+        Some(rows) => Some(Form::Generated(rows)),
+        None => None,
     }
 }

@@ -8,11 +8,13 @@ mod endings;
 mod exclusions;
 mod form_causes;
 mod forms;
+mod generated_causes;
 mod queries;
 mod query_causes;
 mod refusal_causes;
 mod refusals;
 mod reports;
+mod row_words;
 mod running;
 mod statuses;
 mod texts;
@@ -28,6 +30,7 @@ pub use form_causes::{
     explanations_are_of_the_request, help_and_version_are_told, refused_words_have_their_causes,
     scans_alone_break_and_hold, shown_texts_are_spelled, usage_exactly,
 };
+pub use generated_causes::generated_scans_are_summed;
 pub use query_causes::{text_is_named_exactly, texts_say_why};
 pub use refusal_causes::{
     bad_hex_exactly, bad_json_exactly, bad_request_exactly, bad_table_exactly,
@@ -35,5 +38,6 @@ pub use refusal_causes::{
     typing_refusals_exactly, wire_refusals_exactly,
 };
 pub use reports::report_text;
+pub use row_words::words_tell_rows;
 pub use running::run;
 pub use vx_io::{Sink, Source};

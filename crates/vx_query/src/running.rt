@@ -1,7 +1,7 @@
 // The program as a call.
 ghost use Rattle.std.specs.Prelude.{◌≡◌, map, option_map, Some, None, IfOk, IfErr, IsErr};
 ghost use Rattle.std.specs.String.{string_bytes};
-ghost use Rattle.vx_query.specs.Running.{Outcome, Writing, IsOutcome, IsRun, IsWriting, end_by, form_of, explain_form, scan_form, status_of, text_of, used_by};
+ghost use Rattle.vx_query.specs.Running.{End, Outcome, Writing, IsOutcome, IsRun, IsWriting, end_by, form_of, explain_form, gen_form, scan_form, status_of, text_of, used_by};
 ghost use Rattle.vx_scan.specs.StoreViews.{store_seen};
 ghost use Rattle.vx_query.specs.EndingViews.{ending_status, ending_text};
 ghost use Rattle.vx_query.specs.RefusalViews.{refusal_status, refusal_text};
@@ -15,6 +15,8 @@ use crate::refusals::Refusal;
 use crate::statuses::{MISUSED, UNWRITTEN, WRITTEN};
 use crate::texts::{explanation, shown};
 use std::alloc::Global;
+use vx_dtype::NoMemory;
+use vx_generated::{GeneratedScan, scan_generated};
 use vx_io::{Sink, Source, read_up_to, write_whole};
 use vx_request::MOST_BYTES;
 use vx_scan::MemoryStore;
@@ -22,7 +24,7 @@ use vx_scan::MemoryStore;
 const USAGE: &str = "error: Usage\n";
 
 const HELP: &str =
-    "vx scan < REQUEST      prints the selected rows, the skipped blocks and the columns read, as in: vx scan < examples/first.json\nvx explain < REQUEST   prints what a scan does with its filter and its projection, as in: vx explain < examples/explain.json\nvx show HEX            prints the expression that the bytes spell, as in: vx show 04726f6f740000\nvx show tree HEX       prints it as a tree, as in: vx show tree 04726f6f740000\nvx show query HEX      prints the query that names it, as in: vx show query 04726f6f740000\nvx text QUERY          prints the bytes of the expression that a query names, as in: vx text 'x > 10i32'\nvx --help              prints this text\nvx --version           prints the version\nexit status: 0 written whole, 2 wrong arguments, 3 no request or no hex, 4 refused expressions or query, 5 overflow or bad cast,\n6 input not read, 7 output not written, 8 no memory\n";
+    "vx scan < REQUEST      prints the selected rows, the skipped blocks and the columns read, as in: vx scan < examples/first.json\nvx explain < REQUEST   prints what a scan does with its filter and its projection, as in: vx explain < examples/explain.json\nvx show HEX            prints the expression that the bytes spell, as in: vx show 04726f6f740000\nvx show tree HEX       prints it as a tree, as in: vx show tree 04726f6f740000\nvx show query HEX      prints the query that names it, as in: vx show query 04726f6f740000\nvx text QUERY          prints the bytes of the expression that a query names, as in: vx text 'x > 10i32'\nvx gen ROWS            prints what the scan of a generated table of so many rows gives, as in: vx gen 200\nvx --help              prints this text\nvx --version           prints the version\nexit status: 0 written whole, 2 wrong arguments, 3 no request or no hex, 4 refused expressions or query, 5 overflow or bad cast,\n6 input not read, 7 output not written, 8 no memory\n";
 
 const VERSION: &str = "vx 0.1.0\n";
 
@@ -32,7 +34,9 @@ const VERSION: &str = "vx 0.1.0\n";
 /// request in it holds; `explain` takes it likewise and writes what this scan does with its filter and its projection.
 /// `show` with one word of hexadecimal digits behind it writes the expression that these bytes spell, `show tree` with one
 /// writes it as a tree, and `show query` with one as the query that names it. `text` with a query behind it writes the bytes of the expression that the query names, two
-/// hexadecimal digits for each. `--help` and `--version` write their texts. These take nothing. The exit status is
+/// hexadecimal digits for each. `gen` with a number of rows behind it, at most 200,000 in decimal digits, scans the generated table of so many rows and
+/// writes how many blocks it has and how many were skipped, how many rows were answered, and the sum of their numbers. `--help` and `--version` write
+/// their texts. These take nothing. The exit status is
 ///
 /// - 0 where the text was written whole;
 /// - 2 where the arguments have none of these forms;
@@ -56,7 +60,7 @@ const VERSION: &str = "vx 0.1.0\n";
 /// Overflow and BadCast. What is shown is refused with `text`. A query is refused with TooLong, BadToken, TooManyTokens,
 /// BadQuery or BadValue, and NotSerializable where a type deeper than 64 stands in it. The lines take no memory.
 ///
-/// Afterwards `used` holds the store that was scanned where a report was made or a phase broke, also where the writing
+/// Afterwards `used` holds the store that was scanned where a report or the line of a generated table was made or a phase broke, also where the writing
 /// failed; its reads are those of the scan, up to and with those of the phase that broke. Else it is none.
 pub fn run<I: Source, O: Sink>(
     alloc: Global,
@@ -76,10 +80,36 @@ pub fn run<I: Source, O: Sink>(
         Some(Form::Explain) => write_answer(output, &explain_input(alloc, input)),
         Some(Form::Show(showing, hex)) => write_answer(output, &shown(alloc, showing, hex)),
         Some(Form::Text(query)) => write_answer(output, &query_bytes(alloc, query)),
+        Some(Form::Generated(rows)) => write_generated(alloc, rows, output, used),
         Some(Form::Scan) => match scan_input(alloc, input, used) {
             Ok(ending) => write(output, ending.text(), ending.status()),
             Err(refusal) => write(output, refusal.line(), refusal.status()),
         },
+    }
+}
+
+/// Scans the generated table of this many rows, writes the line of what the scan gives, and holds the store that was scanned.
+fn write_generated<O: Sink>(
+    alloc: Global,
+    rows: u32,
+    output: &mut O,
+    used: &mut Option<MemoryStore>,
+) -> u8
+    requires { used.old ≡ None }
+    ensures { let sink = end_by O.written O.faults in (source : End) → (outcome : Outcome) × IsOutcome (Some (gen_form rows)) source source outcome
+        × (option_map store_seen used.new ≡ used_by outcome)
+        × ((writing : Writing) × IsWriting (sink output.old) (sink output.new) (text_of outcome) (status_of outcome) result writing) }
+{
+    match scan_generated(alloc, rows) {
+        Ok(scanned) => {
+            let GeneratedScan { line, store } = scanned;
+            *used = Some(store);
+            write(output, line.as_str(), WRITTEN)
+        }
+        Err(NoMemory) => {
+            let refusal = Refusal::NoMemory;
+            write(output, refusal.line(), refusal.status())
+        }
     }
 }
 

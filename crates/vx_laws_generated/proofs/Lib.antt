@@ -1,0 +1,10 @@
+pub mod Ranges
+pub mod Chosen
+pub mod Blocks
+pub mod Lawful
+pub mod HonestBounds
+pub mod Typed
+pub mod Quiet
+pub mod Answered
+pub mod Skipped
+pub mod Summed
