@@ -1,22 +1,20 @@
 -- The entries of a map of annotations: one that is looked up, and one that gets annotations; and sets that are joined.
-use Rattle.std.proofs.Common.{◌≡◌, ◌||◌, ℕ, ◌+◌, ◌<◌, ◌≤◌, nat_eq, Bool, true, false, cond, List, [], ◌∷◌, ◌++◌, length, map, drop, Option, Some, None, option_map, refl, ap, sym, subst, ◌∙◌, true≢false}
+use Rattle.std.proofs.Common.{◌≡◌, ℕ, ◌+◌, ◌<◌, ◌≤◌, nat_eq, Bool, true, false, cond, List, [], ◌∷◌, ◌++◌, length, map, drop, Option, Some, option_map, refl, ap, sym, subst, ◌∙◌, true≢false}
 use Rattle.std.specs.Prelude.{unwrap_or, Decides}
 use Rattle.std.specs.Cmp.{unsigned_Decides}
 use Rattle.std.specs.List.{list_any, slice_get, flat_map}
 use Rattle.std.specs.Map.{lookup}
 use Rattle.std.proofs.Math.ListN.{get_or}
 use Rattle.std.proofs.lemmas.List.{drop_all, drop_more}
-use Rattle.std.proofs.lemmas.Option.{same_Some, none-some}
+use Rattle.std.proofs.lemmas.Option.{same_Some}
 use Rattle.indexmap.specs.IndexMap.{insert_entry}
 use Rattle.vx_expr.specs.Children.{one_of}
 use Rattle.vx_expr.specs.Equal.{tree_eq}
 use Rattle.vx_expr.specs.EqualLaws.{tree_decides}
 use Rattle.vx_expr.specs.Trees.{Tree}
 use Rattle.vx_passes.specs.Annotating.{Entry, entry_of, joined_sets, with_annotations}
-use Rattle.vx_transform.proofs.RebuildLemmas.{left_step}
 use Rattle.vx_partition.specs.Entries.{held_at, AreAtNumbers, IsSound, Extends, numbered_entries}
 use Rattle.vx_partition.specs.Numbering.{known, AreNumbersOf, IsNumbering, KeepsNumbers, Grows}
-use Rattle.vx_partition.specs.Views.{has_entry}
 use Rattle.vx_partition.specs.declared.numbered.Annotated.{Annotated}
 use Rattle.vx_partition.specs.declared.numbered.NumberedAnnotations.{NumberedAnnotations}
 

@@ -1,7 +1,7 @@
 -- A map keyed by expressions: what is looked up in it, and how the entries under numbers make it.
-use Rattle.std.proofs.Common.{◌≡◌, ◌||◌, ℕ, nat_eq, Bool, true, false, cond, List, [], ◌∷◌, ◌++◌, map, Option, Some, None, option_map, refl, ap, sym, subst, ◌∙◌, append_assoc, append-nil, true≢false}
+use Rattle.std.proofs.Common.{◌≡◌, ◌||◌, ℕ, nat_eq, Bool, true, false, cond, List, [], ◌∷◌, ◌++◌, map, Option, Some, option_map, refl, ap, sym, subst, ◌∙◌, append_assoc, append-nil, true≢false}
 use Rattle.std.specs.Prelude.{unwrap_or, is_some}
-use Rattle.std.specs.List.{list_any, slice_get, AllByRecursion, IsDistinct}
+use Rattle.std.specs.List.{slice_get, AllByRecursion, IsDistinct}
 use Rattle.std.specs.Map.{lookup, keys_of}
 use Rattle.indexmap.specs.IndexMap.{insert_entry}
 use Rattle.vx_expr.specs.Equal.{tree_eq}

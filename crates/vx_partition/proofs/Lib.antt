@@ -3,7 +3,7 @@ mod TableLemmas
 mod EntryLemmas
 mod KeyLemmas
 mod StackLemmas
-mod ChildLemmas
+mod WalkLemmas
 mod VisitLemmas
 mod ScopeLemmas
 mod ShareLemmas

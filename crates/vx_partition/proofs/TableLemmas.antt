@@ -1,5 +1,5 @@
 -- Tables of numbered expressions: what an entry says, and what an entry that is new adds.
-use Rattle.std.proofs.Common.{◌≡◌, ℕ, zero, suc, ◌+◌, Bool, true, false, cond, List, [], ◌∷◌, ◌++◌, length, take, Option, Some, None, ◌⊎◌, inl, inr, refl, sym, ap, subst, ◌∙◌, true≢false}
+use Rattle.std.proofs.Common.{◌≡◌, ℕ, zero, suc, Bool, true, false, cond, List, [], ◌∷◌, ◌++◌, length, Option, Some, None, ◌⊎◌, inl, inr, refl, sym, ap, subst, ◌∙◌, true≢false}
 use Rattle.std.specs.List.{slice_get}
 use Rattle.std.specs.Map.{lookup, lookup_key}
 use Rattle.std.proofs.lemmas.Option.{same_Some, none-some}
@@ -7,10 +7,9 @@ use Rattle.indexmap.specs.IndexMap.{insert_entry}
 use Rattle.vx_expr.specs.Equal.{tree_eq}
 use Rattle.vx_expr.specs.EqualLaws.{tree_decides}
 use Rattle.vx_expr.specs.Trees.{Tree, children_of}
-use Rattle.vx_partition.specs.Numbering.{over_numbers, exprs_of, AreNumbersOf, IsNumbering, KeepsNumbers, Grows}
+use Rattle.vx_partition.specs.Numbering.{over_numbers, exprs_of, AreNumbersOf, AreNumbered, IsNumbering, KeepsNumbers, Grows}
 use Rattle.vx_partition.specs.declared.numbers.Numbered.{Numbered}
 use Rattle.vx_partition.specs.declared.numbers.Numbers.{Numbers}
-use Rattle.vx_transform.proofs.RebuildLemmas.{taken_step}
 use Rattle.vx_partition.proofs.NumberLemmas.{same_numbers, same_node}
 
 -- ---- lists
@@ -45,12 +44,22 @@ kept_numbers old new [] (e ∷ es) kept h = absurd h
 kept_numbers old new (n ∷ ns) [] kept h = absurd h
 kept_numbers old new (n ∷ ns) (e ∷ es) kept h = (kept n e h.0, kept_numbers old new ns es kept h.1)
 
-one_more : (known : List Tree) (ns : List ℕ) (es : List Tree) (n : ℕ) (e : Tree) → AreNumbersOf known ns es → slice_get known n ≡ Some e
-    → AreNumbersOf known (ns ++ n ∷ []) (es ++ e ∷ [])
-one_more known [] [] n e h at = (at, tt)
-one_more known [] (d ∷ es) n e h at = absurd h
-one_more known (m ∷ ns) [] n e h at = absurd h
-one_more known (m ∷ ns) (d ∷ es) n e h at = (h.0, one_more known ns es n e h.1 at)
+-- one more expression with its number behind those of a list
+pub numbered_more : (known : List Tree) (xs ys : List (Tree × ℕ)) (e : Tree) (n : ℕ) → ys ≡ xs ++ (e, n) ∷ [] → AreNumbered known xs → slice_get known n ≡ Some e → AreNumbered known ys
+numbered_more known xs ys e n is h at = subst (AreNumbered known) (sym is) (behind xs h)
+  where
+    behind : (zs : List (Tree × ℕ)) → AreNumbered known zs → AreNumbered known (zs ++ (e, n) ∷ [])
+    behind [] h = (at, tt)
+    behind (z ∷ zs) h = (h.0, behind zs h.1)
+
+-- the last expression of a list has its number, and so have the others
+pub numbered_last : (known : List Tree) (xs ys : List (Tree × ℕ)) (e : Tree) (n : ℕ) → ys ≡ xs ++ (e, n) ∷ [] → AreNumbered known ys
+    → AreNumbered known xs × (slice_get known n ≡ Some e)
+numbered_last known xs ys e n is h = apart xs (subst (AreNumbered known) is h)
+  where
+    apart : (zs : List (Tree × ℕ)) → AreNumbered known (zs ++ (e, n) ∷ []) → AreNumbered known zs × (slice_get known n ≡ Some e)
+    apart [] h = (tt, h.0)
+    apart (z ∷ zs) h = let rest = apart zs h.1 in ((h.0, rest.0), rest.1)
 
 -- the number at a place is that of the expression there
 pub number_of_place : (known : List Tree) (ns : List ℕ) (es : List Tree) (i n : ℕ) (e : Tree) → AreNumbersOf known ns es
@@ -217,17 +226,6 @@ module _ (nodes : List Node) (is : IsNumbering nodes) (key : Tree) (v : Numbered
 
     pub new_number : slice_get (exprs_of new) (length nodes) ≡ Some v.expr
     new_number = expr_at new (length nodes) (key, v) (ap (λ rs. slice_get rs (length nodes)) (sym new_is) ∙ last_at nodes (key, v))
-
--- ---- the children, place by place
-
-module _ (old new : List Tree) (kept : KeepsNumbers old new) (ns ns_with : List ℕ) (cs : List Tree) (i : ℕ) where
-  -- with the number of the next child
-  pub next_numbered : AreNumbersOf old ns (take i cs) → (n : ℕ) (c : Tree) → slice_get cs i ≡ Some c → slice_get new n ≡ Some c → ns_with ≡ ns ++ n ∷ []
-      → AreNumbersOf new ns_with (take (i + 1) cs)
-  next_numbered so_far n c at number is =
-      subst (λ ks. AreNumbersOf new ks (take (i + 1) cs)) (sym is)
-      (subst (AreNumbersOf new (ns ++ n ∷ [])) (sym (taken_step cs i c at))
-      (one_more new ns (take i cs) n c (kept_numbers old new ns (take i cs) kept so_far) number))
 
 pub grows_on : (old mid new : Numbers) → Grows old mid → Grows mid new → Grows old new
 grows_on old mid new first second = record { numbering = second.numbering; kept = λ n e at. second.kept n e (first.kept n e at) }

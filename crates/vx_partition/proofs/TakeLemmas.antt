@@ -1,21 +1,41 @@
--- Taking parts out of an expression goes by its children.
-use Rattle.std.proofs.Common.{◌≡◌, ℕ, suc, ◌+◌, ◌≤◌, ◌==◌, Bool, List, [], ◌∷◌, ◌++◌, length, take, drop, Option, Some, None, refl, sym, ap, ◌∙◌, append_assoc, append-nil}
-use Rattle.std.specs.Prelude.{unwrap_or}
-use Rattle.std.specs.List.{slice_get}
+-- Taking parts out of an expression goes by its children, node after node from the leaves up.
+use Rattle.std.proofs.Common.{◌≡◌, ℕ, zero, suc, ◌+◌, ◌<◌, ◌≤◌, ◌==◌, Bool, false, List, [], ◌∷◌, ◌++◌, length, take, drop, Option, Some, None, refl, sym, ap, subst, ◌∙◌, arith, true≢false, Bor}
+use Rattle.std.specs.Prelude.{unwrap_or, is_some, option_copied}
 use Rattle.std.specs.Cmp.{unsigned_Decides}
+use Rattle.std.proofs.Math.ListN.{get_or}
+use Rattle.std.proofs.lemmas.List.{drop_all, length-append}
 use Rattle.std.proofs.lemmas.Option.{same_Some, none-some}
-use Rattle.std.proofs.lemmas.List.{drop_all, take_all}
 use Rattle.vx_dtype.specs.Types.{Bytes}
-use Rattle.vx_expr.specs.Trees.{Tree, root, literal, get_item, binary, not_of, is_null_of, like, between, cast, list_contains, pack, merge, select, dynamic, Trees, no_trees, tree, trees_of, listed, children_of}
 use Rattle.vx_expr.specs.Children.{one_of, where_so}
+use Rattle.vx_expr.specs.PostOrders.{post_order, post_order_all}
+use Rattle.vx_expr.specs.Trees.{Tree, root, literal, get_item, binary, not_of, is_null_of, like, between, cast, list_contains, pack, merge, select, dynamic}
+use Rattle.vx_expr.specs.Trees.{Trees, no_trees, tree, trees_of, listed, children_of}
 use Rattle.vx_passes.specs.Annotating.{Entry, entry_of}
 use Rattle.vx_passes.specs.Splitting.{Share, Taken, AllTaken, parts_count, with_part, part_access, part_or_below, over_list, before_others, taken_from, all_taken_from}
-use Rattle.vx_transform.specs.Rebuilds.{with_these}
-use Rattle.vx_transform.proofs.RebuildLemmas.{left_step, with_own}
-use Rattle.vx_partition.specs.Takings.{taken_as, ListTaken, put_before, taken_first, taken_in_turn, over_these, taken_below}
+use Rattle.vx_transform.specs.Rebuilds.{OneByOne, or_same, all_or_same}
+use Rattle.vx_transform.proofs.LoopLemmas.{as_many as one_value_each}
+use Rattle.vx_transform.proofs.RebuildLemmas.{as_many_or_same}
+use Rattle.vx_partition.specs.Takings.{taken_as, ListTaken, put_before, taken_in_turn, taken_below, looked_below, taken_node, looked_expr, below_looked, HasPart, Looks}
+use Rattle.vx_partition.specs.declared.taking.LookedAt.{LookedAt}
+use Rattle.vx_partition.proofs.WalkLemmas.{children_have_fewer, none_has_fewer, Midway, begun, is_right, has_room, values_below, gone_on, one_left, whole_valued, whole_holds, next_element}
 
 with_as_many : (m n : ℕ) (made other : Tree) → m ≡ n → unwrap_or (where_so (m == n) made) other ≡ made
 with_as_many m n made other e = ap (λ b. unwrap_or (where_so b made) other) ((unsigned_Decides m n).1 e)
+
+-- lists with equally long fronts are the same in front and behind
+same_front : (xs ys us vs : List Tree) → length xs ≡ length ys → xs ++ us ≡ ys ++ vs → (xs ≡ ys) × (us ≡ vs)
+same_front [] [] us vs many h = (refl, h)
+same_front [] (y ∷ ys) us vs many h = absurd (omega (arith, many))
+same_front (x ∷ xs) [] us vs many h = absurd (omega (arith, many))
+same_front (x ∷ xs) (y ∷ ys) us vs many h =
+    let first : x ≡ y = cc in
+    let others : xs ++ us ≡ ys ++ vs = cc in
+    let fewer : length xs ≡ length ys = omega (arith, many) in
+    let rest = same_front xs ys us vs fewer others in (ap (λ z. z ∷ xs) first ∙ ap (λ zs. y ∷ zs) rest.0, rest.1)
+
+-- expressions and the shares then
+abbrev listed_as : {A : Type 0} → List Tree → List (Share A) → ListTaken A
+listed_as es ss = record { expressions = es; shares = ss }
 
 module _ {A : Type 0} (same : A → A → Bool) (text : A → Bytes) (m : List (Entry A)) where
   -- as a list of the tree's own
@@ -73,51 +93,140 @@ module _ {A : Type 0} (same : A → A → Bool) (text : A → Bytes) (m : List (
   one_part e (x ∷ []) a below ss h = ap (λ b. taken_as (part_access (text b) (parts_count same b ss)) (with_part same b e ss)) (same_Some x a h)
   one_part e (x ∷ y ∷ xs) a below ss h = absurd (none-some a h)
 
-  -- where the entry has not exactly one annotation the children are looked at
-  pub is_below : (e : Tree) (ss : List (Share A)) (o : Option A) → o ≡ one_of (entry_of e m) → o ≡ None → taken_from same text m e ss ≡ taken_below same text m e ss
-  is_below e ss o is none = by_children e ss ∙ no_part e (entry_of e m) (taken_below same text m e) ss (sym is ∙ none)
+  -- what a node becomes by the one annotation of its entry, if it has one, and by what those below it become
+  node_at : (e : Tree) (o : Option A) (ss : List (Share A)) → o ≡ one_of (entry_of e m)
+      → taken_from same text m e ss
+      ≡ taken_node same text e o ((taken_in_turn same text m (looked_below o e) ss).expressions) ((taken_in_turn same text m (looked_below o e) ss).shares)
+  node_at e None ss is = by_children e ss ∙ no_part e (entry_of e m) (taken_below same text m e) ss (sym is)
+  node_at e (Some a) ss is = by_children e ss ∙ one_part e (entry_of e m) a (taken_below same text m e) ss (sym is)
 
-  -- else the expression is a part
-  pub is_part : (e : Tree) (ss : List (Share A)) (a : A) (made : Tree) (ss_with : List (Share A)) → Some a ≡ one_of (entry_of e m)
-      → made ≡ part_access (text a) (parts_count same a ss) → ss_with ≡ with_part same a e ss → taken_from same text m e ss ≡ taken_as made ss_with
-  is_part e ss a made ss_with is is_made is_with =
-      by_children e ss ∙ one_part e (entry_of e m) a (taken_below same text m e) ss (sym is)
-      ∙ ap (λ d. taken_as d (with_part same a e ss)) (sym is_made) ∙ ap (taken_as made) (sym is_with)
+  in_turn_more : (es ds : List Tree) (ss : List (Share A))
+      → taken_in_turn same text m (es ++ ds) ss
+      ≡ put_before ((taken_in_turn same text m es ss).expressions) (taken_in_turn same text m ds ((taken_in_turn same text m es ss).shares))
+  in_turn_more [] ds ss = refl
+  in_turn_more (e ∷ es) ds ss = let x = taken_from same text m e ss in ap (put_before (x.expression ∷ [])) (in_turn_more es ds x.shares)
 
-  -- ---- the children, place by place
+  -- the node after those below it
+  pub node_taken : (before : List Tree) (e : Tree) (o : Option A) (start old new : List (Share A)) (bs cs : List Tree) (d : Tree) → o ≡ one_of (entry_of e m)
+      → length bs ≡ length before → taken_in_turn same text m (before ++ looked_below o e) start ≡ listed_as (bs ++ cs) old
+      → taken_node same text e o cs old ≡ taken_as d new → taken_in_turn same text m (before ++ e ∷ []) start ≡ listed_as (bs ++ d ∷ []) new
+  node_taken before e o start old new bs cs d is many so_far became =
+      let x = taken_in_turn same text m before start in
+      let y = taken_in_turn same text m (looked_below o e) x.shares in
+      let parted : put_before x.expressions y ≡ listed_as (bs ++ cs) old = sym (in_turn_more before (looked_below o e) start) ∙ so_far in
+      let both = same_front x.expressions bs y.expressions cs (as_many before start ∙ sym many) (ap (λ z. z.expressions) parted) in
+      let made : taken_from same text m e x.shares ≡ taken_as d new =
+      node_at e o x.shares is ∙ ap (λ ds. taken_node same text e o ds y.shares) both.1 ∙ ap (λ z. taken_node same text e o cs z.shares) parted ∙ became in
+      in_turn_more before (e ∷ []) start
+      ∙ ap (λ z. listed_as (x.expressions ++ z.expression ∷ []) z.shares) made
+      ∙ ap (λ ds. listed_as (ds ++ d ∷ []) new) both.0
 
-  module _ (cs : List Tree) (i : ℕ) (start ss : List (Share A)) (items : List Tree)
-      (so_far : taken_in_turn same text m cs start ≡ put_before items (taken_in_turn same text m (drop i cs) ss)) where
-    pub goes_on : (c d : Tree) (ss_with : List (Share A)) (items_with : List Tree) → slice_get cs i ≡ Some c
-        → taken_from same text m c ss ≡ taken_as d ss_with → items_with ≡ items ++ d ∷ []
-        → taken_in_turn same text m cs start ≡ put_before items_with (taken_in_turn same text m (drop (i + 1) cs) ss_with)
-    goes_on c d ss_with items_with at is is_with =
-        let left = taken_in_turn same text m (drop (i + 1) cs) in
-        so_far ∙ ap (λ ds. put_before items (taken_in_turn same text m ds ss)) (left_step cs i c at)
-        ∙ ap (λ x. put_before items (taken_first left x)) is
-        ∙ ap (λ es. record { expressions = es; shares = (left ss_with).shares }) (sym (append_assoc items (d ∷ []) ((left ss_with).expressions)))
-        ∙ ap (λ es. put_before es (left ss_with)) (sym is_with)
+  -- once the expression is all that is looked at
+  pub whole_taken : (e d : Tree) (start ss : List (Share A)) → taken_in_turn same text m (e ∷ []) start ≡ listed_as (d ∷ []) ss → taken_from same text m e start ≡ taken_as d ss
+  whole_taken e d start ss h =
+      ap (λ z. taken_as (first_or e z.expressions) z.shares) h
+    where
+      first_or : Tree → List Tree → Tree
+      first_or d [] = d
+      first_or d (x ∷ xs) = x
 
-    -- past the last child all are looked at
-    all_are : length cs ≤ i → taken_in_turn same text m cs start ≡ record { expressions = items; shares = ss }
-    all_are past =
-        so_far ∙ ap (λ ds. put_before items (taken_in_turn same text m ds ss)) (drop_all i cs past)
-        ∙ ap (λ es. record { expressions = es; shares = ss }) (append-nil items)
+-- ---- the children that are looked at
 
-    pub as_many_made : length cs ≤ i → length items ≡ length cs
-    as_many_made past = sym (ap (λ x. length (x.expressions)) (all_are past)) ∙ as_many cs start
+-- all children of a node that is no part
+pub all_looked_at : {A : Type 0} (o : Option (Bor A)) (e : Tree) → is_some o ≡ false → looked_below (option_copied o) e ≡ children_of e
+all_looked_at None e h = refl
+all_looked_at (Some a) e h = absurd (true≢false h)
 
-  -- the node over what the children became
-  pub over_all : (e : Tree) (i : ℕ) (start ss : List (Share A)) (items : List Tree)
-      → taken_in_turn same text m (children_of e) start ≡ put_before items (taken_in_turn same text m (drop i (children_of e)) ss)
-      → length (children_of e) ≤ i → taken_below same text m e start ≡ taken_as (with_these e items) ss
-  over_all e i start ss items so_far past = ap (over_these e) (all_are (children_of e) i start ss items so_far past)
+-- they have fewer nodes than the node's expression
+pub fewer_looked_at : {A : Type 0} (o : Option A) (e : Tree) → length (post_order_all (trees_of (looked_below o e))) < length (post_order e)
+fewer_looked_at None e = children_have_fewer e
+fewer_looked_at (Some a) e = none_has_fewer e
 
-  -- where no child changed the node stands
-  pub all_stand : (e : Tree) (i : ℕ) (start ss : List (Share A)) (items : List Tree)
-      → taken_in_turn same text m (children_of e) start ≡ put_before items (taken_in_turn same text m (drop i (children_of e)) ss)
-      → length (children_of e) ≤ i → items ≡ take i (children_of e) → taken_below same text m e start ≡ taken_as e ss
-  all_stand e i start ss items so_far past stand =
-      over_all e i start ss items so_far past
-      ∙ ap (λ ds. taken_as (with_these e ds) ss) (stand ∙ take_all i (children_of e) past)
-      ∙ ap (λ d. taken_as d ss) (with_own e)
+-- ---- what the expressions of a list became
+
+-- any value may be one of an expression
+abbrev pub Any : Tree → Option Tree → Type 0
+Any e made = Unit {0}
+
+became_parted : (bs cs : List Tree) (made : List (Option Tree)) (k : ℕ) → OneByOne Any bs (take k made)
+    → all_or_same (bs ++ cs) made ≡ all_or_same bs (take k made) ++ all_or_same cs (drop k made)
+became_parted [] cs made zero h = refl
+became_parted [] cs [] (suc k) h = refl
+became_parted [] cs (m ∷ made) (suc k) h = absurd h
+became_parted (b ∷ bs) cs made zero h = absurd h
+became_parted (b ∷ bs) cs [] (suc k) h = absurd h
+became_parted (b ∷ bs) cs (m ∷ made) (suc k) h = ap (λ ds. or_same b m ∷ ds) (became_parted bs cs made k h.1)
+
+became_more : (bs : List Tree) (made : List (Option Tree)) (e : Tree) (d : Option Tree) → OneByOne Any bs made
+    → all_or_same (bs ++ e ∷ []) (made ++ d ∷ []) ≡ all_or_same bs made ++ or_same e d ∷ []
+became_more [] [] e d h = refl
+became_more [] (m ∷ made) e d h = absurd h
+became_more (b ∷ bs) [] e d h = absurd h
+became_more (b ∷ bs) (m ∷ made) e d h = ap (λ ds. or_same b m ∷ ds) (became_more bs made e d h.1)
+
+module _ {A : Type 0} (same : A → A → Bool) (text : A → Bytes) (m : List (Entry A)) (start : List (Share A)) where
+  -- what was made so far is what these expressions become in turn
+  abbrev pub IsTaken : List (Share A) → List (Option Tree) → List Tree → Type 0
+  IsTaken ss made es = taken_in_turn same text m es start ≡ listed_as (all_or_same es made) ss
+
+  -- the node after those below it, as the loop makes it
+  pub next_taken : (e : Tree) (o : Option A) (old new : List (Share A)) (made more : List (Option Tree)) (k : ℕ) (d : Option Tree) → o ≡ one_of (entry_of e m)
+      → more ≡ take k made ++ d ∷ [] → taken_node same text e o (all_or_same (looked_below o e) (drop k made)) old ≡ taken_as (or_same e d) new
+      → (before : List Tree) → OneByOne Any before (take k made) → IsTaken old made (before ++ looked_below o e) → IsTaken new more (before ++ e ∷ [])
+  next_taken e o old new made more k d is grown became before h so_far =
+      node_taken same text m before e o start old new (all_or_same before (take k made)) (all_or_same (looked_below o e) (drop k made)) (or_same e d) is
+      (as_many_or_same before (take k made)) (so_far ∙ ap (λ ds. listed_as ds old) (became_parted before (looked_below o e) made k h)) became
+      ∙ ap (λ ds. listed_as ds new) (sym (became_more before (take k made) e d h) ∙ ap (all_or_same (before ++ e ∷ [])) (sym grown))
+
+  -- at the end the last that was made is what the expression becomes
+  pub last_taken : (e : Tree) (ss : List (Share A)) (made others : List (Option Tree)) (d : Option Tree) → made ≡ others ++ d ∷ [] → OneByOne Any (e ∷ []) made
+      → IsTaken ss made (e ∷ []) → taken_from same text m e start ≡ taken_as (or_same e d) ss
+  last_taken e ss made [] d is h so = whole_taken same text m e (or_same e d) start ss (so ∙ ap (λ ds. listed_as (all_or_same (e ∷ []) ds) ss) is)
+  last_taken e ss made (o ∷ others) d is h so =
+      let one : length made ≡ 1 = one_value_each Any (e ∷ []) made h in
+      absurd (omega (arith, one, ap length is, length-append others (d ∷ [])))
+
+-- ---- the loop
+
+module _ {A : Type 0} (same : A → A → Bool) (text : A → Bytes) (m : List (Entry A)) (start : List (Share A)) (whole : Tree) where
+  -- the nodes that are left make the expression of those that are looked at, and these become in turn what was made so far
+  abbrev pub MidTake : List (Share A) → List (LookedAt A) → List (Option Tree) → Type 0
+  MidTake ss vs made = Midway looked_expr below_looked (HasPart m) Any (IsTaken same text m start ss made) vs made whole
+
+  pub take_begun : (vs : List (LookedAt A)) (made : List (Option Tree)) → Looks m vs [] whole → made ≡ [] → MidTake start vs made
+  take_begun vs made walk none = begun looked_expr below_looked (HasPart m) Any (IsTaken same text m start start made) vs made whole walk none refl
+
+  module _ (ss : List (Share A)) (nodes : List (LookedAt A)) (i : ℕ) (v : LookedAt A) (made : List (Option Tree)) (within : i < length nodes) (at : v ≡ get_or nodes i v)
+      (h : MidTake ss (drop i nodes) made) where
+    here : MidTake ss (v ∷ drop (i + 1) nodes) made
+    here = subst (λ vs. MidTake ss vs made) (next_element nodes i v within at) h
+
+    pub take_room : length (below_looked v) ≤ length made
+    take_room = has_room looked_expr below_looked (HasPart m) Any (IsTaken same text m start ss made) v (drop (i + 1) nodes) made whole here
+
+    pub made_below : (k : ℕ) → k + length (below_looked v) ≡ length made → length (drop k made) ≡ length (below_looked v)
+    made_below k cut =
+        one_value_each Any (below_looked v) (drop k made)
+        (values_below looked_expr below_looked (HasPart m) Any (IsTaken same text m start ss made) v (drop (i + 1) nodes) made whole here k cut)
+
+    pub take_next : (k : ℕ) → k + length (below_looked v) ≡ length made → (new : List (Share A)) (d : Option Tree) (more : List (Option Tree)) → more ≡ take k made ++ d ∷ []
+        → taken_node same text (looked_expr v) (option_copied v.part_of) (all_or_same (below_looked v) (drop k made)) ss ≡ taken_as (or_same (looked_expr v) d) new
+        → MidTake new (drop (i + 1) nodes) more
+    take_next k cut new d more grown became =
+        gone_on looked_expr below_looked (HasPart m) Any (IsTaken same text m start ss made) v (drop (i + 1) nodes) made whole here k cut
+        Any (IsTaken same text m start new more) d more grown (λ e x a. a) tt
+        (next_taken same text m start (looked_expr v) (option_copied v.part_of) ss new made more k d
+        (is_right looked_expr below_looked (HasPart m) Any (IsTaken same text m start ss made) v (drop (i + 1) nodes) made whole here) grown became)
+
+  module _ (ss : List (Share A)) (nodes : List (LookedAt A)) (i : ℕ) (made : List (Option Tree)) (past : length nodes ≤ i) (h : MidTake ss (drop i nodes) made) where
+    at_end : MidTake ss [] made
+    at_end = subst (λ vs. MidTake ss vs made) (drop_all i nodes past) h
+
+    pub take_one_left : made ≡ [] → ⊥
+    take_one_left = one_left looked_expr below_looked (HasPart m) Any (IsTaken same text m start ss made) made whole at_end
+
+    pub take_ended : (others : List (Option Tree)) (d : Option Tree) → made ≡ others ++ d ∷ [] → taken_from same text m whole start ≡ taken_as (or_same whole d) ss
+    take_ended others d is =
+        last_taken same text m start whole ss made others d is
+        (whole_valued looked_expr below_looked (HasPart m) Any (IsTaken same text m start ss made) made whole at_end)
+        (whole_holds looked_expr below_looked (HasPart m) Any (IsTaken same text m start ss made) made whole at_end)

@@ -1,6 +1,7 @@
 pub mod Numbering
 pub mod Views
 pub mod Entries
+pub mod Walks
 pub mod Visits
 pub mod Scopes
 pub mod Takings

@@ -1,11 +1,14 @@
 -- For the checker: no public clause cites this.
--- Parts taken out of several expressions in turn, and out of the children of a node.
-use Rattle.std.specs.Prelude.{Bool, List, [], ◌∷◌, ◌++◌}
+-- Parts taken out of several expressions in turn, out of the children of a node, and of one node after those below it.
+use Rattle.std.specs.Prelude.{◌≡◌, Bool, List, [], ◌∷◌, ◌++◌, Option, Some, None, option_copied}
 use Rattle.vx_dtype.specs.Types.{Bytes}
+use Rattle.vx_expr.specs.Children.{one_of}
 use Rattle.vx_expr.specs.Trees.{Tree, children_of}
-use Rattle.vx_passes.specs.Annotating.{Entry}
-use Rattle.vx_passes.specs.Splitting.{Share, Taken, taken_from}
+use Rattle.vx_passes.specs.Annotating.{Entry, entry_of}
+use Rattle.vx_passes.specs.Splitting.{Share, Taken, parts_count, with_part, part_access, taken_from}
 use Rattle.vx_transform.specs.Rebuilds.{with_these}
+use Rattle.vx_partition.specs.Walks.{Walks}
+use Rattle.vx_partition.specs.declared.taking.LookedAt.{LookedAt}
 
 -- what an expression became, and the shares then
 abbrev pub taken_as : {A : Type 0} → Tree → List (Share A) → Taken A
@@ -36,3 +39,27 @@ over_these e x = taken_as (with_these e x.expressions) x.shares
 -- what a node becomes by its children alone
 abbrev pub taken_below : {A : Type 0} → (A → A → Bool) → (A → Bytes) → List (Entry A) → Tree → List (Share A) → Taken A
 taken_below same text m e ss = over_these e (taken_in_turn same text m (children_of e) ss)
+
+-- the children that are looked at of a node which becomes the next part of this annotation; none where it becomes a part
+abbrev pub looked_below : {A : Type 0} → Option A → Tree → List Tree
+looked_below None e = children_of e
+looked_below (Some a) e = []
+
+-- what a node becomes which becomes the next part of this annotation, or stays over what its children became
+abbrev pub taken_node : {A : Type 0} → (A → A → Bool) → (A → Bytes) → Tree → Option A → List Tree → List (Share A) → Taken A
+taken_node same text e None cs ss = taken_as (with_these e cs) ss
+taken_node same text e (Some a) cs ss = taken_as (part_access (text a) (parts_count same a ss)) (with_part same a e ss)
+
+-- the expression of a node that is looked at, its children that are, and its annotation, which is the one of its entry, if it has one
+abbrev pub looked_expr : {A : Type 0} → LookedAt A → Tree
+looked_expr v = v.expr.now
+
+abbrev pub below_looked : {A : Type 0} → LookedAt A → List Tree
+below_looked v = looked_below (option_copied v.part_of) v.expr.now
+
+abbrev pub HasPart : {A : Type 0} → List (Entry A) → LookedAt A → Type 0
+HasPart m v = option_copied v.part_of ≡ one_of (entry_of v.expr.now m)
+
+-- the nodes that are left to be looked at
+abbrev pub Looks : {A : Type 0} → List (Entry A) → List (LookedAt A) → List Tree → Tree → Type 0
+Looks m = Walks looked_expr below_looked (HasPart m)

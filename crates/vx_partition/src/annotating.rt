@@ -1,12 +1,11 @@
-// The annotations of an expression and of those below it: one visit down and up.
-ghost use Rattle.std.specs.Prelude.{◌≡◌, ◌++◌, Some, IfOk, OnOk};
+// The annotations of an expression and of those below it: the nodes that are visited, listed from the leaves up, and one loop over them.
+ghost use Rattle.std.specs.Prelude.{◌≡◌, [], ◌++◌, length, map, Some, IfOk, OnOk};
 ghost use Rattle.std.specs.List.{flat_map, slice_get};
-ghost use Rattle.vx_expr.specs.Trees.{children_of};
 ghost use Rattle.vx_passes.specs.Annotating.{annotated, annotated_down, annotated_from, annotated_up};
 ghost use Rattle.vx_partition.specs.Entries.{held_at, IsSound, Extends, numbered_entries};
-ghost use Rattle.vx_partition.specs.Numbering.{known};
+ghost use Rattle.vx_partition.specs.Numbering.{known, AreNumbersOf};
 ghost use Rattle.vx_partition.specs.Views.{entries_view};
-ghost use Rattle.vx_partition.specs.Visits.{visited_in_turn};
+ghost use Rattle.vx_partition.specs.Visits.{visited_below, visited_node, Visits};
 
 use crate::annotation::{Annotation, AnnotationFn};
 use crate::annotations::Annotations;
@@ -46,8 +45,14 @@ pub(crate) fn numbered_annotations<F: AnnotationFn>(
     Ok((found, number))
 }
 
+/// A node that is visited, and the annotations that the rule gives it itself: where it has some, what stands below it is skipped.
+#[derive(Drop)]
+pub(crate) struct Visited<'a, A> {
+    expr: &'a ExprRef,
+    own: Vec<A>,
+}
+
 /// Visits an expression, down and up. Gives its number.
-#[cycle(visits)]
 fn visit<F: AnnotationFn>(
     alloc: Global,
     expr: &ExprRef,
@@ -59,54 +64,99 @@ fn visit<F: AnnotationFn>(
     ensures extended { OnOk result (Extends found.old found.new) }
     ensures number { IfOk result (λ number. slice_get (known found.new.numbers) number ≡ Some expr.now) }
 {
-    let number = visit_down(alloc, expr, annotate, found)?;
-    visit_up(alloc, expr, number, found)?;
-    Ok(number)
-}
-
-/// The way down: what the rule gives the expression itself, or the visits of its children. Gives the expression's number.
-#[cycle(visits)]
-fn visit_down<F: AnnotationFn>(
-    alloc: Global,
-    expr: &ExprRef,
-    annotate: &F,
-    found: &mut NumberedAnnotations<F::Annotation>,
-) -> Mem<usize>
-    requires { IsSound found.old }
-    ensures entries { let rule = F.annotated annotate.now in
-        let below = visited_in_turn F.Annotation.eq rule (children_of expr.now) in
-        OnOk result (numbered_entries found.new ≡ annotated_down F.Annotation.eq expr.now (rule expr.now) below (numbered_entries found.old)) }
-    ensures extended { OnOk result (Extends found.old found.new) }
-    ensures number { IfOk result (λ number. slice_get (known found.new.numbers) number ≡ Some expr.now) }
-{
-    let own = annotate.annotate(alloc, expr)?;
-    if own.is_empty() {
-        return visit_children(alloc, expr, annotate, found);
+    let nodes = visited_nodes(alloc, expr, annotate)?;
+    let mut numbers = Vec::new(alloc);
+    for i in 0..nodes.len() {
+        let node = &nodes[i];
+        let below = numbers.split_off(numbers.len() - visited_count(node))?;
+        numbers.push(visit_node(alloc, node, below, found)?)?;
     }
-    let number = found.numbers.number_whole(alloc, expr)?;
-    found.add(alloc, expr, number, own.as_slice())?;
-    Ok(number)
+    match numbers.pop() {
+        Some(number) => Ok(number),
+        None => unreachable!(),
+    }
 }
 
-/// Visits the children of an expression in order. Gives the expression's number.
-#[cycle(visits)]
-fn visit_children<F: AnnotationFn>(
+/// The nodes of an expression that are visited, each after those below it, children in order.
+fn visited_nodes<'a, F: AnnotationFn>(
     alloc: Global,
-    expr: &ExprRef,
+    expr: &'a ExprRef,
     annotate: &F,
-    found: &mut NumberedAnnotations<F::Annotation>,
-) -> Mem<usize>
-    requires { IsSound found.old }
-    ensures entries { let below = visited_in_turn F.Annotation.eq (F.annotated annotate.now) (children_of expr.now) in
-        OnOk result (numbered_entries found.new ≡ below (numbered_entries found.old)) }
-    ensures extended { OnOk result (Extends found.old found.new) }
-    ensures number { IfOk result (λ number. slice_get (known found.new.numbers) number ≡ Some expr.now) }
+) -> Mem<Vec<Visited<'a, F::Annotation>>>
+    ensures { IfOk result (λ nodes. Visits (F.annotated annotate.now) nodes.items [] expr.now) }
 {
-    let mut below = Vec::new(alloc);
+    let mut nodes = Vec::new(alloc);
+    let mut left = Vec::new(alloc);
+    left.push(expr)?;
+    while let Some(next) = left.pop() {
+        let own = annotate.annotate(alloc, next)?;
+        push_below(&mut left, next, own.as_slice())?;
+        nodes.push(Visited { expr: next, own })?;
+    }
+    nodes.reverse();
+    Ok(nodes)
+}
+
+/// Puts the children of a node, which has these annotations itself, behind the expressions that are left, where they are visited.
+fn push_below<'a, A>(left: &mut Vec<&'a ExprRef>, expr: &'a ExprRef, own: &[A]) -> Mem<()>
+    ensures { OnOk result (map (λ e. e.now) left.new.items ≡ map (λ e. e.now) left.old.items ++ visited_below own.now expr.now) }
+{
+    if !own.is_empty() {
+        return Ok(());
+    }
     for i in 0..expr.children_count() {
-        below.push(visit(alloc, expr.child_at(i), annotate, found)?)?;
+        left.push(expr.child_at(i))?;
     }
-    found.numbers.number(alloc, expr, below)
+    Ok(())
+}
+
+/// How many children of a node are visited.
+fn visited_count<A>(node: &Visited<'_, A>) -> usize
+    ensures { result ≡ length (visited_below node.now.own.items node.now.expr.now) }
+{
+    if node.own.is_empty() {
+        return node.expr.children_count();
+    }
+    0
+}
+
+/// Visits a node, the visited children of which have these numbers. Gives its number.
+fn visit_node<A: Annotation>(
+    alloc: Global,
+    node: &Visited<'_, A>,
+    below: Vec<usize>,
+    found: &mut NumberedAnnotations<A>,
+) -> Mem<usize>
+    requires sound { IsSound found.old }
+    requires below { AreNumbersOf (known found.old.numbers) below.items (visited_below node.now.own.items node.now.expr.now) }
+    ensures entries { OnOk result (numbered_entries found.new ≡ visited_node A.eq node.now.expr.now node.now.own.items (numbered_entries found.old)) }
+    ensures extended { OnOk result (Extends found.old found.new) }
+    ensures number { IfOk result (λ number. slice_get (known found.new.numbers) number ≡ Some node.now.expr.now) }
+{
+    let number = visit_down(alloc, node, below, found)?;
+    visit_up(alloc, node.expr, number, found)?;
+    Ok(number)
+}
+
+/// The way down at a node, the visited children of which have these numbers: what the rule gives the node itself. Gives its number.
+fn visit_down<A: Annotation>(
+    alloc: Global,
+    node: &Visited<'_, A>,
+    below: Vec<usize>,
+    found: &mut NumberedAnnotations<A>,
+) -> Mem<usize>
+    requires sound { IsSound found.old }
+    requires below { AreNumbersOf (known found.old.numbers) below.items (visited_below node.now.own.items node.now.expr.now) }
+    ensures entries { OnOk result (numbered_entries found.new ≡ annotated_down A.eq node.now.expr.now node.now.own.items (λ m. m) (numbered_entries found.old)) }
+    ensures extended { OnOk result (Extends found.old found.new) }
+    ensures number { IfOk result (λ number. slice_get (known found.new.numbers) number ≡ Some node.now.expr.now) }
+{
+    if node.own.is_empty() {
+        return found.numbers.number(alloc, node.expr, below);
+    }
+    let number = found.numbers.number_whole(alloc, node.expr)?;
+    found.add(alloc, node.expr, number, node.own.as_slice())?;
+    Ok(number)
 }
 
 /// The way up: the expression, which has this number, gets what the entries of its children hold.

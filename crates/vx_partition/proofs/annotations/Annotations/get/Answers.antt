@@ -1,4 +1,4 @@
-use Rattle.std.proofs.Common.{Some, None, ap, ◌∙◌}
+use Rattle.std.proofs.Common.{Some, None, ◌∙◌}
 use Rattle.vx_partition.proofs.KeyLemmas.{held_is, known_is}
 use Rattle.vx_partition.proofs.annotations.Annotations.get.Goals as goal
 

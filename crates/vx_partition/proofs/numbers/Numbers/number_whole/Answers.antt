@@ -1,4 +1,4 @@
-use Rattle.std.proofs.Common.{rules, ◌≡◌, ◌<◌, ◌≤◌, ◌+◌, ◌-◌, ◌++◌, [], ◌∷◌, ap, arith, drop, length, map, subst, sym, take, ◌∙◌}
+use Rattle.std.proofs.Common.{rules, ◌≡◌, ◌<◌, ◌≤◌, ◌+◌, ◌-◌, ◌++◌, [], ◌∷◌, ap, arith, drop, length, map, subst, sym, ◌∙◌}
 use Rattle.vx_expr.specs.Trees.{children_of}
 use Rattle.vx_transform.proofs.LoopLemmas.{Midway, begun, gone_on, has_room, last_is_whole, next_node, no_node, some_left, values_below}
 use Rattle.vx_partition.specs.Numbering.{AreNumbersOf, known}
