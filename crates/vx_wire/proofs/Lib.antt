@@ -5,5 +5,6 @@ pub mod LiteralLemmas
 pub mod WireLemmas
 pub mod EverywhereLemmas
 pub mod SerialLemmas
+pub mod NodeLemmas
 pub mod LawLemmas
 pub mod NumberLemmas

@@ -23,7 +23,7 @@ use Rattle.vx_wire.specs.Building.{IsBuilt}
 use Rattle.vx_wire.specs.Serializing.{IsWritten, IsUnwrittenLong, IsUnserialized}
 use Rattle.vx_wire.proofs.FieldLemmas.{texts_bytes-push, texts-push}
 use Rattle.vx_wire.proofs.WireLemmas.{wire_of-children, everywhere}
-use Rattle.vx_wire.proofs.EverywhereLemmas.{both_everywhere, also_everywhere, in_child, left_step}
+use Rattle.vx_wire.proofs.EverywhereLemmas.{both_everywhere, also_everywhere}
 
 -- ---- lists of names
 
@@ -72,49 +72,9 @@ long_name names i name why lt is h = also_long (IsShort name) ((length names < 2
 
 -- ---- nodes
 
-wires_listed : (es : List Tree) → wires_of (trees_of es) ≡ wires_in (map wire_of es)
+pub wires_listed : (es : List Tree) → wires_of (trees_of es) ≡ wires_in (map wire_of es)
 wires_listed [] = refl
 wires_listed (e ∷ es) = ap (first (wire_of e)) (wires_listed es)
-
--- the first children of a node are written, and the others are left
-pub record AreFirstWritten (e : Tree) (i : ℕ) (trees : List WireTree) : Type 0 where
-  pub own : IsWritten e
-  pub form : map tree_view trees ++ map wire_of (drop i (children_of e)) ≡ map wire_of (children_of e)
-  pub written : EverywhereIn IsWritten (trees_of (drop i (children_of e))) → EverywhereIn IsWritten (trees_of (children_of e))
-
-pub children_start : (e : Tree) → IsWritten e → AreFirstWritten e 0 []
-children_start e own = record { own = own; form = refl; written = λ h. h }
-
-map-push : (ts : List WireTree) (t : WireTree) → map tree_view (ts ++ t ∷ []) ≡ map tree_view ts ++ tree_view t ∷ []
-map-push [] t = refl
-map-push (u ∷ ts) t = ap (λ (ns : List Wire). tree_view u ∷ ns) (map-push ts t)
-
-pub children_go_on : (e c : Tree) (i : ℕ) (trees more : List WireTree) (t : WireTree) → slice_get (children_of e) i ≡ Some c → tree_view t ≡ wire_of c → Everywhere IsWritten c → more ≡ trees ++ t ∷ [] → AreFirstWritten e i trees → AreFirstWritten e (i + 1) more
-children_go_on e c i trees more t at form written row w =
-    let step = left_step (children_of e) i c at in
-    let left = map wire_of (drop (i + 1) (children_of e)) in
-    record {
-      own = w.own;
-      form = ap (λ (ts : List WireTree). map tree_view ts ++ left) row ∙ ap (λ (ns : List Wire). ns ++ left) (map-push trees t) ∙ append_assoc (map tree_view trees) (tree_view t ∷ []) left
-          ∙ ap (λ (n : Wire). map tree_view trees ++ n ∷ left) form ∙ ap (λ (ds : List Tree). map tree_view trees ++ map wire_of ds) (sym step) ∙ w.form;
-      written = λ h. w.written (subst (λ ds. EverywhereIn IsWritten (trees_of ds)) (sym step) (written, h));
-    }
-
-pub children_form : (e : Tree) (i : ℕ) (trees : List WireTree) (id metadata : Bytes) → length (children_of e) ≤ i → AreFirstWritten e i trees → id ≡ id_of e → metadata ≡ metadata_bytes e → node id metadata (trees_view trees) ≡ wire_of e
-children_form e i trees id metadata le w name bytes =
-    let none : drop i (children_of e) ≡ [] = drop_all i (children_of e) le in
-    let all : map tree_view trees ≡ map wire_of (children_of e) = sym (append-nil (map tree_view trees)) ∙ ap (λ (ds : List Tree). map tree_view trees ++ map wire_of ds) (sym none) ∙ w.form in
-    ap (λ (x : Bytes). node x metadata (trees_view trees)) name ∙ ap (λ (x : Bytes). node (id_of e) x (trees_view trees)) bytes
-    ∙ ap (node_with e) (ap wires_in all ∙ sym (wires_listed (children_of e))) ∙ sym (wire_of-children e)
-
-pub children_written : (e : Tree) (i : ℕ) (trees : List WireTree) → length (children_of e) ≤ i → AreFirstWritten e i trees → Everywhere IsWritten e
-children_written e i trees le w =
-    let none : drop i (children_of e) ≡ [] = drop_all i (children_of e) le in
-    everywhere IsWritten e w.own (w.written (subst (λ ds. EverywhereIn IsWritten (trees_of ds)) (sym none) tt))
-
--- a child that is too long makes its parent too long
-pub long_child : (e c : Tree) (i : ℕ) (why : WireError) → slice_get (children_of e) i ≡ Some c → IsUnwrittenLong (Everywhere HasShortMetadata c) why → IsUnwrittenLong (Everywhere HasShortMetadata e) why
-long_child e c i why at h = also_long (Everywhere HasShortMetadata c) (Everywhere HasShortMetadata e) why (in_child HasShortMetadata e c i at) h
 
 -- ---- the whole expression
 

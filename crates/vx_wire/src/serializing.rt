@@ -1,8 +1,8 @@
 // Wire trees of expressions.
-ghost use Rattle.std.specs.Prelude.{◌≡◌, ◌≤◌, true, Decides, IfOk, IfErr};
+ghost use Rattle.std.specs.Prelude.{◌≡◌, ◌≤◌, true, map, Decides, IfOk, IfErr};
 ghost use Rattle.vx_dtype.specs.TypeViews.{type_view};
 ghost use Rattle.vx_dtype.specs.TypeRules.{depth_of, most_deep};
-ghost use Rattle.vx_expr.specs.Trees.{Tree};
+ghost use Rattle.vx_expr.specs.Trees.{Tree, children_of};
 ghost use Rattle.vx_wire_bytes.specs.WireViews.{tree_view};
 ghost use Rattle.vx_wire.specs.Encodings.{is_default_kind};
 ghost use Rattle.vx_wire.specs.Forms.{wire_of, Everywhere};
@@ -12,7 +12,7 @@ ghost use Rattle.vx_wire.specs.Serializing.{IsWritten, IsUnwrittenLong, IsUnseri
 
 use crate::spelling::metadata_of;
 use std::alloc::Global;
-use vx_dtype::{DType, MOST_DEEP, Text};
+use vx_dtype::{DType, MOST_DEEP, Mem, Text};
 use vx_expr::{Expr, ExprRef, VortexExpr};
 use vx_wire_bytes::{WireError, WireTree};
 
@@ -36,18 +36,16 @@ pub fn is_node_serializable(expr: &ExprRef) -> bool
 }
 
 /// Whether each node of an expression is of a kind that is written, with no type that is too deep.
-fn is_serializable(expr: &ExprRef) -> bool
-    ensures { Decides result (Everywhere IsSerializable expr.now) }
+fn is_serializable(alloc: Global, expr: &ExprRef) -> Mem<bool>
+    ensures { IfOk result (λ written. Decides written (Everywhere IsSerializable expr.now)) }
 {
-    if !is_node_serializable(expr) {
-        return false;
-    }
-    for i in 0..expr.children_count() {
-        if !is_serializable(expr.child_at(i)) {
-            return false;
+    let nodes = expr.post_order(alloc)?;
+    for &node in nodes.as_slice() {
+        if !is_node_serializable(node) {
+            return Ok(false);
         }
     }
-    true
+    Ok(true)
 }
 
 /// The wire tree of an expression whose nodes are all of kinds that are written.
@@ -57,12 +55,28 @@ fn tree_of(alloc: Global, expr: &ExprRef) -> Result<WireTree, WireError>
     ensures written { IfOk result (λ tree. Everywhere IsWritten expr.now) }
     ensures err { IfErr result (IsUnwrittenLong (Everywhere HasShortMetadata expr.now)) }
 {
-    let metadata = metadata_of(alloc, expr)?;
-    let mut children: Vec<WireTree> = Vec::new(alloc);
-    for i in 0..expr.children_count() {
-        children.push(tree_of(alloc, expr.child_at(i))?)?;
+    let nodes = expr.post_order(alloc)?;
+    let mut made: Vec<WireTree> = Vec::new(alloc);
+    for &node in nodes.as_slice() {
+        let children = made.split_off(made.len() - node.children_count())?;
+        made.push(node_tree(alloc, node, children)?)?;
     }
-    let id = Text::new(alloc, expr.id())?;
+    match made.pop() {
+        Some(tree) => Ok(tree),
+        None => unreachable!(),
+    }
+}
+
+/// The wire tree of a node over those of its children.
+fn node_tree(alloc: Global, node: &ExprRef, children: Vec<WireTree>) -> Result<WireTree, WireError>
+    requires kind { IsSerializable node.now }
+    requires children { map tree_view children.items ≡ map wire_of (children_of node.now) }
+    ensures form { IfOk result (λ tree. tree_view tree ≡ wire_of node.now) }
+    ensures written { IfOk result (λ tree. IsWritten node.now) }
+    ensures err { IfErr result (IsUnwrittenLong (HasShortMetadata node.now)) }
+{
+    let metadata = metadata_of(alloc, node)?;
+    let id = Text::new(alloc, node.id())?;
     Ok(WireTree {
         id,
         metadata,
@@ -89,7 +103,7 @@ impl ExprSerializeProtoExt for ExprRef {
     ghost tree = { λ e. e };
 
     fn serialize_proto(&self, alloc: Global) -> Result<WireTree, WireError> {
-        if !is_serializable(self) {
+        if !is_serializable(alloc, self)? {
             return Err(WireError::NotSerializable);
         }
         tree_of(alloc, self)
