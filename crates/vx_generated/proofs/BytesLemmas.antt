@@ -1,10 +1,10 @@
 -- Bytes that are few meet no limit of wire texts.
-use Rattle.std.proofs.Common.{◌≡◌, ◌∙◌, sym, ap, refl, subst, ℕ, ◌+◌, ◌<◌, ◌≤◌, Bool, true, false, List, [], ◌∷◌, ◌++◌, length, length-append, nat_lt, ◌/◌, ◌%◌, arith}
+use Rattle.std.proofs.Common.{ap, ℕ, ◌+◌, ◌<◌, ◌≤◌, Bool, true, false, List, [], ◌∷◌, ◌++◌, length, length-append, nat_lt, ◌/◌, ◌%◌, arith}
 use Rattle.std.specs.Prelude.{if◌then◌else◌}
 use Rattle.vx_dtype.specs.Types.{Bytes}
 use Rattle.vx_wire_bytes.specs.Numbers.{number_bytes, piece_bytes, sevens}
 use Rattle.vx_wire_bytes.specs.Wires.{Wire, node, Wires, no_wires, first, size_of, sizes_of, wire_bytes, wires_bytes, Head, head_bytes, head_of}
-use Rattle.vx_wire_bytes.specs.Openings.{Open, open_bytes, opening_bytes, begun, Opening, IsTooDeep, IsTooMany, most_open, most_nodes}
+use Rattle.vx_wire_bytes.specs.Openings.{Open, open_bytes, opening_bytes, begun, IsTooDeep, IsTooMany}
 
 -- a number has a byte, and so has a head
 number-has_byte : (n : ℕ) → 1 ≤ length (number_bytes n)

@@ -1,5 +1,5 @@
 -- Numbers as columns of their types.
-use Rattle.std.proofs.Common.{◌≡◌, ◌∙◌, sym, ap, ap₂, refl, subst, ℕ, zero, suc, ◌+◌, ◌*◌, ◌/◌, ◌^◌, ◌<◌, Bool, true, ℤ, pos, List, [], ◌∷◌, map, option_map, Option, Some, None, Result, Ok, Err, arith}
+use Rattle.std.proofs.Common.{◌≡◌, ◌∙◌, ap, ap₂, refl, subst, ℕ, zero, suc, ◌+◌, ◌*◌, ◌/◌, ◌^◌, ◌<◌, Bool, true, ℤ, pos, List, [], ◌∷◌, map, option_map, Option, Some, None, Result, Ok, Err, IfOk, arith}
 use Rattle.std.specs.List.{range_with_len}
 use Rattle.std.proofs.lemmas.Bool.{and_from, le-leb}
 use Rattle.vx_dtype.specs.declared.PType.{PType}
@@ -11,9 +11,9 @@ use Rattle.vx_dtype.specs.Values.{Raw, raw_int, Val, valued}
 use Rattle.vx_column.specs.Columns.{Column, column, raws_fit, raw_rows}
 use Rattle.vx_column.specs.Answers.{Answers, unless, optional_raw, column_of_raws}
 use Rattle.vx_column.specs.declared.errors.ColumnError.{ColumnError}
-use Rattle.vx_column.specs.declared.errors.ColumnError.TheVariants.{WrongValue, DuplicateField}
-use Rattle.vx_laws_generated.specs.GeneratedTable.{GeneratedColumn, id_column, v_column, integer_of, nullability_of, number_at, number_val, numbers_in, rows_in, block_length}
-use Rattle.vx_laws_generated.proofs.Chosen.{OnNumber, OnNumbers, on-range}
+use Rattle.vx_column.specs.declared.errors.ColumnError.TheVariants.{WrongValue}
+use Rattle.vx_laws_generated.specs.GeneratedTable.{GeneratedColumn, id_column, v_column, integer_of, nullability_of, number_at, number_val, numbers_in, block_length}
+use Rattle.vx_laws_generated.proofs.Chosen.{OnNumber}
 use Rattle.vx_laws_generated.proofs.Blocks.{block-within, v-below}
 use Rattle.vx_generated.specs.GeneratedBlocks.{column_in}
 use Rattle.vx_generated.specs.GeneratedViews.{integers_of}
@@ -86,3 +86,21 @@ pub made-in : (c : GeneratedColumn) (rows block : ℕ) (integers : List (Option 
 made-in c rows block integers h within e =
     ap (λ (is : List (Option ℤ)). column_of_raws (int_ty (integer_of c) (nullability_of c)) (map (optional_raw raw_int) is)) e
     ∙ made-of c (numbers_in c rows block) (are-of c rows block h within)
+
+-- an answer that is made of them
+pub answers-made : (c : GeneratedColumn) (rows block : ℕ) (p : PType) (m : Nullability) (integers : List (Option ℤ)) (answer : Result Column ColumnError)
+    → rows < 2 ^ 32 → block < (rows + 63) / 64 → p ≡ integer_of c → m ≡ nullability_of c → integers ≡ integers_of (numbers_in c rows block)
+    → Answers answer (column_of_raws (int_ty p m) (map (optional_raw raw_int) integers)) → Answers answer (Ok (column_in c rows block))
+answers-made c rows block p m integers answer h within e g k told =
+    let types : column_of_raws (int_ty p m) (map (optional_raw raw_int) integers)
+    ≡ column_of_raws (int_ty (integer_of c) (nullability_of c)) (map (optional_raw raw_int) integers) =
+    ap₂ (λ (q : PType) (n : Nullability). column_of_raws (int_ty q n) (map (optional_raw raw_int) integers)) e g in
+    subst (Answers answer) (types ∙ made-in c rows block integers h within k) told
+
+pub made-is : {E : Type 0} (told : Column) (answer : Result Column ColumnError) (result : Result Column E) → IfOk result (λ c. answer ≡ Ok c) → Answers answer (Ok told)
+    → IfOk result (λ c. c ≡ told)
+made-is {E} told answer (Err e) h k = tt
+made-is {E} told answer (Ok c) h k = ok-is c told (subst (λ a. Answers a (Ok told)) h k)
+  where
+    ok-is : (a b : Column) → Answers (Ok a) (Ok b) → a ≡ b
+    ok-is a b e = cc

@@ -5,3 +5,4 @@ pub mod ColumnLemmas
 pub mod BytesLemmas
 pub mod SpelledLemmas
 pub mod ScanLemmas
+mod SumLemmas

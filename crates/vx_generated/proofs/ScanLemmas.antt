@@ -1,5 +1,5 @@
 -- How the scan of the generated table ends.
-use Rattle.std.proofs.Common.{◌≡◌, ◌∙◌, sym, ap, refl, subst, ℕ, ◌-◌, ◌^◌, ◌<◌, Bool, true, [], length, ℤ, List, Some, None, Result, Ok, arith}
+use Rattle.std.proofs.Common.{◌≡◌, ◌∙◌, sym, ap, refl, subst, ℕ, ◌^◌, ◌<◌, Bool, true, [], length, List, Some, None, Result, Ok, IfOk, arith}
 use Rattle.std.proofs.lemmas.List.{length-map}
 use Rattle.vx_dtype.specs.declared.PType.TheVariants.{I64}
 use Rattle.vx_dtype.specs.declared.Nullability.TheVariants.{NonNullable}
@@ -8,14 +8,17 @@ use Rattle.vx_dtype.specs.TypeViews.{type_view}
 use Rattle.vx_dtype.specs.Values.{Raw, Val, valued}
 use Rattle.vx_semantics.specs.Typing.{Refusal, type_mismatch, unless, and_then, typed_of}
 use Rattle.vx_semantics.specs.Slots.{slots_fit}
-use Rattle.vx_semantics.specs.Tables.{row_type}
-use Rattle.vx_column.specs.Columns.{raws_fit, raw_rows}
+use Rattle.vx_semantics.specs.Tables.{Table, Zones, row_type}
+use Rattle.vx_column.specs.Columns.{Column, raws_fit, raw_rows}
+use Rattle.vx_expr.specs.Trees.{Tree}
 use Rattle.vx_wire.specs.Encodings.{is_default_kind}
 use Rattle.vx_wire.specs.Forms.{wire_text}
 use Rattle.vx_wire.specs.declared.encodings.ExprEncoding.{ExprEncoding}
 use Rattle.vx_scan.specs.Reports.{report_view}
-use Rattle.vx_scan.specs.Scanning.{on_side, after_filter, scan_type, IsReport, IsScan, IsScanOf}
+use Rattle.vx_scan.specs.Scanning.{on_side, after_filter, scan_type, IsReport, IsScan}
 use Rattle.vx_scan.specs.ScanLaws.{IsQuietScan, ReportsUnlessNoMemory}
+use Rattle.vx_scan.specs.StoreAnswers.{new_store}
+use Rattle.vx_scan.specs.StoreViews.{StoreState, store_seen}
 use Rattle.vx_scan.specs.Stores.{Seen, IsSameStore}
 use Rattle.vx_scan.specs.declared.errors.ScanError.{ScanError}
 use Rattle.vx_scan.specs.declared.errors.Side.TheVariants.{Filter, Projection}
@@ -26,8 +29,9 @@ use Rattle.vx_laws_generated.specs.GeneratedTable.{generated_columns, generated_
 use Rattle.vx_laws_generated.specs.GeneratedLine.{answered_rows, skipped_in, sum_of, summary_line, gen_line}
 use Rattle.vx_laws_generated.proofs.Typed.{generated_filter_is_typed, generated_projection_is_typed}
 use Rattle.vx_laws_generated.proofs.Quiet.{no_generated_phase_breaks}
-use Rattle.vx_generated.specs.GeneratedBlocks.{generated_store}
+use Rattle.vx_generated.specs.GeneratedBlocks.{generated_blocks, generated_store}
 use Rattle.vx_generated.proofs.SpelledLemmas.{both-spelled}
+use Rattle.vx_generated.proofs.TableLemmas.{blocks-are_table}
 
 -- the store before its first read
 abbrev pub fresh : ℕ → Seen
@@ -133,3 +137,56 @@ line-told rows blocks after report told e =
     ∙ ap (λ (n : ℕ). summary_line (length (generated_zones rows).lengths) (length (skipped_in rows)) n (sum_of (raw_rows id_ty report.rows)))
     (sym (length-map report.rows (λ (x : Raw). valued x id_ty)))
     ∙ ap (λ (xs : List Val). summary_line (length (generated_zones rows).lengths) (length (skipped_in rows)) (length xs) (sum_of xs)) told.answered
+
+-- ---- from what the code has
+
+-- the store before its first read, by its table
+abbrev fresh_with : ℕ → Table → Seen
+fresh_with rows t =
+    record {
+      zones = generated_zones rows;
+      held = Some t;
+      log = [];
+      faults = 0;
+      failed = None;
+      faultless = true;
+    }
+
+new-fresh : (rows : ℕ) (z : Zones) (bs : List (List Column)) (store : StoreState) → store ≡ new_store z bs [] → z ≡ generated_zones rows → bs ≡ generated_blocks rows
+    → store_seen store ≡ fresh rows
+new-fresh rows z bs store e g h = ap store_seen e ∙ (λ i. store_seen (new_store (g i) (h i) [])) ∙ ap (fresh_with rows) (blocks-are_table rows)
+
+-- what was made: the store, the bytes and the expressions that these are of
+pub record IsMade (rows : ℕ) (z : Zones) (bs : List (List Column)) (store : StoreState) (f p : Tree) (filter_bytes projection_bytes : Bytes) : Type 0 where
+  pub zones : z ≡ generated_zones rows
+  pub blocks : bs ≡ generated_blocks rows
+  pub store_new : store ≡ new_store z bs []
+  pub filter : f ≡ generated_filter rows
+  pub projection : p ≡ generated_projection
+  pub filter_written : filter_bytes ≡ wire_text f
+  pub projection_written : projection_bytes ≡ wire_text p
+
+pub is-generated : (rows : ℕ) (z : Zones) (bs : List (List Column)) (store : StoreState) (f p : Tree) (filter_bytes projection_bytes ft pt : Bytes)
+    (holds : ExprEncoding → Bool) (after : Seen)
+    → rows < 2 ^ 32 → ((e : ExprEncoding) → holds e ≡ is_default_kind e) → IsMade rows z bs store f p filter_bytes projection_bytes
+    → ft ≡ filter_bytes → pt ≡ projection_bytes → IsSameStore (store_seen store) after
+    → IsGenerated rows holds ft pt (store_seen store) after
+is-generated rows z bs store f p fb pb ft pt holds after few kinds made filter projection same = record {
+  few = few;
+  kinds = λ j e. (kinds e) j;
+  filter = filter ∙ made.filter_written ∙ ap wire_text made.filter;
+  projection = projection ∙ made.projection_written ∙ ap wire_text made.projection;
+  new = new-fresh rows z bs store made.store_new made.zones made.blocks;
+  same = same;
+}
+
+-- the report that was told
+pub told-so : (rows : ℕ) (holds : ExprEncoding → Bool) (ft pt : Bytes) (before after : Seen) (answer : Result ScanReport ScanError) (report : ScanReport)
+    → IsGenerated rows holds ft pt before after → IsScan holds ft pt before after answer → answer ≡ Ok report → IsTold rows after report
+told-so rows holds ft pt before after answer report is ended e =
+    told rows holds ft pt before after report is (subst (IsScan holds ft pt before after) e ended)
+
+pub rows-fit : (rows : ℕ) (after : Seen) (answer : Result ScanReport ScanError) (report : ScanReport) → IsTold rows after report → answer ≡ Ok report
+    → IfOk answer (λ r. raws_fit (type_view r.dtype) r.rows ≡ true) → raws_fit id_ty report.rows ≡ true
+rows-fit rows after answer report is e fit =
+    fit-told (type_view report.dtype) report.rows is.ty (subst (λ (a : Result ScanReport ScanError). IfOk a (λ r. raws_fit (type_view r.dtype) r.rows ≡ true)) e fit)

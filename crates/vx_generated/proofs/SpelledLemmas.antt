@@ -1,6 +1,7 @@
 -- The bytes of both expressions are written, and read again.
-use Rattle.std.proofs.Common.{◌≡◌, ◌∙◌, ap, refl, ℕ, ◌/◌, ◌^◌, ◌<◌, ◌≤◌, true, length, pos, codes, arith}
-use Rattle.std.proofs.lemmas.Bool.{le-leb}
+use Rattle.std.proofs.Common.{◌≡◌, refl, ℕ, zero, suc, ◌/◌, ◌^◌, ◌<◌, ◌≤◌, true, length, pos, arith, rules, IsAscii}
+use Rattle.std.specs.Str.{is_utf8}
+use Rattle.std.proofs.lemmas.Str.{is_utf8-from_IsUtf8, IsUtf8-from_ascii}
 use Rattle.vx_dtype.specs.declared.PType.{PType}
 use Rattle.vx_dtype.specs.declared.Nullability.TheVariants.{NonNullable}
 use Rattle.vx_dtype.specs.Types.{int_ty}
@@ -9,9 +10,7 @@ use Rattle.vx_dtype.specs.Fits.{fits}
 use Rattle.vx_dtype.specs.Values.{raw_int}
 use Rattle.vx_expr.specs.Trees.{Tree, root}
 use Rattle.vx_wire_bytes.specs.Numbers.{number_bytes}
-use Rattle.vx_wire_bytes.specs.Fields.{IsText}
-use Rattle.vx_wire_bytes.specs.TypeForms.{IsType}
-use Rattle.vx_wire_bytes.specs.ValueForms.{integer_bytes, IsValue}
+use Rattle.vx_wire_bytes.specs.ValueForms.{integer_bytes}
 use Rattle.vx_wire_bytes.specs.Wires.{HasShortParts}
 use Rattle.vx_wire.specs.Encodings.{is_default_kind}
 use Rattle.vx_wire.specs.Forms.{wire_of, wire_text, Everywhere}
@@ -55,9 +54,19 @@ projection-writable = record { serializable = (tt, tt); short = (name-short id_c
 
 -- ---- what is read again
 
+name-ascii : (c : GeneratedColumn) → IsAscii (name_of c)
+name-ascii id_column zero = omega arith
+name-ascii id_column (suc zero) = omega arith
+name-ascii id_column (suc (suc i)) = omega arith
+name-ascii v_column zero = omega arith
+name-ascii v_column (suc i) = omega arith
+
+name-utf8 : (c : GeneratedColumn) → is_utf8 (name_of c) ≡ true
+name-utf8 c = is_utf8-from_IsUtf8 (name_of c) (IsUtf8-from_ascii (name_of c) (name-ascii c))
+
 field-form : (c : GeneratedColumn) → HasForm (field_expr c)
-field-form id_column = record { metadata = record { utf8 = refl; short = name-short id_column }; children = refl }
-field-form v_column = record { metadata = record { utf8 = refl; short = name-short v_column }; children = refl }
+field-form id_column = record { metadata = record { utf8 = name-utf8 id_column; short = name-short id_column }; children = refl }
+field-form v_column = record { metadata = record { utf8 = name-utf8 v_column; short = name-short v_column }; children = refl }
 
 constant-form : (c : GeneratedColumn) (n : ℕ) → fits (raw_int (pos n)) (int_ty (integer_of c) NonNullable) ≡ true → HasForm (constant_of c n)
 constant-form c n h = record {

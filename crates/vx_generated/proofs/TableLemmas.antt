@@ -1,5 +1,5 @@
 -- The blocks of columns are the table.
-use Rattle.std.proofs.Common.{◌≡◌, ◌∙◌, sym, ap, ap₂, refl, ℕ, zero, suc, ◌+◌, ◌*◌, ◌/◌, Bool, true, cond, not, nat_eq, List, [], ◌∷◌, map, length, replicate, Some, None, eq-eqb, pos, arith}
+use Rattle.std.proofs.Common.{◌≡◌, ◌∙◌, ap, ap₂, refl, ℕ, zero, suc, ◌+◌, ◌*◌, Bool, true, cond, not, nat_eq, List, [], ◌∷◌, map, length, replicate, Some, None, eq-eqb}
 use Rattle.std.specs.List.{range_with_len, list_all}
 use Rattle.std.proofs.lemmas.Bool.{and_from}
 use Rattle.std.proofs.lemmas.List.{length-map}
@@ -9,12 +9,12 @@ use Rattle.vx_dtype.specs.StructTypes.{field_types}
 use Rattle.vx_dtype.specs.Equal.{ty_eq}
 use Rattle.vx_dtype.specs.Values.{Val, struct_val, no_members, member}
 use Rattle.vx_semantics.specs.Tables.{Table}
-use Rattle.vx_column.specs.Columns.{Column, zip_rows}
-use Rattle.vx_scan.specs.Blocks.{block_long, block_typed, have_lengths, have_types, table_refusal, blocks_long, rows_of_columns, table_of}
+use Rattle.vx_column.specs.Columns.{zip_rows}
+use Rattle.vx_scan.specs.Blocks.{block_long, block_typed, have_types, table_refusal, blocks_long, rows_of_columns, table_of}
 use Rattle.vx_scan.specs.declared.errors.TableError.TheVariants as errors
 use Rattle.vx_laws_generated.specs.GeneratedTable.{GeneratedColumn, id_column, v_column, name_of, number_at, number_val, integer_of, rows_in, numbers_in, block_numbers, block_length, generated_row, generated_block, generated_columns, generated_table, generated_zones}
 use Rattle.vx_generated.specs.GeneratedBlocks.{column_in, columns_in, generated_blocks}
-use Rattle.vx_generated.specs.BlockLaws.{AreTheTable, GeneratedBlocksAreTheTable}
+use Rattle.vx_generated.specs.BlockLaws.{GeneratedBlocksAreTheTable}
 
 -- ---- rows
 

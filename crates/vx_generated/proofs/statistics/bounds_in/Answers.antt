@@ -1,4 +1,4 @@
-use Rattle.std.proofs.Common.{◌∙◌, ap, arith, sym}
+use Rattle.std.proofs.Common.{◌∙◌, ap, arith}
 use Rattle.vx_laws_generated.specs.GeneratedTable.{bound_in, bound_of}
 use Rattle.vx_generated.specs.GeneratedViews.{column_view}
 use Rattle.vx_generated.proofs.NumberLemmas.{more-from_zero, bound-told, told-fits}
