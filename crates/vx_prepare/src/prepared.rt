@@ -33,7 +33,7 @@ pub struct PreparedExpr {
 /// columns that it asks. The type is a struct that isn't nullable.
 ///
 /// Refuses with the refusal of `typed`, and else with TypeMismatch where the slot of a comparison holds what doesn't fit. NoMemory comes
-/// also where the simplified expression has 2 ^ 64 nodes or more, each counted as often as it is shared: so many could never be walked.
+/// also where the simplified expression has 2 ^ 64 nodes or more, each counted as often as it is shared: no list could hold so many.
 ///
 /// Source of the rule: an expression is typed once, and evaluated for each block.
 ///
@@ -70,7 +70,7 @@ fn prepare_over(
         return Err(TypeError::TypeMismatch);
     }
     let simplified = simplified_over(alloc, expr, fields, scope)?;
-    let _number = count_nodes(&simplified)?;
+    let _number = count_nodes(alloc, &simplified)?;
     let split = split_over(alloc, simplified, fields, scope)?;
     let annotations = split.partition_annotations.as_slice();
     let columns = columns_among(alloc, fields.names(), annotations)?;
