@@ -1,6 +1,6 @@
 -- That the blocks of columns are the table.
 use Rattle.std.specs.Prelude.{◌≡◌, ℕ, None}
-use Rattle.vx_scan.specs.Blocks.{table_of, table_refusal}
+use Rattle.vx_tables.specs.Blocks.{table_of, table_refusal}
 use Rattle.vx_laws_generated.specs.GeneratedTable.{generated_table, generated_zones}
 use Rattle.vx_generated.specs.GeneratedBlocks.{generated_blocks}
 

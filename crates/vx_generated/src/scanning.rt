@@ -10,7 +10,7 @@ ghost use Rattle.vx_column.specs.Columns.{raws_fit, raw_rows, values_fit, seen, 
 ghost use Rattle.vx_expr.specs.Trees.{Tree};
 ghost use Rattle.vx_wire_bytes.specs.WireViews.{tree_view};
 ghost use Rattle.vx_wire.specs.Forms.{wire_of, wire_text};
-ghost use Rattle.vx_scan.specs.Blocks.{table_refusal};
+ghost use Rattle.vx_tables.specs.Blocks.{table_refusal};
 ghost use Rattle.vx_scan.specs.Reports.{report_view};
 ghost use Rattle.vx_scan.specs.ScanLaws.{ReportsUnlessNoMemory};
 ghost use Rattle.vx_scan.specs.StoreAnswers.{new_store};

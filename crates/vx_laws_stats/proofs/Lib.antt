@@ -3,3 +3,4 @@ pub mod LeafFacts
 pub mod LeafPaths
 pub mod HonestBlocks
 pub mod BuiltZones
+pub mod PathFacts

@@ -1,26 +1,46 @@
 -- What the statistics that the rows of a table have are: honest, and zones.
-use Rattle.std.specs.Prelude.{◌≡◌, ℕ, ◌<◌, ◌^◌, true, false, ◌||◌, List, length, Some, None}
-use Rattle.std.specs.List.{AllByRecursion, list_all, slice_get}
+use Rattle.std.specs.Prelude.{◌≡◌, ℕ, ◌<◌, ◌^◌, true, false, ◌||◌, List, [], ◌∷◌, map, length, Some, None, is_some}
+use Rattle.std.specs.List.{AllByRecursion, flat_map, list_all, list_any, slice_get}
 use Rattle.vx_dtype.specs.declared.CompareOperator.{CompareOperator}
-use Rattle.vx_dtype.specs.Types.{Ty}
+use Rattle.vx_dtype.specs.declared.Stat.{Stat}
+use Rattle.vx_dtype.specs.declared.Stat.TheVariants.{Min, Max, NullCount}
+use Rattle.vx_dtype.specs.Types.{Bytes, Ty, Fields}
 use Rattle.vx_dtype.specs.TypeRules.{is_plain, no_name_twice}
+use Rattle.vx_dtype.specs.Equal.{names_eq}
 use Rattle.vx_dtype.specs.Values.{Val}
 use Rattle.vx_dtype.specs.Logic.{is_null_val}
 use Rattle.vx_dtype.specs.Fits.{val_fits}
 use Rattle.vx_dtype.specs.Order.{compares}
 use Rattle.vx_expr.specs.Trees.{Tree}
 use Rattle.vx_semantics.specs.Meaning.{Slots}
-use Rattle.vx_semantics.specs.Tables.{Table, row_type}
+use Rattle.vx_semantics.specs.Tables.{Table, ZoneStat, row_type}
 use Rattle.vx_semantics.specs.Honest.{IsHonest}
 use Rattle.vx_semantics.specs.Scans.{rows_of, kept_rows_of}
-use Rattle.vx_zones.specs.Zoning.{are_shallow, broken_rule, values_fit}
+use Rattle.vx_zones.specs.Zoning.{are_shallow, broken_rule, leaf_type, values_fit}
 use Rattle.vx_laws_scan.specs.Agreeing.{all_rows_fit}
-use Rattle.vx_laws_stats.specs.BuiltStatistics.{least_of, greatest_of, built_zones}
+use Rattle.vx_laws_stats.specs.BuiltStatistics.{built_stats, built_zones, greatest_of, least_of, stat_paths}
 
 -- a table whose rows are values of its type, in which no struct has two fields of one name
 pub record IsTable (table : Table) : Type 0 where
   pub names : no_name_twice (row_type table.columns) ≡ true
   pub fit : all_rows_fit (row_type table.columns) table.blocks ≡ true
+
+-- the paths of a table's statistics are those that lead through fields of structs to a plain field
+abbrev pub StatPathsArePlain : Type 0
+StatPathsArePlain =
+    (columns : Fields) (path : List Bytes) → no_name_twice (row_type columns) ≡ true
+    → list_any (names_eq path) (stat_paths columns) ≡ is_some (leaf_type columns path)
+
+-- what a statistic is of, and the three statistics of a path
+abbrev pub path_and_stat : ZoneStat → List Bytes × Stat
+path_and_stat z = (z.path, z.stat)
+
+abbrev pub three_of : List Bytes → List (List Bytes × Stat)
+three_of path = (path, Min) ∷ (path, Max) ∷ (path, NullCount) ∷ []
+
+-- each of these paths has three statistics, in order
+abbrev pub BuiltStatisticsFollowPaths : Type 0
+BuiltStatisticsFollowPaths = (table : Table) → map path_and_stat (built_stats table) ≡ flat_map three_of (stat_paths table.columns)
 
 -- they are honest
 abbrev pub BuiltStatisticsAreHonest : Type 0

@@ -1,12 +1,19 @@
 // The laws of the statistics that the rows of a table have.
 
 ghost use Rattle.vx_laws_stats.specs.BuiltLaws.{BuiltBoundsAreExtreme, BuiltStatisticsAreHonest, BuiltStatisticsBreakNoRule};
-ghost use Rattle.vx_laws_stats.specs.BuiltLaws.{BuiltStatisticsLoseNoRow, BuiltValuesFit};
+ghost use Rattle.vx_laws_stats.specs.BuiltLaws.{BuiltStatisticsFollowPaths, BuiltStatisticsLoseNoRow, BuiltValuesFit, StatPathsArePlain};
 
 /// The least of values of a plain type is one of them and at most each, the greatest is one of them and at least each; both are null where all
 /// values are null.
 pub fn built_bounds_are_extreme()
     ensures { BuiltBoundsAreExtreme }
+{}
+
+/// The paths of a table's statistics are exactly those that lead through fields of structs to a plain field; each has a minimum, a maximum and a
+/// count of nulls, in this order.
+pub fn built_statistics_follow_paths()
+    ensures paths { StatPathsArePlain }
+    ensures order { BuiltStatisticsFollowPaths }
 {}
 
 /// The statistics that a table's rows have are honest.

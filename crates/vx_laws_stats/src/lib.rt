@@ -5,5 +5,5 @@ mod built;
 
 pub use built::{
     built_bounds_are_extreme, built_statistics_are_honest, built_statistics_are_zones,
-    built_statistics_lose_no_row,
+    built_statistics_follow_paths, built_statistics_lose_no_row,
 };

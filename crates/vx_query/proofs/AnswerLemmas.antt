@@ -17,7 +17,7 @@ use Rattle.vx_semantics.specs.Scans.{read_columns, reads_to_break}
 use Rattle.vx_display.specs.ValueTexts.{value_text}
 use Rattle.vx_wire.specs.Encodings.{is_default_kind}
 use Rattle.vx_wire.specs.declared.ExprEncoding.{ExprEncoding}
-use Rattle.vx_scan.specs.Blocks.{table_of, table_refusal, have_lengths, have_types}
+use Rattle.vx_tables.specs.Blocks.{table_of, table_refusal, have_lengths, have_types}
 use Rattle.vx_scan.specs.Reports.{Report, report_view}
 use Rattle.vx_scan.specs.Scanning.{IsScan, IsReport, IsBroken}
 use Rattle.vx_scan.specs.Stores.{Read, Seen, IsSameStore}

@@ -15,7 +15,7 @@ use Rattle.vx_dtype.specs.Values.{Raw}
 use Rattle.vx_column.specs.Columns.{Column, column, raws_fit, raw_rows}
 use Rattle.vx_column.specs.Answers.{unless}
 use Rattle.vx_column.specs.declared.errors.ColumnError.TheVariants.{WrongValue, DuplicateField}
-use Rattle.vx_scan.specs.Blocks.{block_long, blocks_long, block_typed}
+use Rattle.vx_tables.specs.Blocks.{block_long, blocks_long, block_typed}
 use Rattle.vx_request.specs.Objects.{◌>>=◌, each_item}
 use Rattle.vx_request.specs.RequestMembers.{BlockText}
 use Rattle.vx_request.specs.Cells.{raw_in, column_where, column_in, columns_of, blocks_of}

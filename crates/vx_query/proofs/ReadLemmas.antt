@@ -18,14 +18,14 @@ use Rattle.vx_semantics.specs.Tables.{row_type, numbered_from}
 use Rattle.vx_semantics.specs.Scans.{Phase, phase_breaks, phase_reads, phases_to_break, phases_of, kept_of, kept_blocks, reads_in, further_columns, matching_rows, has_rows, reads_to_break}
 use Rattle.vx_laws_scan.specs.Pruned.{KeptNumbersAreKeptBlocks}
 use Rattle.vx_laws_scan.proofs.BlockReads.{block_reads, reads_by_block}
-use Rattle.vx_scan.specs.Blocks.{have_lengths, have_types}
+use Rattle.vx_tables.specs.Blocks.{have_lengths, have_types}
 use Rattle.vx_scan.specs.Runs.{block_asked}
 use Rattle.vx_scan.specs.ScanLaws.{is_asked_read}
 use Rattle.vx_scan.specs.Scanning.{AreAmong, asked_reads}
 use Rattle.vx_scan.specs.Stores.{Read, Seen}
 use Rattle.vx_scan.proofs.AmongLemmas.{among_nothing, among_all, among_append}
 use Rattle.vx_scan.proofs.AskedLemmas.{all_so, all_passing, all_here, number_itself, among_pass, reads_are_asked, reads_are_distinct}
-use Rattle.vx_scan.proofs.BlockLemmas.{table_lengths}
+use Rattle.vx_tables.proofs.BlockLemmas.{table_lengths}
 use Rattle.vx_request.specs.Requests.{RequestedScan, request_of}
 use Rattle.vx_query.specs.BlockAgreement.{agree}
 use Rattle.vx_query.specs.Running.{End, Form, reads_request, IsTaken, HoldsScan, scan_table, scan_reads, scanned_store, broken_store, Outcome, misused, helped, versioned, out_of_memory, unread, refused, unscanned, broken, answered, explained, undecoded, unshown, shown, unnamed, unserialized, overlong, named, summed, IsOutcome, IsRun, used_by}

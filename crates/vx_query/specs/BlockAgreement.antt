@@ -1,6 +1,6 @@
 -- Whether the blocks of a request agree with its zones.
 use Rattle.std.specs.Prelude.{Bool, true, ◌&&◌, Result, Ok, Err}
-use Rattle.vx_scan.specs.Blocks.{have_lengths, have_types}
+use Rattle.vx_tables.specs.Blocks.{have_lengths, have_types}
 use Rattle.vx_request.specs.Requests.{RequestedScan}
 use Rattle.vx_request.specs.declared.errors.RequestError.{RequestError}
 

@@ -18,7 +18,7 @@ use Rattle.vx_display.specs.ValueTexts.{value_text}
 use Rattle.vx_display.specs.TreeTexts.{tree_text_of}
 use Rattle.vx_explain.specs.Explanations.{explain_text}
 use Rattle.vx_explain.specs.Explaining.{shown_line, query_line}
-use Rattle.vx_scan.specs.Blocks.{table_of}
+use Rattle.vx_tables.specs.Blocks.{table_of}
 use Rattle.vx_io.specs.Counts.{one_more}
 use Rattle.vx_scan.specs.Scanning.{scan_type}
 use Rattle.vx_scan.specs.Stores.{Read, Seen}

@@ -1,7 +1,3 @@
-pub mod MemberLemmas
-pub mod NamedLemmas
-pub mod BlockLemmas
-pub mod FitLemmas
 pub mod RunLemmas
 pub mod AmongLemmas
 pub mod StepLemmas

@@ -1,4 +1,3 @@
-pub mod Blocks
 pub mod Stores
 pub mod StoreViews
 pub mod StoreCodes
@@ -13,3 +12,4 @@ pub mod ScanLaws
 pub mod Cutting
 pub mod RowCodes
 pub use Rattle.vx_prepare.specs.Preparing
+pub use Rattle.vx_tables.specs.Blocks

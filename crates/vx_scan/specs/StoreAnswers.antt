@@ -2,9 +2,9 @@
 use Rattle.std.specs.Prelude.{◌≡◌, ℕ, List, [], Some, None, Result, Ok, Err}
 use Rattle.vx_column.specs.Columns.{Column}
 use Rattle.vx_semantics.specs.Tables.{Zones}
-use Rattle.vx_scan.specs.declared.errors.TableError.{TableError}
-use Rattle.vx_scan.specs.declared.errors.TableError.TheVariants.{NoMemory}
-use Rattle.vx_scan.specs.Blocks.{table_refusal}
+use Rattle.vx_tables.specs.declared.errors.TableError.{TableError}
+use Rattle.vx_tables.specs.declared.errors.TableError.TheVariants.{NoMemory}
+use Rattle.vx_tables.specs.Blocks.{table_refusal}
 use Rattle.vx_scan.specs.StoreViews.{StoreState}
 
 -- a store of these columns that wasn't read yet

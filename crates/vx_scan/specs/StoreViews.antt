@@ -1,21 +1,15 @@
 -- How a store in memory is seen.
 use Rattle.std.specs.Prelude.{ℕ, List, Option, Some}
-use Rattle.std.specs.declared.vec.Vec.{Vec}
-use Rattle.std.specs.declared.alloc.Global.{Global}
 use Rattle.vx_column.specs.Columns.{Column}
 use Rattle.vx_semantics.specs.Tables.{Zones}
 use Rattle.vx_io.specs.Counts.{is_nothing}
-use Rattle.vx_scan.specs.Blocks.{table_of}
+use Rattle.vx_tables.specs.Blocks.{table_of}
 use Rattle.vx_scan.specs.Stores.{Read, Seen}
 use Rattle.vx_scan.specs.declared.stores.ReadEntry.{ReadEntry}
 
 -- the read that an entry of the log stands for
 abbrev pub entry_view : ReadEntry → Read
 entry_view e = (e.block, e.name)
-
--- the columns of a block
-abbrev pub block_view : Vec Column Global → List Column
-block_view block = block.items
 
 -- a store in memory: its zones and columns, the numbers of the calls that fail, how many calls there were, the reads, the last read that failed, and
 -- how many failed

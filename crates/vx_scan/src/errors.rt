@@ -1,4 +1,4 @@
-// Why a column isn't read, and why columns are no table.
+// Why a column isn't read, and why a scan gives no report.
 ghost use Rattle.std.specs.Prelude.{◌≡◌};
 
 use std::alloc::{AllocError, AllocFailed};
@@ -11,17 +11,6 @@ pub enum StoreError {
     NoMemory,
     /// The read failed: only where the store counted a fault in this call.
     Failed,
-}
-
-/// Why blocks of columns are no table with given zones.
-#[derive(PartialEq, Eq, Debug, Drop)]
-pub enum TableError {
-    /// There was no memory.
-    NoMemory,
-    /// Exactly where the number of blocks, of a block's columns or of a column's rows differs from the zones'.
-    WrongLength,
-    /// Exactly where those agree, and a column's type differs from the zones'.
-    WrongType,
 }
 
 /// One of the expressions of a request.

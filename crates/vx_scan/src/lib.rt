@@ -12,10 +12,9 @@ mod reading;
 mod reports;
 mod scans;
 mod stores;
-mod tables;
 
 pub use decoding::decode_expr;
-pub use errors::{ScanError, Side, StoreError, TableError};
+pub use errors::{ScanError, Side, StoreError};
 pub use laws::{
     faultless_stores_count_no_fault, honest_scans_are_whole, reads_are_asked, refused_scans_refuse,
     scan_breaks_where_a_phase_breaks, scan_ends_exclude, scans_of_runs, texts_scan_as_they_spell,
@@ -26,3 +25,4 @@ pub use preparing::prepare_both;
 pub use reports::{BlockNumbers, RowValues, ScanReport};
 pub use scans::{scan, scan_exprs};
 pub use stores::{ColumnStore, ReadEntry};
+pub use vx_tables::TableError;

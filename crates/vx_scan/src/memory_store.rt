@@ -2,18 +2,18 @@
 ghost use Rattle.std.specs.Prelude.{◌≡◌, ◌-◌, ◌^◌, ◌<◌, true, false, cond, length, map, option_map, IfOk, IsErrOf, All};
 ghost use Rattle.vx_dtype.specs.TypeRules.{has_name, field_names};
 ghost use Rattle.vx_io.specs.Counts.{one_more, is_listed};
-ghost use Rattle.vx_scan.specs.Blocks.{table_of};
+ghost use Rattle.vx_tables.specs.Blocks.{block_view, table_of};
 ghost use Rattle.vx_scan.specs.Stores.{AgreesWith, IsSameStore, Reads};
-ghost use Rattle.vx_scan.specs.StoreViews.{block_view, entry_view, store_seen};
+ghost use Rattle.vx_scan.specs.StoreViews.{entry_view, store_seen};
 ghost use Rattle.vx_scan.specs.StoreAnswers.{Answers};
 
-use crate::errors::{StoreError, TableError};
+use crate::errors::StoreError;
 use crate::stores::{ColumnStore, ReadEntry};
-use crate::tables::{have_lengths, have_types, held_column};
 use std::alloc::{AllocError, Global};
 use std::marker::Model;
 use vx_column::ColumnRef;
 use vx_dtype::FieldName;
+use vx_tables::{TableError, have_lengths, have_types, held_column};
 use vx_zones::ZoneMap;
 
 /// The columns of a table in memory as a store that tells it, and that fails at the reads whose numbers are listed.
@@ -38,8 +38,8 @@ impl Model for MemoryStore {
 
     ghost coded = { coded_store };
 
-    ghost use Rattle.vx_scan.specs.StoreViews.{block_view, entry_view};
-    ghost use Rattle.vx_scan.specs.Blocks.{have_lengths, have_types, block_fits};
+    ghost use Rattle.vx_scan.specs.StoreViews.{entry_view};
+    ghost use Rattle.vx_tables.specs.Blocks.{block_view, have_lengths, have_types, block_fits};
 
     ghost view = { λ s. record {
       zones = s.zones;

@@ -3,3 +3,4 @@ pub mod Catalog
 pub mod Kinds
 pub mod PassSamples
 pub mod Agreeing
+pub mod Built

@@ -2,6 +2,7 @@
 #![tactic(auto)]
 
 pub mod asking_examples;
+pub mod built_examples;
 pub mod column_examples;
 pub mod falsification_examples;
 pub mod honesty_examples;

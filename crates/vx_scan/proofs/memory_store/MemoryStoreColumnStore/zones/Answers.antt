@@ -1,9 +1,9 @@
 use Rattle.std.proofs.Common.{◌≡◌, true, refl, map, length, subst}
 use Rattle.vx_dtype.specs.TypeRules.{field_names}
-use Rattle.vx_scan.specs.Blocks.{have_lengths, have_types, block_fits}
-use Rattle.vx_scan.specs.StoreViews.{StoreState, block_view}
-use Rattle.vx_scan.proofs.BlockLemmas.{table_lengths}
-use Rattle.vx_scan.proofs.FitLemmas.{table_fit}
+use Rattle.vx_tables.specs.Blocks.{block_view, have_lengths, have_types, block_fits}
+use Rattle.vx_scan.specs.StoreViews.{StoreState}
+use Rattle.vx_tables.proofs.BlockLemmas.{table_lengths}
+use Rattle.vx_tables.proofs.FitLemmas.{table_fit}
 use Rattle.std.specs.List.{list_all}
 use Rattle.vx_scan.proofs.memory_store.MemoryStoreColumnStore.zones.Goals as goal
 

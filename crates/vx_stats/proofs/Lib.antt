@@ -1,0 +1,4 @@
+pub mod FirstLemmas
+pub mod WalkLemmas
+pub mod ColumnLemmas
+pub mod TableLemmas

@@ -1,0 +1,4 @@
+pub mod MemberLemmas
+pub mod NamedLemmas
+pub mod BlockLemmas
+pub mod FitLemmas
