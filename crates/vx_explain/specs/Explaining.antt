@@ -17,7 +17,7 @@ use Rattle.vx_text.specs.Writing.{query_text}
 use Rattle.vx_explain.specs.Explanations.{explain_text}
 
 -- the explanation of two texts over a table with these zones: they spell a filter and a projection, strictly typed over its rows, the filter a boolean
-pub record IsExplained (holds : ExprEncoding → Bool) (zones : Zones) (filter_text projection_text text : Bytes) : Type 0 where
+pub record HasExplanation (holds : ExprEncoding → Bool) (zones : Zones) (filter_text projection_text text : Bytes) : Type 0 where
   pub filter : Tree
   pub projection : Tree
   pub spelled : SpellBoth holds filter_text projection_text filter projection
@@ -33,7 +33,7 @@ IsUnexplained holds zones filter_text projection_text e =
 
 -- two texts are explained, or refused; want of memory may come at any time
 abbrev pub Explains : (ExprEncoding → Bool) → Zones → Bytes → Bytes → Result (String Global) ScanError → Type 0
-Explains holds zones filter_text projection_text (Ok text) = IsExplained holds zones filter_text projection_text (string_bytes text)
+Explains holds zones filter_text projection_text (Ok text) = HasExplanation holds zones filter_text projection_text (string_bytes text)
 Explains holds zones filter_text projection_text (Err errors.NoMemory) = Unit {0}
 Explains holds zones filter_text projection_text (Err errors.Overflow) = ⊥
 Explains holds zones filter_text projection_text (Err errors.BadCast) = ⊥

@@ -19,7 +19,7 @@ use Rattle.vx_scan.specs.Scanning.{on_side, after_filter, scan_type, IsReport, I
 use Rattle.vx_scan.specs.ScanLaws.{IsQuietScan, ReportsUnlessNoMemory}
 use Rattle.vx_scan.specs.StoreAnswers.{new_store}
 use Rattle.vx_scan.specs.StoreViews.{StoreState, store_seen}
-use Rattle.vx_scan.specs.Stores.{Seen, IsSameStore}
+use Rattle.vx_scan.specs.Stores.{StoreSeen, IsSameStore}
 use Rattle.vx_scan.specs.declared.errors.ScanError.{ScanError}
 use Rattle.vx_scan.specs.declared.errors.Side.TheVariants.{Filter, Projection}
 use Rattle.vx_scan.specs.declared.reports.ScanReport.{ScanReport}
@@ -34,7 +34,7 @@ use Rattle.vx_generated.proofs.SpelledLemmas.{both-spelled}
 use Rattle.vx_generated.proofs.TableLemmas.{blocks-are_table}
 
 -- the store before its first read
-abbrev pub fresh : ℕ → Seen
+abbrev pub fresh : ℕ → StoreSeen
 fresh rows =
     record {
       zones = generated_zones rows;
@@ -59,7 +59,7 @@ typed rows h =
     (generated_filter_is_typed rows h)
     ∙ ap (λ (r : Result Ty Refusal). on_side Projection (passed r)) generated_projection_is_typed
 
-quiet : (rows : ℕ) (after : Seen) → rows < 2 ^ 32 → IsSameStore (fresh rows) after
+quiet : (rows : ℕ) (after : StoreSeen) → rows < 2 ^ 32 → IsSameStore (fresh rows) after
     → IsQuietScan [] (generated_filter rows) generated_projection (generated_table rows) (fresh rows) after
 quiet rows after h same = record {
   held = refl;
@@ -69,7 +69,7 @@ quiet rows after h same = record {
 }
 
 -- a scan of the bytes of both expressions over such a store, whatever is known of them
-pub record IsGenerated (rows : ℕ) (holds : ExprEncoding → Bool) (filter_text projection_text : Bytes) (before after : Seen) : Type 0 where
+pub record IsGenerated (rows : ℕ) (holds : ExprEncoding → Bool) (filter_text projection_text : Bytes) (before after : StoreSeen) : Type 0 where
   pub few : rows < 2 ^ 32
   pub kinds : holds ≡ is_default_kind
   pub filter : filter_text ≡ wire_text (generated_filter rows)
@@ -77,14 +77,14 @@ pub record IsGenerated (rows : ℕ) (holds : ExprEncoding → Bool) (filter_text
   pub new : before ≡ fresh rows
   pub same : IsSameStore before after
 
-ended-so : (rows : ℕ) (holds : ExprEncoding → Bool) (ft pt : Bytes) (before after : Seen) (result : Result ScanReport ScanError)
+ended-so : (rows : ℕ) (holds : ExprEncoding → Bool) (ft pt : Bytes) (before after : StoreSeen) (result : Result ScanReport ScanError)
     → IsGenerated rows holds ft pt before after → IsScan holds ft pt before after result
     → IsScan is_default_kind (wire_text (generated_filter rows)) (wire_text generated_projection) (fresh rows) after result
 ended-so rows holds ft pt before after result is ended =
     subst (λ k. k) (λ i. IsScan (is.kinds i) (is.filter i) (is.projection i) (is.new i) after result) ended
 
 -- it gives a report, or there was no memory
-pub reports : (rows : ℕ) (holds : ExprEncoding → Bool) (ft pt : Bytes) (before after : Seen) (result : Result ScanReport ScanError)
+pub reports : (rows : ℕ) (holds : ExprEncoding → Bool) (ft pt : Bytes) (before after : StoreSeen) (result : Result ScanReport ScanError)
     → IsGenerated rows holds ft pt before after → IsScan holds ft pt before after result → ReportsUnlessNoMemory result
 reports rows holds ft pt before after result is ended =
     unbroken_texts_so is_default_kind (wire_text (generated_filter rows)) (wire_text generated_projection) (generated_filter rows) generated_projection
@@ -93,13 +93,13 @@ reports rows holds ft pt before after result is ended =
     (ended-so rows holds ft pt before after result is ended)
 
 -- what the report tells, and what store is left
-pub record IsTold (rows : ℕ) (after : Seen) (report : ScanReport) : Type 0 where
+pub record IsTold (rows : ℕ) (after : StoreSeen) (report : ScanReport) : Type 0 where
   pub ty : type_view report.dtype ≡ id_ty
   pub answered : raw_rows id_ty report.rows ≡ answered_rows rows
   pub skipped : report.skipped ≡ skipped_in rows
   pub store : after ≡ generated_store rows
 
-pub told : (rows : ℕ) (holds : ExprEncoding → Bool) (ft pt : Bytes) (before after : Seen) (report : ScanReport)
+pub told : (rows : ℕ) (holds : ExprEncoding → Bool) (ft pt : Bytes) (before after : StoreSeen) (report : ScanReport)
     → IsGenerated rows holds ft pt before after → IsScan holds ft pt before after (Ok report) → IsTold rows after report
 told rows holds ft pt before after report is ended =
     let f = generated_filter rows in
@@ -129,7 +129,7 @@ pub fit-told : (t : Ty) (xs : List Raw) → t ≡ id_ty → raws_fit t xs ≡ tr
 fit-told t xs e h = subst (λ (u : Ty). raws_fit u xs ≡ true) e h
 
 -- the line
-pub line-told : (rows blocks : ℕ) (after : Seen) (report : ScanReport) → IsTold rows after report → blocks ≡ length (generated_zones rows).lengths
+pub line-told : (rows blocks : ℕ) (after : StoreSeen) (report : ScanReport) → IsTold rows after report → blocks ≡ length (generated_zones rows).lengths
     → summary_line blocks (length report.skipped) (length report.rows) (sum_of (raw_rows id_ty report.rows)) ≡ gen_line rows
 line-told rows blocks after report told e =
     ap (λ (n : ℕ). summary_line n (length report.skipped) (length report.rows) (sum_of (raw_rows id_ty report.rows))) e
@@ -141,7 +141,7 @@ line-told rows blocks after report told e =
 -- ---- from what the code has
 
 -- the store before its first read, by its table
-abbrev fresh_with : ℕ → Table → Seen
+abbrev fresh_with : ℕ → Table → StoreSeen
 fresh_with rows t =
     record {
       zones = generated_zones rows;
@@ -167,7 +167,7 @@ pub record IsMade (rows : ℕ) (z : Zones) (bs : List (List Column)) (store : St
   pub projection_written : projection_bytes ≡ wire_text p
 
 pub is-generated : (rows : ℕ) (z : Zones) (bs : List (List Column)) (store : StoreState) (f p : Tree) (filter_bytes projection_bytes ft pt : Bytes)
-    (holds : ExprEncoding → Bool) (after : Seen)
+    (holds : ExprEncoding → Bool) (after : StoreSeen)
     → rows < 2 ^ 32 → ((e : ExprEncoding) → holds e ≡ is_default_kind e) → IsMade rows z bs store f p filter_bytes projection_bytes
     → ft ≡ filter_bytes → pt ≡ projection_bytes → IsSameStore (store_seen store) after
     → IsGenerated rows holds ft pt (store_seen store) after
@@ -181,12 +181,12 @@ is-generated rows z bs store f p fb pb ft pt holds after few kinds made filter p
 }
 
 -- the report that was told
-pub told-so : (rows : ℕ) (holds : ExprEncoding → Bool) (ft pt : Bytes) (before after : Seen) (answer : Result ScanReport ScanError) (report : ScanReport)
+pub told-so : (rows : ℕ) (holds : ExprEncoding → Bool) (ft pt : Bytes) (before after : StoreSeen) (answer : Result ScanReport ScanError) (report : ScanReport)
     → IsGenerated rows holds ft pt before after → IsScan holds ft pt before after answer → answer ≡ Ok report → IsTold rows after report
 told-so rows holds ft pt before after answer report is ended e =
     told rows holds ft pt before after report is (subst (IsScan holds ft pt before after) e ended)
 
-pub rows-fit : (rows : ℕ) (after : Seen) (answer : Result ScanReport ScanError) (report : ScanReport) → IsTold rows after report → answer ≡ Ok report
+pub rows-fit : (rows : ℕ) (after : StoreSeen) (answer : Result ScanReport ScanError) (report : ScanReport) → IsTold rows after report → answer ≡ Ok report
     → IfOk answer (λ r. raws_fit (type_view r.dtype) r.rows ≡ true) → raws_fit id_ty report.rows ≡ true
 rows-fit rows after answer report is e fit =
     fit-told (type_view report.dtype) report.rows is.ty (subst (λ (a : Result ScanReport ScanError). IfOk a (λ r. raws_fit (type_view r.dtype) r.rows ≡ true)) e fit)

@@ -10,7 +10,7 @@ use Rattle.vx_dtype.specs.Equal.{ty_eq}
 use Rattle.vx_dtype.specs.Values.{Val, struct_val, no_members, member}
 use Rattle.vx_semantics.specs.Tables.{Table}
 use Rattle.vx_column.specs.Columns.{zip_rows}
-use Rattle.vx_tables.specs.Blocks.{block_long, block_typed, have_types, table_refusal, blocks_long, rows_of_columns, table_of}
+use Rattle.vx_tables.specs.Blocks.{block_long, block_typed, have_types, table_refusal, blocks_long, rows_of_columns, table_of_blocks}
 use Rattle.vx_tables.specs.declared.errors.TableError.TheVariants as errors
 use Rattle.vx_laws_generated.specs.GeneratedTable.{GeneratedColumn, id_column, v_column, name_of, number_at, number_val, integer_of, rows_in, numbers_in, block_numbers, block_length, generated_row, generated_block, generated_columns, generated_table, generated_zones}
 use Rattle.vx_generated.specs.GeneratedBlocks.{column_in, columns_in, generated_blocks}
@@ -68,7 +68,7 @@ blocks-agree rows =
 abbrev table_with : List (List Val) → Table
 table_with blocks = record { columns = generated_columns; blocks = blocks }
 
-pub blocks-are_table : (rows : ℕ) → table_of (generated_zones rows) (generated_blocks rows) ≡ generated_table rows
+pub blocks-are_table : (rows : ℕ) → table_of_blocks (generated_zones rows) (generated_blocks rows) ≡ generated_table rows
 blocks-are_table rows = ap table_with (blocks-side_by_side rows (block_numbers rows))
 
 pub generated_blocks_are_the_table : GeneratedBlocksAreTheTable

@@ -3,7 +3,7 @@ use Rattle.std.specs.Prelude.{ℕ, true, List, [], ◌∷◌, map, Some, None}
 use Rattle.vx_dtype.specs.Types.{int_ty}
 use Rattle.vx_semantics.specs.Scans.{reads_of}
 use Rattle.vx_column.specs.Columns.{Column, column}
-use Rattle.vx_scan.specs.Stores.{Read, Seen}
+use Rattle.vx_scan.specs.Stores.{Read, StoreSeen}
 use Rattle.vx_laws_generated.specs.GeneratedTable.{GeneratedColumn, id_column, v_column, integer_of, nullability_of, number_val, numbers_in, block_numbers}
 use Rattle.vx_laws_generated.specs.GeneratedTable.{generated_table, generated_zones, generated_filter, generated_projection}
 
@@ -22,7 +22,7 @@ generated_blocks rows = map (columns_in rows) (block_numbers rows)
 abbrev pub generated_reads : ℕ → List Read
 generated_reads rows = reads_of (generated_table rows) (generated_zones rows) [] (generated_filter rows) generated_projection
 
-abbrev pub generated_store : ℕ → Seen
+abbrev pub generated_store : ℕ → StoreSeen
 generated_store rows =
     record {
       zones = generated_zones rows;

@@ -19,7 +19,7 @@ use Rattle.vx_laws_scan.specs.Exactness.{is_exact_filter}
 use Rattle.vx_laws_pruning.specs.PruningLaws.{AreAccepted}
 use Rattle.vx_laws_pruning.specs.KnownBounds.{PathsHaveKnownBounds}
 use Rattle.vx_block_pruning.specs.BlocksRuledOut.{blocks_ruled_out}
-use Rattle.vx_scan.specs.Stores.{Seen}
+use Rattle.vx_scan.specs.Stores.{StoreSeen}
 use Rattle.vx_scan.specs.Texts.{SpellBoth}
 use Rattle.vx_scan.specs.Reports.{Report, report_view}
 use Rattle.vx_scan.specs.Scanning.{IsReport, IsScan}
@@ -50,14 +50,14 @@ is_among blocks block = list_any (nat_eq block) blocks
 -- the report of a scan by such a filter over such zones: whether it says that a block was skipped is exact
 abbrev pub ScansSkipExactly : Type 0
 ScansSkipExactly =
-    (slots : Slots) (filter_expr projection : Tree) (before after : Seen) (report : Report) (block : ℕ)
+    (slots : Slots) (filter_expr projection : Tree) (before after : StoreSeen) (report : Report) (block : ℕ)
     → AreAccepted before.zones → is_exact_filter filter_expr ≡ true → IsReport slots filter_expr projection before after report
     → block < length before.zones.lengths → IsExactFlag before.zones slots block filter_expr (is_among report.skipped block)
 
 -- and so of a scan of texts that spell such a filter
 abbrev pub TextScansSkipExactly : Type 0
 TextScansSkipExactly =
-    (holds : ExprEncoding → Bool) (filter_text projection_text : Bytes) (filter_expr projection : Tree) (before after : Seen) (report : ScanReport)
+    (holds : ExprEncoding → Bool) (filter_text projection_text : Bytes) (filter_expr projection : Tree) (before after : StoreSeen) (report : ScanReport)
     (block : ℕ)
     → AreAccepted before.zones → is_exact_filter filter_expr ≡ true → SpellBoth holds filter_text projection_text filter_expr projection
     → IsScan holds filter_text projection_text before after (Ok report)

@@ -4,7 +4,7 @@
 ghost use Rattle.std.specs.Prelude.{map, Option};
 ghost use Rattle.std.specs.Process.{exit_status};
 ghost use Rattle.std.specs.String.{string_bytes};
-ghost use Rattle.vx_scan.specs.Stores.{Seen};
+ghost use Rattle.vx_scan.specs.Stores.{StoreSeen};
 ghost use Rattle.vx_query.specs.Running.{IsRun, end_by, form_of};
 
 use std::alloc::Global;
@@ -24,7 +24,7 @@ pub fn exit_code<I: Source, O: Sink>(
     input: &mut I,
     output: &mut O,
 ) -> ExitCode
-    ensures { let source = end_by I.left I.faults in let sink = end_by O.written O.faults in (used : Option Seen)
+    ensures { let source = end_by I.left I.faults in let sink = end_by O.written O.faults in (used : Option StoreSeen)
         × IsRun (form_of (map string_bytes arguments.now)) (source input.old) (source input.new) (sink output.old) (sink output.new) used
         (exit_status result) }
 {

@@ -17,10 +17,10 @@ use Rattle.vx_semantics.specs.Scans.{read_columns, reads_to_break}
 use Rattle.vx_display.specs.ValueTexts.{value_text}
 use Rattle.vx_wire.specs.Encodings.{is_default_kind}
 use Rattle.vx_wire.specs.declared.ExprEncoding.{ExprEncoding}
-use Rattle.vx_tables.specs.Blocks.{table_of, table_refusal, have_lengths, have_types}
+use Rattle.vx_tables.specs.Blocks.{table_of_blocks, table_refusal, have_lengths, have_types}
 use Rattle.vx_scan.specs.Reports.{Report, report_view}
-use Rattle.vx_scan.specs.Scanning.{IsScan, IsReport, IsBroken}
-use Rattle.vx_scan.specs.Stores.{Read, Seen, IsSameStore}
+use Rattle.vx_scan.specs.Scanning.{IsScan, IsReport, IsStopped}
+use Rattle.vx_scan.specs.Stores.{Read, StoreSeen, IsSameStore}
 use Rattle.vx_scan.specs.StoreViews.{StoreState, store_seen}
 use Rattle.vx_scan.specs.Texts.{SpellBoth, AreRefused}
 use Rattle.vx_scan.specs.declared.errors.ScanError.{ScanError}
@@ -69,11 +69,11 @@ filter_left p xs found i x h is fails kept =
     kept ∙ ap (λ ys. found ++ filter p ys) next ∙ ap (λ ys. found ++ ys) (filter_rest p x (drop (i + 1) xs) fails)
 
 -- the store of a request that wasn't read yet
-abbrev pub fresh : RequestedScan → Seen
+abbrev pub fresh : RequestedScan → StoreSeen
 fresh a = store_with a []
 
 -- a store that is the same but for these reads, none of which failed
-store_after : (a : RequestedScan) (reads : List Read) (s : Seen) → IsSameStore (fresh a) s → s.log ≡ reads → s.failed ≡ None
+store_after : (a : RequestedScan) (reads : List Read) (s : StoreSeen) → IsSameStore (fresh a) s → s.log ≡ reads → s.failed ≡ None
     → s ≡ store_with a reads
 store_after a reads s same log failed =
     λ i. record { zones = same.zones i; held = same.held i; log = log i; faults = same.quiet refl i; failed = failed i; faultless = same.faultless i }
@@ -81,10 +81,10 @@ store_after a reads s same log failed =
 -- the text and the store of a scan that reports
 report_told : (a : RequestedScan) (f p : Tree) (s : StoreState) (r : Report) (text : Bytes) → IsSameStore (fresh a) (store_seen s)
     → IsReport [] f p (fresh a) (store_seen s) r
-    → text ≡ report_text (map value_text r.rows) r.skipped (read_columns (table_of s.zones s.blocks) s.reads) (length s.reads)
+    → text ≡ report_text (map value_text r.rows) r.skipped (read_columns (table_of_blocks s.zones s.blocks) s.reads) (length s.reads)
     → (scan_breaks a f p ≡ false) × (text ≡ scan_report a f p) × (store_seen s ≡ scanned_store a f p)
 report_told a f p s r text same report told =
-    let held : table_of s.zones s.blocks ≡ scan_table a = same_Some _ _ same.held in
+    let held : table_of_blocks s.zones s.blocks ≡ scan_table a = same_Some _ _ same.held in
     let reads : s.reads ≡ scan_reads a f p = report.reads.grown ∙ report.reads.told in (
       report.unbroken,
       told ∙ report_text_of_same _ _ _ _ _ _ _ _ (ap (map value_text) report.rows) report.skipped (λ i. read_columns (held i) (reads i)) (ap length reads),
@@ -92,17 +92,17 @@ report_told a f p s r text same report told =
     )
 
 -- and of one that breaks
-broken_told : (cause : Cause) (a : RequestedScan) (f p : Tree) (s : Seen) → IsSameStore (fresh a) s → IsBroken cause [] f p (fresh a) s
+broken_told : (cause : Cause) (a : RequestedScan) (f p : Tree) (s : StoreSeen) → IsSameStore (fresh a) s → IsStopped cause [] f p (fresh a) s
     → (scan_breaks_by cause a f p ≡ true) × (s ≡ broken_store a f p)
 broken_told cause a f p s same broken =
     (broken.first_breaks, store_after a (reads_to_break (scan_table a) a.zones [] f p) s same (broken.reads.grown ∙ broken.reads.told) broken.unfailed)
 
 -- a scan that reports ends so
-pub reported_scan : (a : RequestedScan) (holds : ExprEncoding → Bool) (before : Seen) (s : StoreState) (r : ScanReport) (text : String Global)
+pub reported_scan : (a : RequestedScan) (holds : ExprEncoding → Bool) (before : StoreSeen) (s : StoreState) (r : ScanReport) (text : String Global)
     → holds ≡ is_default_kind
     → before ≡ fresh a → IsSameStore before (store_seen s) → IsScan holds a.filter a.projection before (store_seen s) (Ok r)
     → string_bytes text
-    ≡ report_text (map value_text (report_view r).rows) (report_view r).skipped (read_columns (table_of s.zones s.blocks) s.reads) (length s.reads)
+    ≡ report_text (map value_text (report_view r).rows) (report_view r).skipped (read_columns (table_of_blocks s.zones s.blocks) s.reads) (length s.reads)
     → IsScanned a (Told text) (store_seen s)
 reported_scan a holds before s r text kinds is same ended told =
     elim (subst (λ k. k) (λ i. IsScan (kinds i) a.filter a.projection (is i) (store_seen s) (Ok r)) ended) [
@@ -128,8 +128,8 @@ no_fault : (a : RequestedScan) → ¬ (AreRefused is_default_kind a.filter a.pro
 no_fault a refused = elim refused [ inl none ↦ none | inr later ↦ later.1 ]
 
 -- the scan of a filter and a projection that breaks ends so
-broken_scan : (cause : Cause) (ending : Ending) (a : RequestedScan) (f p : Tree) (s : Seen) → SpellBoth is_default_kind a.filter a.projection f p
-    → IsSameStore (fresh a) s → IsBroken cause [] f p (fresh a) s
+broken_scan : (cause : Cause) (ending : Ending) (a : RequestedScan) (f p : Tree) (s : StoreSeen) → SpellBoth is_default_kind a.filter a.projection f p
+    → IsSameStore (fresh a) s → IsStopped cause [] f p (fresh a) s
     → ((scan_breaks_by cause a f p ≡ true) × (s ≡ broken_store a f p) → EndsBy a f p ending s) → IsScanned a ending s
 broken_scan cause ending a f p s spelled same broken ends = record {
   filter = f;
@@ -141,7 +141,7 @@ broken_scan cause ending a f p s spelled same broken ends = record {
 }
 
 -- a scan of such a store that gives no report
-pub unreported_fresh : (a : RequestedScan) (s : Seen) (e : ScanError) → IsSameStore (fresh a) s
+pub unreported_fresh : (a : RequestedScan) (s : StoreSeen) (e : ScanError) → IsSameStore (fresh a) s
     → IsScan is_default_kind a.filter a.projection (fresh a) s (Err e)
     → IsUnreported a e s
 unreported_fresh a s scans.NoMemory same ended = tt
@@ -153,13 +153,13 @@ unreported_fresh a s scans.StoreFault same ended =
     elim ended [ inl none ↦ no_fault a none.1 | inr own ↦ absurd (omega (arith, own.3.risen, same.quiet refl)) ]
 unreported_fresh a s e same ended = elim ended [ inl none ↦ inl none.1 | inr own ↦ inr (own.0, own.1, own.2, own.3.1) ]
 
-pub unreported_scan : (a : RequestedScan) (holds : ExprEncoding → Bool) (before s : Seen) (e : ScanError) → holds ≡ is_default_kind → before ≡ fresh a
+pub unreported_scan : (a : RequestedScan) (holds : ExprEncoding → Bool) (before s : StoreSeen) (e : ScanError) → holds ≡ is_default_kind → before ≡ fresh a
     → IsSameStore before s → IsScan holds a.filter a.projection before s (Err e) → IsUnreported a e s
 unreported_scan a holds before s e kinds is same ended =
     unreported_fresh a s e (subst (λ b. IsSameStore b s) is same) (subst (λ k. k) (λ i. IsScan (kinds i) a.filter a.projection (is i) s (Err e)) ended)
 
 -- and that is never a read that failed
-pub unfailing : (a : RequestedScan) (s : Seen) (e : ScanError) → IsUnreported a e s → e ≢ scans.StoreFault
+pub unfailing : (a : RequestedScan) (s : StoreSeen) (e : ScanError) → IsUnreported a e s → e ≢ scans.StoreFault
 unfailing a s e h is = subst (λ g. IsUnreported a g s) is h
 
 -- blocks that agree with zones are a table with them
@@ -182,7 +182,7 @@ if_err P r (Ok x) h k = absurd h
 if_err P r (Err x) h k = subst P (sym h) k
 
 -- an input that holds a scan whose expressions are typed is answered by how it ends
-pub answered_by : (input : Bytes) (s : RequestedScan) (ending : Ending) (seen : Seen) → request_of input ≡ Ok s → IsScanned s ending seen
+pub answered_by : (input : Bytes) (s : RequestedScan) (ending : Ending) (seen : StoreSeen) → request_of input ≡ Ok s → IsScanned s ending seen
     → IsAnswered input ending seen
 answered_by input s ending seen found scanned = record {
   asked = s;

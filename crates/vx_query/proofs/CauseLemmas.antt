@@ -13,7 +13,7 @@ use Rattle.vx_semantics.specs.Tables.{row_type}
 use Rattle.vx_display.specs.ValueTexts.{value_text}
 use Rattle.vx_laws_scan.specs.Pruned.{KeptRowsAreAll}
 use Rattle.vx_io.specs.Ends.{TookUpTo, Added}
-use Rattle.vx_scan.specs.Stores.{Seen}
+use Rattle.vx_scan.specs.Stores.{StoreSeen}
 use Rattle.vx_scan.specs.declared.errors.ScanError.{ScanError}
 use Rattle.vx_explain.specs.Explanations.{explain_text}
 use Rattle.vx_request.specs.Requests.{◌>>=◌, RequestedScan, request_of, ensured, json_in, scan_of, most_bytes}
@@ -24,7 +24,7 @@ use Rattle.vx_query.specs.Refusals.{request_refusal_name, scan_refusal_name, bre
 use Rattle.vx_query.specs.Running.{End, Form, HoldsScan, HoldsRefused, scan_table, scan_reads, scan_phases, scan_breaks, scan_breaks_by, scan_report, scanned_store, broken_store, scan_form, explain_form, reads_request, IsTaken, IsRun}
 use Rattle.vx_query.specs.Exclusions.{IsSameScan}
 use Rattle.vx_query.specs.WireLaws.{WireLaws}
-use Rattle.vx_query.specs.Causes.{HasRisen, IsReported, IsRefused, IsUnscanned, IsBroken, IsExplained, HasBroken, TellsScan, told_breaks, told_breaks_by, whole_report}
+use Rattle.vx_query.specs.Causes.{HasRisen, IsReported, IsUnasked, IsUnscanned, IsStopped, IsExplained, HasBroken, TellsScan, told_breaks, told_breaks_by, whole_report}
 use Rattle.vx_query.specs.Exactly.{Tells, RunsWell, EndsWith, taken_of}
 use Rattle.vx_query.proofs.RefusalLemmas.{one_err, not_err, one_scan, one_held_refusal, held_unrefused}
 use Rattle.vx_query.proofs.LineLemmas.{one_request, one_scan_error, one_cause, told_name}
@@ -42,7 +42,7 @@ no_explain same = true≢false (ap is_scan same)
 -- ---- what each status means
 
 -- the report that status 0 means
-pub reported : (i i' o o' : End) (used : Option Seen) → IsRun (Some scan_form) i i' o o' used 0 → IsReported i i' o o' used
+pub reported : (i i' o o' : End) (used : Option StoreSeen) → IsRun (Some scan_form) i i' o o' used 0 → IsReported i i' o o' used
 reported i i' o o' used run = by (request_end (Some scan_form) i i' o o' used 0 refl run)
   where
     by : RequestEnd (Some scan_form) i i' o o' used 0 → IsReported i i' o o' used
@@ -57,7 +57,7 @@ reported i i' o o' used run = by (request_end (Some scan_form) i i' o o' used 0 
     by (explains input a f p s other taken asks written held) = absurd (no_explain other)
 
 -- the explanation that it means
-pub was_explained : (i i' o o' : End) (used : Option Seen) → IsRun (Some explain_form) i i' o o' used 0 → IsExplained i i' o o' used
+pub was_explained : (i i' o o' : End) (used : Option StoreSeen) → IsRun (Some explain_form) i i' o o' used 0 → IsExplained i i' o o' used
 was_explained i i' o o' used run = by (request_end (Some explain_form) i i' o o' used 0 refl run)
   where
     by : RequestEnd (Some explain_form) i i' o o' used 0 → IsExplained i i' o o' used
@@ -72,11 +72,11 @@ was_explained i i' o o' used run = by (request_end (Some explain_form) i i' o o'
         record { input = input; asked = a; filter = f; projection = p; taken = taken; asks = asks; written = written; unheld = held }
 
 -- an input that is no request
-pub unasked : (form : Option Form) (i i' o o' : End) (used : Option Seen) → reads_request form ≡ true → IsRun form i i' o o' used 3
-    → IsRefused i i' o o' used
+pub unasked : (form : Option Form) (i i' o o' : End) (used : Option StoreSeen) → reads_request form ≡ true → IsRun form i i' o o' used 3
+    → IsUnasked i i' o o' used
 unasked form i i' o o' used reads run = by (request_end form i i' o o' used 3 reads run)
   where
-    by : RequestEnd form i i' o o' used 3 → IsRefused i i' o o' used
+    by : RequestEnd form i i' o o' used 3 → IsUnasked i i' o o' used
     by (cut_off s risen) = absurd (omega (arith, s))
     by (without_memory s held) = absurd (omega (arith, s))
     by (not_read s risen held) = absurd (omega (arith, s))
@@ -88,7 +88,7 @@ unasked form i i' o o' used reads run = by (request_end form i i' o o' used 3 re
     by (explains input a f p s other taken asks written held) = absurd (omega (arith, s))
 
 -- a scan whose expressions are refused
-pub unspelled : (form : Option Form) (i i' o o' : End) (used : Option Seen) → reads_request form ≡ true → IsRun form i i' o o' used 4
+pub unspelled : (form : Option Form) (i i' o o' : End) (used : Option StoreSeen) → reads_request form ≡ true → IsRun form i i' o o' used 4
     → IsUnscanned i i' o o' used
 unspelled form i i' o o' used reads run = by (request_end form i i' o o' used 4 reads run)
   where
@@ -104,10 +104,10 @@ unspelled form i i' o o' used reads run = by (request_end form i i' o o' used 4 
     by (explains input a f p s other taken asks written held) = absurd (omega (arith, s))
 
 -- a scan that broke
-pub stopped : (form : Option Form) (i i' o o' : End) (used : Option Seen) → IsRun form i i' o o' used 5 → IsBroken i i' o o' used
+pub stopped : (form : Option Form) (i i' o o' : End) (used : Option StoreSeen) → IsRun form i i' o o' used 5 → IsStopped i i' o o' used
 stopped form i i' o o' used run = by (request_end form i i' o o' used 5 (broken_reads form i i' o o' used run) run)
   where
-    by : RequestEnd form i i' o o' used 5 → IsBroken i i' o o' used
+    by : RequestEnd form i i' o o' used 5 → IsStopped i i' o o' used
     by (cut_off s risen) = absurd (omega (arith, s))
     by (without_memory s held) = absurd (omega (arith, s))
     by (not_read s risen held) = absurd (omega (arith, s))
@@ -131,7 +131,7 @@ stopped form i i' o o' used run = by (request_end form i i' o o' used 5 (broken_
 -- ---- what a line tells
 
 -- a run that tells a refusal of its request
-pub told_request : (e : RequestError) (form : Option Form) (i i' o o' : End) (used : Option Seen) → reads_request form ≡ true
+pub told_request : (e : RequestError) (form : Option Form) (i i' o o' : End) (used : Option StoreSeen) → reads_request form ≡ true
     → Tells form i i' o o' used 3 (refusal_line (request_refusal_name e)) → (input : Bytes) × IsTaken i i' input × (request_of input ≡ Err e)
 told_request e form i i' o o' used reads tells =
     let found = unasked form i i' o o' used reads tells.run in
@@ -141,7 +141,7 @@ told_request e form i i' o o' used reads tells =
     (found.input, found.taken, found.cause ∙ ap Err same)
 
 -- one that tells a refusal of its expressions
-pub told_expressions : (e : ScanError) (form : Option Form) (i i' o o' : End) (used : Option Seen) → reads_request form ≡ true
+pub told_expressions : (e : ScanError) (form : Option Form) (i i' o o' : End) (used : Option StoreSeen) → reads_request form ≡ true
     → Tells form i i' o o' used 4 (refusal_line (scan_refusal_name e)) → (input : Bytes) × IsTaken i i' input × HoldsRefused input e
 told_expressions e form i i' o o' used reads tells =
     let found = unspelled form i i' o o' used reads tells.run in
@@ -151,7 +151,7 @@ told_expressions e form i i' o o' used reads tells =
     (found.input, found.taken, subst (HoldsRefused found.input) same found.cause)
 
 -- one that tells a break
-pub told_break : (cause : Cause) (form : Option Form) (i i' o o' : End) (used : Option Seen) → Tells form i i' o o' used 5 (refusal_line (break_name cause))
+pub told_break : (cause : Cause) (form : Option Form) (i i' o o' : End) (used : Option StoreSeen) → Tells form i i' o o' used 5 (refusal_line (break_name cause))
     → HasBroken cause form i i'
 told_break cause form i i' o o' used tells =
     let found = stopped form i i' o o' used tells.run in
@@ -245,7 +245,7 @@ told_breaking told a f p b same h = sym (λ j. scan_breaks (same.asked j) (same.
 -- ---- runs over a source whose bytes are told
 
 -- where no phase of the scan that is told breaks, its report is written
-pub completed : WireLaws → (i i' o o' : End) (used : Option Seen) (status : ℕ) (told : TellsScan i) → told_breaks told ≡ false
+pub completed : WireLaws → (i i' o o' : End) (used : Option StoreSeen) (status : ℕ) (told : TellsScan i) → told_breaks told ≡ false
     → RunsWell (Some scan_form) i i' o o' used status → ¬ (HasRisen i i')
     → EndsWith 0 (scan_report told.asked told.filter told.projection) o o' status
 completed laws i i' o o' used status told unbroken well still = by (request_end (Some scan_form) i i' o o' used status refl well.run)
@@ -265,7 +265,7 @@ completed laws i i' o o' used status told unbroken well still = by (request_end 
     by (explains input a f p s other taken asks written held) = absurd (no_explain other)
 
 -- where the bytes that are told hold a scan, its explanation is written
-pub explained_whole : WireLaws → (i i' o o' : End) (used : Option Seen) (status : ℕ) (told : TellsScan i)
+pub explained_whole : WireLaws → (i i' o o' : End) (used : Option StoreSeen) (status : ℕ) (told : TellsScan i)
     → RunsWell (Some explain_form) i i' o o' used status → ¬ (HasRisen i i')
     → EndsWith 0 (explain_text told.asked.zones told.filter told.projection) o o' status
 explained_whole laws i i' o o' used status told well still = by (request_end (Some explain_form) i i' o o' used status refl well.run)
@@ -283,7 +283,7 @@ explained_whole laws i i' o o' used status told well still = by (request_end (So
         (s, subst (Added o.bytes o'.bytes) (λ j. explain_text (same.asked j).zones (same.filter j) (same.projection j)) written)
 
 -- where what is taken of them is no request
-pub says_why : (e : RequestError) (form : Option Form) (i i' o o' : End) (used : Option Seen) (status : ℕ) (input : Bytes) → reads_request form ≡ true
+pub says_why : (e : RequestError) (form : Option Form) (i i' o o' : End) (used : Option StoreSeen) (status : ℕ) (input : Bytes) → reads_request form ≡ true
     → i.bytes ≡ Some input → request_of (taken_of input) ≡ Err e → RunsWell form i i' o o' used status → ¬ (HasRisen i i')
     → EndsWith 3 (refusal_line (request_refusal_name e)) o o' status
 says_why e form i i' o o' used status all reads told refuses well still = by (request_end form i i' o o' used status reads well.run)
@@ -304,7 +304,7 @@ says_why e form i i' o o' used status all reads told refuses well still = by (re
     by (explains input a f p s other taken asks written held) = absurd (not_err (request_of input) a e asks.asked (refused_all input taken))
 
 -- where it holds a scan whose expressions are refused
-pub says_refusal : WireLaws → (e : ScanError) (form : Option Form) (i i' o o' : End) (used : Option Seen) (status : ℕ) (input : Bytes)
+pub says_refusal : WireLaws → (e : ScanError) (form : Option Form) (i i' o o' : End) (used : Option StoreSeen) (status : ℕ) (input : Bytes)
     → reads_request form ≡ true → i.bytes ≡ Some input → HoldsRefused (taken_of input) e → RunsWell form i i' o o' used status → ¬ (HasRisen i i')
     → EndsWith 4 (refusal_line (scan_refusal_name e)) o o' status
 says_refusal laws e form i i' o o' used status all reads told refuses well still = by (request_end form i i' o o' used status reads well.run)
@@ -327,13 +327,13 @@ says_refusal laws e form i i' o o' used status all reads told refuses well still
     by (explains input a f p s other taken asks written held) = absurd (held_unrefused laws input a f p e asks (refused_all input taken))
 
 -- the run of a scan that breaks says why, and holds its store
-abbrev pub SaysBreak : {i : End} → TellsScan i → End → End → Option Seen → ℕ → Type 0
+abbrev pub SaysBreak : {i : End} → TellsScan i → End → End → Option StoreSeen → ℕ → Type 0
 SaysBreak told o o' used status =
     ((cause : Cause) × (told_breaks_by cause told ≡ true) × EndsWith 5 (refusal_line (break_name cause)) o o' status)
     × (used ≡ Some (broken_store told.asked told.filter told.projection))
 
 -- where a phase of the scan that is told breaks
-pub says_break : WireLaws → (i i' o o' : End) (used : Option Seen) (status : ℕ) (told : TellsScan i) → told_breaks told ≡ true
+pub says_break : WireLaws → (i i' o o' : End) (used : Option StoreSeen) (status : ℕ) (told : TellsScan i) → told_breaks told ≡ true
     → RunsWell (Some scan_form) i i' o o' used status → ¬ (HasRisen i i') → SaysBreak told o o' used status
 says_break laws i i' o o' used status told breaking well still = by (request_end (Some scan_form) i i' o o' used status refl well.run)
   where
@@ -354,7 +354,7 @@ says_break laws i i' o o' used status told breaking well still = by (request_end
     by (explains input a f p s other taken asks written held) = absurd (no_explain other)
 
 -- the scan that a run reports is the one that the source's bytes ask, and so is the one that is explained
-pub reported_as_told : WireLaws → (i i' o o' : End) (used : Option Seen) (told : TellsScan i) → IsRun (Some scan_form) i i' o o' used 0
+pub reported_as_told : WireLaws → (i i' o o' : End) (used : Option StoreSeen) (told : TellsScan i) → IsRun (Some scan_form) i i' o o' used 0
     → Added o.bytes o'.bytes (scan_report told.asked told.filter told.projection) × (used ≡ Some (scanned_store told.asked told.filter told.projection))
 reported_as_told laws i i' o o' used told run =
     let found = reported i i' o o' used run in
@@ -363,7 +363,7 @@ reported_as_told laws i i' o o' used told run =
       found.held ∙ (λ j. Some (scanned_store (same.asked j) (same.filter j) (same.projection j))),
     )
 
-pub explained_as_told : WireLaws → (i i' o o' : End) (used : Option Seen) (told : TellsScan i) → IsRun (Some explain_form) i i' o o' used 0
+pub explained_as_told : WireLaws → (i i' o o' : End) (used : Option StoreSeen) (told : TellsScan i) → IsRun (Some explain_form) i i' o o' used 0
     → Added o.bytes o'.bytes (explain_text told.asked.zones told.filter told.projection)
 explained_as_told laws i i' o o' used told run =
     let found = was_explained i i' o o' used run in

@@ -1,10 +1,10 @@
 -- What the status of a run tells of faults and of want of memory, and what help, words and queries that are refused leave.
 use Rattle.std.proofs.Common.{◌≡◌, ◌∙◌, sym, ap, refl, subst, ℕ, ◌+◌, ◌-◌, ◌^◌, ◌<◌, ◌≤◌, min, true, false, codes, Option, Some, None, inl, inr, arith, true≢false}
 use Rattle.vx_dtype.specs.Types.{Bytes}
-use Rattle.vx_scan.specs.Stores.{Seen}
+use Rattle.vx_scan.specs.Stores.{StoreSeen}
 use Rattle.vx_io.specs.Counts.{one_more}
 use Rattle.vx_query.specs.Refusals.{text_refusal_name}
-use Rattle.vx_query.specs.Running.{End, Form, scan_form, explain_form, show_form, text_form, gen_form, help_form, version_form, help_text, version_text, reads_request, shown_word, asked_query, asked_rows, Outcome, misused, helped, versioned, out_of_memory, unread, refused, unscanned, broken, answered, explained, undecoded, unshown, shown, unnamed, unserialized, overlong, named, summed, Writing, whole, cut, IsOutcome, IsWriting, IsRun, status_of, text_of, used_by}
+use Rattle.vx_query.specs.Running.{End, Form, scan_form, explain_form, show_form, text_form, gen_form, help_form, version_form, help_text, version_text, reads_request, shown_word, asked_query, asked_rows, Outcome, misused, helped, versioned, out_of_memory, unread, refused, unscanned, broken, answered, explained, undecoded, unshown, shown, unnamed, unserialized, overlong, named, summed, Writing, whole, cut, IsOutcome, IsWriting, IsRun, status_of, outcome_text, used_by}
 use Rattle.vx_query.specs.Causes.{HasRisen, IsCut, IsUnread, IsWithoutMemory, IsTold, IsUndigited, IsUnshown, IsUnnamed}
 use Rattle.vx_query.proofs.FormLemmas.{scans_hold, others_take_nothing}
 use Rattle.vx_query.proofs.RequestEnds.{not_none}
@@ -14,10 +14,10 @@ use Rattle.vx_query.proofs.QueryEnds as queries
 -- ---- faults
 
 -- a source that failed
-pub source_unread : (form : Option Form) (i i' o o' : End) (used : Option Seen) → IsRun form i i' o o' used 6 → IsUnread form i i' o o' used
+pub source_unread : (form : Option Form) (i i' o o' : End) (used : Option StoreSeen) → IsRun form i i' o o' used 6 → IsUnread form i i' o o' used
 source_unread form i i' o o' used run = by run.outcome run.writing run.comes run.written run.held
   where
-    by : (outcome : Outcome) (writing : Writing) → IsOutcome form i i' outcome → IsWriting o o' (text_of outcome) (status_of outcome) 6 writing
+    by : (outcome : Outcome) (writing : Writing) → IsOutcome form i i' outcome → IsWriting o o' (outcome_text outcome) (status_of outcome) 6 writing
         → used ≡ used_by outcome → IsUnread form i i' o o' used
     by outcome cut comes written held = absurd (omega (arith, written.0))
     by misused whole comes written held = absurd (omega (arith, written.0))
@@ -40,10 +40,10 @@ source_unread form i i' o o' used run = by run.outcome run.writing run.comes run
     by (summed rows) whole comes written held = absurd (omega (arith, written.0))
 
 -- a sink that failed
-pub sink_cut : (form : Option Form) (i i' o o' : End) (used : Option Seen) → IsRun form i i' o o' used 7 → IsCut form i i' o o' used
+pub sink_cut : (form : Option Form) (i i' o o' : End) (used : Option StoreSeen) → IsRun form i i' o o' used 7 → IsCut form i i' o o' used
 sink_cut form i i' o o' used run = by run.outcome run.writing run.comes run.written run.held
   where
-    by : (outcome : Outcome) (writing : Writing) → IsOutcome form i i' outcome → IsWriting o o' (text_of outcome) (status_of outcome) 7 writing
+    by : (outcome : Outcome) (writing : Writing) → IsOutcome form i i' outcome → IsWriting o o' (outcome_text outcome) (status_of outcome) 7 writing
         → used ≡ used_by outcome → IsCut form i i' o o' used
     by outcome cut comes written held = record { outcome = outcome; comes = comes; risen = written.1.1; written = written.1.0; held = held }
     by misused whole comes written held = absurd (omega (arith, written.0))
@@ -66,10 +66,10 @@ sink_cut form i i' o o' used run = by run.outcome run.writing run.comes run.writ
     by (summed rows) whole comes written held = absurd (omega (arith, written.0))
 
 -- want of memory
-pub without_any : (form : Option Form) (i i' o o' : End) (used : Option Seen) → IsRun form i i' o o' used 8 → IsWithoutMemory form i i' o o' used
+pub without_any : (form : Option Form) (i i' o o' : End) (used : Option StoreSeen) → IsRun form i i' o o' used 8 → IsWithoutMemory form i i' o o' used
 without_any form i i' o o' used run = by run.outcome run.writing run.comes run.written run.held
   where
-    by : (outcome : Outcome) (writing : Writing) → IsOutcome form i i' outcome → IsWriting o o' (text_of outcome) (status_of outcome) 8 writing
+    by : (outcome : Outcome) (writing : Writing) → IsOutcome form i i' outcome → IsWriting o o' (outcome_text outcome) (status_of outcome) 8 writing
         → used ≡ used_by outcome → IsWithoutMemory form i i' o o' used
     by outcome cut comes written held = absurd (omega (arith, written.0))
     by misused whole comes written held = absurd (omega (arith, written.0))
@@ -96,7 +96,7 @@ stayed : (i i' : End) → i.faults < 2 ^ 64 - 1 → i'.faults ≡ i.faults → �
 stayed i i' below same risen = omega (arith, below, same, risen)
 
 -- where the source counted a fault and the sink none, the input is told as not read
-pub risen_unread : (form : Option Form) (i i' o o' : End) (used : Option Seen) (status : ℕ) → i.faults < 2 ^ 64 - 1 → HasRisen i i' → ¬ (HasRisen o o')
+pub risen_unread : (form : Option Form) (i i' o o' : End) (used : Option StoreSeen) (status : ℕ) → i.faults < 2 ^ 64 - 1 → HasRisen i i' → ¬ (HasRisen o o')
     → IsRun form i i' o o' used status → status ≡ 6
 risen_unread form i i' o o' used status below risen quiet run = by run.outcome run.writing run.comes run.written
   where
@@ -106,7 +106,7 @@ risen_unread form i i' o o' used status below risen quiet run = by run.outcome r
     unrisen : i'.faults ≡ i.faults → status ≡ 6
     unrisen same = absurd (stayed i i' below same risen)
 
-    by : (outcome : Outcome) (writing : Writing) → IsOutcome form i i' outcome → IsWriting o o' (text_of outcome) (status_of outcome) status writing
+    by : (outcome : Outcome) (writing : Writing) → IsOutcome form i i' outcome → IsWriting o o' (outcome_text outcome) (status_of outcome) status writing
         → status ≡ 6
     by outcome cut comes written = absurd (quiet written.1.1)
     by misused whole comes written = kept comes.1
@@ -138,12 +138,12 @@ is_help _ = None
 other_form : ¬ (Some help_form ≡ Some version_form)
 other_form same = not_none (ap is_help same)
 
-pub help_told : (i i' o o' : End) (used : Option Seen) (status : ℕ) → IsRun (Some help_form) i i' o o' used status → ¬ (HasRisen o o')
+pub help_told : (i i' o o' : End) (used : Option StoreSeen) (status : ℕ) → IsRun (Some help_form) i i' o o' used status → ¬ (HasRisen o o')
     → IsTold help_text i i' o o' used status
 help_told i i' o o' used status run quiet = by run.outcome run.writing run.comes run.written run.held
   where
     by : (outcome : Outcome) (writing : Writing) → IsOutcome (Some help_form) i i' outcome
-        → IsWriting o o' (text_of outcome) (status_of outcome) status writing
+        → IsWriting o o' (outcome_text outcome) (status_of outcome) status writing
         → used ≡ used_by outcome → IsTold help_text i i' o o' used status
     by outcome cut comes written held = absurd (quiet written.1.1)
     by misused whole comes written held = absurd (not_none comes.0)
@@ -171,12 +171,12 @@ help_told i i' o o' used status run quiet = by run.outcome run.writing run.comes
     by (named e) whole comes written held = absurd (not_none (sym comes.0.1))
     by (summed rows) whole comes written held = absurd (not_none (sym (ap asked_rows comes.0)))
 
-pub version_told : (i i' o o' : End) (used : Option Seen) (status : ℕ) → IsRun (Some version_form) i i' o o' used status → ¬ (HasRisen o o')
+pub version_told : (i i' o o' : End) (used : Option StoreSeen) (status : ℕ) → IsRun (Some version_form) i i' o o' used status → ¬ (HasRisen o o')
     → IsTold version_text i i' o o' used status
 version_told i i' o o' used status run quiet = by run.outcome run.writing run.comes run.written run.held
   where
     by : (outcome : Outcome) (writing : Writing) → IsOutcome (Some version_form) i i' outcome
-        → IsWriting o o' (text_of outcome) (status_of outcome) status writing
+        → IsWriting o o' (outcome_text outcome) (status_of outcome) status writing
         → used ≡ used_by outcome → IsTold version_text i i' o o' used status
     by outcome cut comes written held = absurd (quiet written.1.1)
     by misused whole comes written held = absurd (not_none comes.0)
@@ -230,7 +230,7 @@ word_asks_none (Some (gen_form rows)) word shows = absurd (not_none (sym shows))
 word_asks_none (Some help_form) word shows = refl
 word_asks_none (Some version_form) word shows = refl
 
-pub no_digits_told : (form : Option Form) (word : Bytes) (i i' o o' : End) (used : Option Seen) → shown_word form ≡ Some word
+pub no_digits_told : (form : Option Form) (word : Bytes) (i i' o o' : End) (used : Option StoreSeen) → shown_word form ≡ Some word
     → IsRun form i i' o o' used 3 → IsUndigited word i i' o o' used
 no_digits_told form word i i' o o' used shows run = by (words.word_end form word i i' o o' used 3 shows run)
   where
@@ -246,7 +246,7 @@ no_digits_told form word i i' o o' used shows run = by (words.word_end form word
     by (words.no_expression e s why written) = absurd (omega (arith, s))
     by (words.told showing e s is spells untaken written held) = absurd (omega (arith, s))
 
-pub refused_word_told : (form : Option Form) (word : Bytes) (i i' o o' : End) (used : Option Seen) → shown_word form ≡ Some word
+pub refused_word_told : (form : Option Form) (word : Bytes) (i i' o o' : End) (used : Option StoreSeen) → shown_word form ≡ Some word
     → IsRun form i i' o o' used 4 → IsUnshown word i i' o o' used
 refused_word_told form word i i' o o' used shows run = by (words.word_end form word i i' o o' used 4 shows run)
   where
@@ -266,7 +266,7 @@ refused_word_told form word i i' o o' used shows run = by (words.word_end form w
 asks_no_scan : (query : Bytes) → ¬ (Some (text_form query) ≡ Some scan_form)
 asks_no_scan query same = not_none (ap asked_query same)
 
-pub refused_query_told : (query : Bytes) (i i' o o' : End) (used : Option Seen) → IsRun (Some (text_form query)) i i' o o' used 4
+pub refused_query_told : (query : Bytes) (i i' o o' : End) (used : Option StoreSeen) → IsRun (Some (text_form query)) i i' o o' used 4
     → IsUnnamed query i i' o o' used
 refused_query_told query i i' o o' used run = by (queries.query_end query i i' o o' used 4 run)
   where
@@ -288,7 +288,7 @@ refused_query_told query i i' o o' used run = by (queries.query_end query i i' o
     by (queries.bytes e s names has untaken written held) = absurd (omega (arith, s))
 
 -- a query has no third status
-pub queries_no_digits : (query : Bytes) (i i' o o' : End) (used : Option Seen) → ¬ (IsRun (Some (text_form query)) i i' o o' used 3)
+pub queries_no_digits : (query : Bytes) (i i' o o' : End) (used : Option StoreSeen) → ¬ (IsRun (Some (text_form query)) i i' o o' used 3)
 queries_no_digits query i i' o o' used run = by (queries.query_end query i i' o o' used 3 run)
   where
     by : queries.QueryEnd query i i' o o' used 3 → ⊥

@@ -1,16 +1,16 @@
 -- What the status of a run tells of the form of its arguments: none, which forms break, hold stores and take nothing; and of faults.
 use Rattle.std.proofs.Common.{◌≡◌, ◌∙◌, sym, ap, refl, ℕ, true, false, Option, Some, None, inl, inr, arith, true≢false}
-use Rattle.vx_scan.specs.Stores.{Seen}
-use Rattle.vx_query.specs.Running.{End, Form, scan_form, explain_form, reads_request, asked_rows, Outcome, misused, helped, versioned, out_of_memory, unread, refused, unscanned, broken, answered, explained, undecoded, unshown, shown, unnamed, unserialized, overlong, named, summed, Writing, whole, cut, IsOutcome, IsWriting, IsRun, status_of, text_of, used_by}
+use Rattle.vx_scan.specs.Stores.{StoreSeen}
+use Rattle.vx_query.specs.Running.{End, Form, scan_form, explain_form, reads_request, asked_rows, Outcome, misused, helped, versioned, out_of_memory, unread, refused, unscanned, broken, answered, explained, undecoded, unshown, shown, unnamed, unserialized, overlong, named, summed, Writing, whole, cut, IsOutcome, IsWriting, IsRun, status_of, outcome_text, used_by}
 use Rattle.vx_query.specs.Causes.{HasRisen, IsMisuse}
 use Rattle.vx_query.proofs.RequestEnds.{not_none}
 
 -- ---- arguments of no form
 
-pub unformed : (form : Option Form) (i i' o o' : End) (used : Option Seen) → IsRun form i i' o o' used 2 → form ≡ None
+pub unformed : (form : Option Form) (i i' o o' : End) (used : Option StoreSeen) → IsRun form i i' o o' used 2 → form ≡ None
 unformed form i i' o o' used run = by run.outcome run.writing run.comes run.written
   where
-    by : (outcome : Outcome) (writing : Writing) → IsOutcome form i i' outcome → IsWriting o o' (text_of outcome) (status_of outcome) 2 writing → form ≡ None
+    by : (outcome : Outcome) (writing : Writing) → IsOutcome form i i' outcome → IsWriting o o' (outcome_text outcome) (status_of outcome) 2 writing → form ≡ None
     by outcome cut comes written = absurd (omega (arith, written.0))
     by misused whole comes written = comes.0
     by helped whole comes written = absurd (omega (arith, written.0))
@@ -31,12 +31,12 @@ unformed form i i' o o' used run = by run.outcome run.writing run.comes run.writ
     by (named e) whole comes written = absurd (omega (arith, written.0))
     by (summed rows) whole comes written = absurd (omega (arith, written.0))
 
-pub misuses : (i i' o o' : End) (used : Option Seen) (status : ℕ) → IsRun None i i' o o' used status → ¬ (HasRisen o o')
+pub misuses : (i i' o o' : End) (used : Option StoreSeen) (status : ℕ) → IsRun None i i' o o' used status → ¬ (HasRisen o o')
     → IsMisuse i i' o o' used status
 misuses i i' o o' used status run quiet = by run.outcome run.writing run.comes run.written run.held
   where
     by : (outcome : Outcome) (writing : Writing) → IsOutcome None i i' outcome
-        → IsWriting o o' (text_of outcome) (status_of outcome) status writing
+        → IsWriting o o' (outcome_text outcome) (status_of outcome) status writing
         → used ≡ used_by outcome
         → IsMisuse i i' o o' used status
     by outcome cut comes written held = absurd (quiet written.1.1)
@@ -67,11 +67,11 @@ misuses i i' o o' used status run quiet = by run.outcome run.writing run.comes r
 
 -- ---- which forms break, hold stores and take nothing
 
-pub broken_scans : (form : Option Form) (i i' o o' : End) (used : Option Seen) → IsRun form i i' o o' used 5 → form ≡ Some scan_form
+pub broken_scans : (form : Option Form) (i i' o o' : End) (used : Option StoreSeen) → IsRun form i i' o o' used 5 → form ≡ Some scan_form
 broken_scans form i i' o o' used run = by run.outcome run.writing run.comes run.written
   where
     by : (outcome : Outcome) (writing : Writing) → IsOutcome form i i' outcome
-        → IsWriting o o' (text_of outcome) (status_of outcome) 5 writing
+        → IsWriting o o' (outcome_text outcome) (status_of outcome) 5 writing
         → form ≡ Some scan_form
     by outcome cut comes written = absurd (omega (arith, written.0))
     by misused whole comes written = absurd (omega (arith, written.0))
@@ -93,10 +93,10 @@ broken_scans form i i' o o' used run = by run.outcome run.writing run.comes run.
     by (named e) whole comes written = absurd (omega (arith, written.0))
     by (summed rows) whole comes written = absurd (omega (arith, written.0))
 
-pub broken_reads : (form : Option Form) (i i' o o' : End) (used : Option Seen) → IsRun form i i' o o' used 5 → reads_request form ≡ true
+pub broken_reads : (form : Option Form) (i i' o o' : End) (used : Option StoreSeen) → IsRun form i i' o o' used 5 → reads_request form ≡ true
 broken_reads form i i' o o' used run = ap reads_request (broken_scans form i i' o o' used run)
 
-pub scans_hold : (form : Option Form) (i i' o o' : End) (used : Option Seen) (status : ℕ) → ¬ (form ≡ Some scan_form) → asked_rows form ≡ None
+pub scans_hold : (form : Option Form) (i i' o o' : End) (used : Option StoreSeen) (status : ℕ) → ¬ (form ≡ Some scan_form) → asked_rows form ≡ None
     → IsRun form i i' o o' used status → used ≡ None
 scans_hold form i i' o o' used status other none run = by run.outcome run.comes run.held
   where
@@ -120,7 +120,7 @@ scans_hold form i i' o o' used status other none run = by run.outcome run.comes 
     by (named e) comes held = held
     by (summed rows) comes held = absurd (not_none (sym (ap asked_rows comes.0) ∙ none))
 
-pub others_take_nothing : (form : Option Form) (i i' o o' : End) (used : Option Seen) (status : ℕ) → reads_request form ≡ false
+pub others_take_nothing : (form : Option Form) (i i' o o' : End) (used : Option StoreSeen) (status : ℕ) → reads_request form ≡ false
     → IsRun form i i' o o' used status → i' ≡ i
 others_take_nothing form i i' o o' used status none run = by run.outcome run.comes
   where

@@ -11,13 +11,13 @@ use Rattle.vx_io.specs.Ends.{Added}
 use Rattle.vx_scan.specs.Runs.{block_asked}
 use Rattle.vx_scan.specs.ScanLaws.{is_asked_read}
 use Rattle.vx_scan.specs.Scanning.{AreAmong, asked_reads}
-use Rattle.vx_scan.specs.Stores.{Seen}
+use Rattle.vx_scan.specs.Stores.{StoreSeen}
 use Rattle.vx_scan.proofs.AskedLemmas.{reads_are_asked}
 use Rattle.vx_request.specs.Requests.{RequestedScan}
 use Rattle.vx_laws_generated.specs.GeneratedTable.{block_numbers, block_length, generated_block, generated_table, generated_zones, generated_filter, generated_projection}
 use Rattle.vx_laws_generated.specs.GeneratedLine.{gen_line}
 use Rattle.vx_generated.specs.GeneratedBlocks.{generated_blocks, generated_reads, generated_store}
-use Rattle.vx_query.specs.Running.{End, Form, scan_form, explain_form, show_form, text_form, gen_form, help_form, version_form, asked_rows, Outcome, misused, helped, versioned, out_of_memory, unread, refused, unscanned, broken, answered, explained, undecoded, unshown, shown, unnamed, unserialized, overlong, named, summed, Writing, whole, cut, IsOutcome, IsWriting, IsRun, status_of, text_of, used_by}
+use Rattle.vx_query.specs.Running.{End, Form, scan_form, explain_form, show_form, text_form, gen_form, help_form, version_form, asked_rows, Outcome, misused, helped, versioned, out_of_memory, unread, refused, unscanned, broken, answered, explained, undecoded, unshown, shown, unnamed, unserialized, overlong, named, summed, Writing, whole, cut, IsOutcome, IsWriting, IsRun, status_of, outcome_text, used_by}
 use Rattle.vx_query.specs.Causes.{HasRisen}
 use Rattle.vx_query.specs.Exactly.{RunsWell, EndsWith}
 use Rattle.vx_query.specs.GeneratedCauses.{IsSummed, GeneratedEnd, with_line, cut_off, without_memory, HasGeneratedReads}
@@ -33,13 +33,13 @@ asks_other rows other none same = not_none (ap asked_rows same ∙ none)
 same_rows : (rows other : ℕ) → Some (gen_form rows) ≡ Some (gen_form other) → other ≡ rows
 same_rows rows other h = same_Some _ _ (sym (ap asked_rows h))
 
-pub generated_end : (rows : ℕ) (i i' o o' : End) (used : Option Seen) (status : ℕ) → IsRun (Some (gen_form rows)) i i' o o' used status
+pub generated_end : (rows : ℕ) (i i' o o' : End) (used : Option StoreSeen) (status : ℕ) → IsRun (Some (gen_form rows)) i i' o o' used status
     → GeneratedEnd rows i i' o o' used status
 generated_end rows i i' o o' used status run =
     by run.outcome run.writing run.comes run.written run.held (others_take_nothing (Some (gen_form rows)) i i' o o' used status refl run)
   where
     by : (outcome : Outcome) (writing : Writing) → IsOutcome (Some (gen_form rows)) i i' outcome
-        → IsWriting o o' (text_of outcome) (status_of outcome) status writing → used ≡ used_by outcome → i' ≡ i → GeneratedEnd rows i i' o o' used status
+        → IsWriting o o' (outcome_text outcome) (status_of outcome) status writing → used ≡ used_by outcome → i' ≡ i → GeneratedEnd rows i i' o o' used status
     by outcome cut comes written held untaken = cut_off written.0 written.1.1 untaken
     by misused whole comes written held untaken = absurd (not_none comes.0)
     by helped whole comes written held untaken = absurd (asks_other rows (Some help_form) refl comes.0)
@@ -67,7 +67,7 @@ generated_end rows i i' o o' used status run =
         }
 
 -- where there is memory, and the sink counts no fault, it ends with the line
-pub was_summed_whole : (rows : ℕ) (i i' o o' : End) (used : Option Seen) (status : ℕ) → RunsWell (Some (gen_form rows)) i i' o o' used status
+pub was_summed_whole : (rows : ℕ) (i i' o o' : End) (used : Option StoreSeen) (status : ℕ) → RunsWell (Some (gen_form rows)) i i' o o' used status
     → EndsWith 0 (gen_line rows) o o' status
 was_summed_whole rows i i' o o' used status well = by (generated_end rows i i' o o' used status well.run)
   where
@@ -93,7 +93,7 @@ generated_among kept rows =
     subst (λ rs. AreAmong rs (asked_reads zones [] f p)) (sym (reads_by_block table zones [] f p))
     (subst (λ ns. AreAmong (flat_map (block_reads (row_type zones.columns) [] f p) blocks) (flat_map (block_asked zones f p) ns)) numbers (blocks_among a f p blocks))
 
-store_of : (rows : ℕ) (i i' o o' : End) (store : Seen) (status : ℕ) → IsRun (Some (gen_form rows)) i i' o o' (Some store) status → store ≡ generated_store rows
+store_of : (rows : ℕ) (i i' o o' : End) (store : StoreSeen) (status : ℕ) → IsRun (Some (gen_form rows)) i i' o o' (Some store) status → store ≡ generated_store rows
 store_of rows i i' o o' store status run = by run.outcome run.comes run.held
   where
     by : (outcome : Outcome) → IsOutcome (Some (gen_form rows)) i i' outcome → Some store ≡ used_by outcome → store ≡ generated_store rows
@@ -116,7 +116,7 @@ store_of rows i i' o o' store status run = by run.outcome run.comes run.held
     by (named e) comes held = absurd (not_none held)
     by (summed other) comes held = same_Some store (generated_store other) held ∙ ap generated_store (same_rows rows other comes.0)
 
-pub generated_reads_asked : KeptNumbersAreKeptBlocks → (rows : ℕ) (i i' o o' : End) (store : Seen) (status : ℕ)
+pub generated_reads_asked : KeptNumbersAreKeptBlocks → (rows : ℕ) (i i' o o' : End) (store : StoreSeen) (status : ℕ)
     → IsRun (Some (gen_form rows)) i i' o o' (Some store) status → HasGeneratedReads rows store
 generated_reads_asked kept rows i i' o o' store status run =
     let same = store_of rows i i' o o' store status run in

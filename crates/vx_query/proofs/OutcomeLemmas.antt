@@ -8,11 +8,11 @@ use Rattle.vx_dtype.specs.Types.{Bytes}
 use Rattle.vx_semantics.specs.Breaks.{by_sum, by_cast}
 use Rattle.vx_io.specs.Counts.{one_more}
 use Rattle.vx_io.specs.Ends.{TookUpTo}
-use Rattle.vx_scan.specs.Stores.{Seen}
+use Rattle.vx_scan.specs.Stores.{StoreSeen}
 use Rattle.vx_request.specs.Requests.{most_bytes}
 use Rattle.vx_request.specs.declared.errors.RequestError.TheVariants as requests
 use Rattle.vx_query.specs.EndingViews.{ending_status, ending_text, EndsBy, IsAnswered}
-use Rattle.vx_query.specs.Running.{End, Form, Showing, shown_text, scan_form, explain_form, show_form, text_form, reads_request, shown_word, Outcome, out_of_memory, unread, refused, unscanned, broken, answered, explained, undecoded, unshown, shown, unnamed, unserialized, overlong, named, Writing, IsOutcome, IsTaken, IsPartTaken, IsWriting, IsRun, status_of, text_of, used_by}
+use Rattle.vx_query.specs.Running.{End, Form, Showing, shown_text, scan_form, explain_form, show_form, text_form, reads_request, shown_word, Outcome, out_of_memory, unread, refused, unscanned, broken, answered, explained, undecoded, unshown, shown, unnamed, unserialized, overlong, named, Writing, IsOutcome, IsTaken, IsPartTaken, IsWriting, IsRun, status_of, outcome_text, used_by}
 use Rattle.vx_query.specs.RefusalViews.{refusal_status, refusal_text, input_refusal, IsUnanswered, IsWordUnshown, IsQueryRefused}
 use Rattle.vx_query.specs.TextViews.{answer_status, answer_text, ExplainsInput, ShowsWord, AnswersQuery, IsAnsweredBy}
 use Rattle.vx_io.specs.declared.reading.InputError.{InputError}
@@ -23,19 +23,19 @@ use Rattle.vx_query.specs.declared.refusals.Refusal.{Refusal}
 use Rattle.vx_query.specs.declared.refusals.Refusal.TheVariants.{NoMemory, ReadFault, InputTooLong, BadJson, BadRequest, BadHex, BadTable, BadHexText, Scan, Query, NotSerializable, LongPart}
 
 -- an outcome that a refusal stands for
-abbrev pub IsRefused : Option Form → End → End → Refusal → Type 0
-IsRefused form before after r =
-    (o : Outcome) × IsOutcome form before after o × (status_of o ≡ refusal_status r) × (text_of o ≡ refusal_text r) × (used_by o ≡ None)
+abbrev pub EndsRefused : Option Form → End → End → Refusal → Type 0
+EndsRefused form before after r =
+    (o : Outcome) × IsOutcome form before after o × (status_of o ≡ refusal_status r) × (outcome_text o ≡ refusal_text r) × (used_by o ≡ None)
 
 -- an input that isn't read
 pub refused_unread : (form : Option Form) → reads_request form ≡ true → (before after : End) (e : InputError) → IsPartTaken before after
-    → (e ≡ inputs.NoMemory → after.faults ≡ before.faults) → (e ≡ inputs.ReadFault → one_more before.faults ≤ after.faults) → IsRefused form before after (input_refusal e)
+    → (e ≡ inputs.NoMemory → after.faults ≡ before.faults) → (e ≡ inputs.ReadFault → one_more before.faults ≤ after.faults) → EndsRefused form before after (input_refusal e)
 refused_unread form reads before after inputs.NoMemory part quiet cause = (out_of_memory, inl (reads, (part, quiet refl)), refl, refl, refl)
 refused_unread form reads before after inputs.ReadFault part quiet cause = (unread, (reads, (part, cause refl)), refl, refl, refl)
 
 -- an input that is taken and has no report
 pub refused_taken : (form : Option Form) → reads_request form ≡ true → (before after : End) (input : Bytes) (r : Refusal) → IsPartTaken before after
-    → IsTaken before after input → IsUnanswered input r → IsRefused form before after r
+    → IsTaken before after input → IsUnanswered input r → EndsRefused form before after r
 refused_taken form reads before after input NoMemory part taken told = (out_of_memory, inl (reads, (part, taken.quiet)), refl, refl, refl)
 refused_taken form reads before after input ReadFault part taken told = absurd told
 refused_taken form reads before after input InputTooLong part taken told = (refused input requests.InputTooLong, (reads, (taken, told)), refl, refl, refl)
@@ -53,7 +53,7 @@ refused_taken form reads before after input LongPart part taken told = absurd to
 
 -- a word that is not shown
 word_refused : (form : Option Form) (word : Bytes) → shown_word form ≡ Some word → (source : End) (r : Refusal) → IsWordUnshown word r
-    → IsRefused form source source r
+    → EndsRefused form source source r
 word_refused form word is source NoMemory told = (out_of_memory, inr (inl (word, inl is), refl), refl, refl, refl)
 word_refused form word is source ReadFault told = absurd told
 word_refused form word is source InputTooLong told = absurd told
@@ -68,7 +68,7 @@ word_refused form word is source NotSerializable told = absurd told
 word_refused form word is source LongPart told = absurd told
 
 -- a query that has no bytes
-query_refused : (query : Bytes) (source : End) (r : Refusal) → IsQueryRefused query r → IsRefused (Some (text_form query)) source source r
+query_refused : (query : Bytes) (source : End) (r : Refusal) → IsQueryRefused query r → EndsRefused (Some (text_form query)) source source r
 query_refused query source NoMemory told = (out_of_memory, inr (inl (query, inr refl), refl), refl, refl, refl)
 query_refused query source ReadFault told = absurd told
 query_refused query source InputTooLong told = absurd told
@@ -83,13 +83,13 @@ query_refused query source NotSerializable told = (unserialized, ((query, told.0
 query_refused query source LongPart told = (overlong, ((query, told.0, refl, told.1, told.2, told.3), refl), refl, refl, refl)
 
 -- an answer that is a refusal
-answered_refusal : (form : Option Form) (before after : End) (r : Refusal) → IsRefused form before after r → IsAnsweredBy form before after (Err r)
+answered_refusal : (form : Option Form) (before after : End) (r : Refusal) → EndsRefused form before after r → IsAnsweredBy form before after (Err r)
 answered_refusal form before after r h = record { outcome = h.0; comes = h.1; status = h.2; text = h.3; unheld = h.4 }
 
 pub answered_err : (form : Option Form) (before after : End) (r : Refusal) (result : Result (String Global) Refusal) → IsErrAnd result (λ x. x ≡ r)
-    → IsRefused form before after r → IsAnsweredBy form before after result
+    → EndsRefused form before after r → IsAnsweredBy form before after result
 answered_err form before after r (Ok x) h k = absurd h
-answered_err form before after r (Err x) h k = answered_refusal form before after x (subst (IsRefused form before after) (sym h) k)
+answered_err form before after r (Err x) h k = answered_refusal form before after x (subst (EndsRefused form before after) (sym h) k)
 
 -- an input that is explained, and a word that is shown
 pub explained_taken : (before after : End) (input : Bytes) (answer : Result (String Global) Refusal) → IsPartTaken before after → IsTaken before after input
@@ -120,9 +120,9 @@ query_answered query source (Err r) h = answered_refusal (Some (text_form query)
 
 -- what is answered where an input is refused
 pub refused_by : {T : Type 0} (form : Option Form) (before after : End) (r : Refusal) (result : Result T Refusal) → IsErrAnd result (λ x. x ≡ r)
-    → IsRefused form before after r → IfErr result (IsRefused form before after)
+    → EndsRefused form before after r → IfErr result (EndsRefused form before after)
 refused_by form before after r (Ok x) h k = absurd h
-refused_by form before after r (Err x) h k = subst (IsRefused form before after) (sym h) k
+refused_by form before after r (Err x) h k = subst (EndsRefused form before after) (sym h) k
 
 -- what is taken is the input
 pub taken_as : (before after : End) (bytes input : Bytes) → input ≡ bytes → TookUpTo (most_bytes + 1) before.bytes after.bytes bytes
@@ -135,13 +135,13 @@ taken_as before after bytes input e took within quiet = record {
 }
 
 -- an outcome that an ending stands for
-abbrev pub IsEnded : End → End → Ending → Option Seen → Type 0
+abbrev pub IsEnded : End → End → Ending → Option StoreSeen → Type 0
 IsEnded before after ending used =
-    (o : Outcome) × IsOutcome (Some scan_form) before after o × (status_of o ≡ ending_status ending) × (text_of o ≡ ending_text ending)
+    (o : Outcome) × IsOutcome (Some scan_form) before after o × (status_of o ≡ ending_status ending) × (outcome_text o ≡ ending_text ending)
     × (used ≡ used_by o)
 
 -- an input that holds a scan
-pub told_taken : (before after : End) (input : Bytes) (ending : Ending) (seen : Seen) → IsTaken before after input → IsAnswered input ending seen
+pub told_taken : (before after : End) (input : Bytes) (ending : Ending) (seen : StoreSeen) → IsTaken before after input → IsAnswered input ending seen
     → IsEnded before after ending (Some seen)
 told_taken before after input ending seen taken found = by ending found.ends
   where
@@ -151,16 +151,16 @@ told_taken before after input ending seen taken found = by ending found.ends
     by BadCast ends = (broken by_cast input found.asked found.filter found.projection, (refl, (taken, (found.holds, ends.0))), refl, refl, ap Some ends.1)
 
 -- a run of an outcome
-pub run_of : (form : Option Form) (i i' o o' : End) (used : Option Seen) (status : ℕ) (outcome : Outcome) → IsOutcome form i i' outcome
+pub run_of : (form : Option Form) (i i' o o' : End) (used : Option StoreSeen) (status : ℕ) (outcome : Outcome) → IsOutcome form i i' outcome
     → used ≡ used_by outcome
-    → (writing : Writing) × IsWriting o o' (text_of outcome) (status_of outcome) status writing → IsRun form i i' o o' used status
+    → (writing : Writing) × IsWriting o o' (outcome_text outcome) (status_of outcome) status writing → IsRun form i i' o o' used status
 run_of form i i' o o' used status outcome comes held (writing, written) =
     record { outcome = outcome; comes = comes; writing = writing; written = written; held = held }
 
 -- and of one that is told of another writing of the form
-pub run_told : (form other : Option Form) (i i' o o' : End) (used : Option Seen) (status : ℕ) (outcome : Outcome) → form ≡ other → IsOutcome other i i' outcome
+pub run_told : (form other : Option Form) (i i' o o' : End) (used : Option StoreSeen) (status : ℕ) (outcome : Outcome) → form ≡ other → IsOutcome other i i' outcome
     → used ≡ used_by outcome
-    → (writing : Writing) × IsWriting o o' (text_of outcome) (status_of outcome) status writing → IsRun form i i' o o' used status
+    → (writing : Writing) × IsWriting o o' (outcome_text outcome) (status_of outcome) status writing → IsRun form i i' o o' used status
 run_told form other i i' o o' used status outcome is comes held written =
     run_of form i i' o o' used status outcome (subst (λ f. IsOutcome f i i' outcome) (sym is) comes) held written
 
@@ -177,7 +177,7 @@ run_answered form other i i' o o' status answer is by (writing, written) = recor
 }
 
 -- a run whose scan ended
-pub run_ended : (form : Option Form) (i i' o o' : End) (used : Option Seen) (status told : ℕ) (text : Bytes) (ending : Ending) → form ≡ Some scan_form
+pub run_ended : (form : Option Form) (i i' o o' : End) (used : Option StoreSeen) (status told : ℕ) (text : Bytes) (ending : Ending) → form ≡ Some scan_form
     → IsEnded i i' ending used → told ≡ ending_status ending → text ≡ ending_text ending
     → (writing : Writing) × IsWriting o o' text told status writing → IsRun form i i' o o' used status
 run_ended form i i' o o' used status told text ending is by tells texts (writing, written) = record {

@@ -4,16 +4,16 @@ use Rattle.std.proofs.lemmas.Option.{same_Some}
 use Rattle.vx_dtype.specs.Types.{Bytes}
 use Rattle.vx_expr.specs.Trees.{Tree}
 use Rattle.vx_io.specs.Ends.{Added}
-use Rattle.vx_scan.specs.Stores.{Seen}
+use Rattle.vx_scan.specs.Stores.{StoreSeen}
 use Rattle.vx_text.specs.Reading.{reading_of}
 use Rattle.vx_text.specs.declared.errors.TextError.{TextError}
 use Rattle.vx_query.specs.Refusals.{text_refusal_name, refusal_line}
-use Rattle.vx_query.specs.Running.{End, Form, Names, IsShallow, HasBytes, IsOverlong, bytes_line, scan_form, explain_form, show_form, text_form, gen_form, help_form, version_form, asked_query, Outcome, misused, helped, versioned, out_of_memory, unread, refused, unscanned, broken, answered, explained, undecoded, unshown, shown, unnamed, unserialized, overlong, named, summed, Writing, whole, cut, IsOutcome, IsWriting, IsRun, status_of, text_of, used_by}
+use Rattle.vx_query.specs.Running.{End, Form, Names, IsShallow, HasBytes, IsOverlong, bytes_line, scan_form, explain_form, show_form, text_form, gen_form, help_form, version_form, asked_query, Outcome, misused, helped, versioned, out_of_memory, unread, refused, unscanned, broken, answered, explained, undecoded, unshown, shown, unnamed, unserialized, overlong, named, summed, Writing, whole, cut, IsOutcome, IsWriting, IsRun, status_of, outcome_text, used_by}
 use Rattle.vx_query.specs.Causes.{HasRisen}
 use Rattle.vx_query.proofs.RequestEnds.{not_none}
 
 -- how their run ends: its text was cut off, there was no memory, or the query was told
-pub data QueryEnd (query : Bytes) (i i' o o' : End) (used : Option Seen) (status : ℕ) : Type 0 where
+pub data QueryEnd (query : Bytes) (i i' o o' : End) (used : Option StoreSeen) (status : ℕ) : Type 0 where
   cut_off : status ≡ 7 → HasRisen o o' → QueryEnd query i i' o o' used status
   without_memory : status ≡ 8 → QueryEnd query i i' o o' used status
   no_query : (e : TextError) → status ≡ 4 → reading_of query ≡ Err e → Added o.bytes o'.bytes (refusal_line (text_refusal_name e))
@@ -33,12 +33,12 @@ asks_other query other none same = not_none (ap asked_query same ∙ none)
 same_query : (query other : Bytes) → Some query ≡ Some other → other ≡ query
 same_query query other h = same_Some _ _ (sym h)
 
-pub query_end : (query : Bytes) (i i' o o' : End) (used : Option Seen) (status : ℕ) → IsRun (Some (text_form query)) i i' o o' used status
+pub query_end : (query : Bytes) (i i' o o' : End) (used : Option StoreSeen) (status : ℕ) → IsRun (Some (text_form query)) i i' o o' used status
     → QueryEnd query i i' o o' used status
 query_end query i i' o o' used status run = by run.outcome run.writing run.comes run.written run.held
   where
     by : (outcome : Outcome) (writing : Writing) → IsOutcome (Some (text_form query)) i i' outcome
-        → IsWriting o o' (text_of outcome) (status_of outcome) status writing → used ≡ used_by outcome → QueryEnd query i i' o o' used status
+        → IsWriting o o' (outcome_text outcome) (status_of outcome) status writing → used ≡ used_by outcome → QueryEnd query i i' o o' used status
     by outcome cut comes written held = cut_off written.0 written.1.1
     by misused whole comes written held = absurd (not_none comes.0)
     by helped whole comes written held = absurd (asks_other query (Some help_form) refl comes.0)

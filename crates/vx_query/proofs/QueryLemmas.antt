@@ -3,7 +3,7 @@ use Rattle.std.proofs.Common.{◌≡◌, ◌∙◌, sym, ap, subst, ℕ, length,
 use Rattle.vx_dtype.specs.Types.{Bytes}
 use Rattle.vx_expr.specs.Trees.{Tree}
 use Rattle.vx_io.specs.Ends.{Added}
-use Rattle.vx_scan.specs.Stores.{Seen}
+use Rattle.vx_scan.specs.Stores.{StoreSeen}
 use Rattle.vx_text.specs.Reading.{reading_of}
 use Rattle.vx_text.specs.declared.errors.TextError.{TextError}
 use Rattle.vx_text.specs.declared.errors.TextError.TheVariants as texts
@@ -16,7 +16,7 @@ use Rattle.vx_query.proofs.LineLemmas.{one_text, told_name}
 use Rattle.vx_query.proofs.QueryEnds.{QueryEnd, cut_off, without_memory, no_query, too_deep, too_long, bytes, query_end}
 
 -- the bytes that status 0 means
-pub was_named : (query : Bytes) (i i' o o' : End) (used : Option Seen) → IsRun (Some (text_form query)) i i' o o' used 0 → IsNamed query i i' o o' used
+pub was_named : (query : Bytes) (i i' o o' : End) (used : Option StoreSeen) → IsRun (Some (text_form query)) i i' o o' used 0 → IsNamed query i i' o o' used
 was_named query i i' o o' used run = by (query_end query i i' o o' used 0 run)
   where
     by : QueryEnd query i i' o o' used 0 → IsNamed query i i' o o' used
@@ -29,7 +29,7 @@ was_named query i i' o o' used run = by (query_end query i i' o o' used 0 run)
         record { expression = e; names = names; bytes = has; untaken = untaken; written = written; unheld = held }
 
 -- a query that names an expression with bytes ends with them
-pub was_named_whole : (query : Bytes) (e : Tree) (i i' o o' : End) (used : Option Seen) (status : ℕ) → Names query e → HasBytes e
+pub was_named_whole : (query : Bytes) (e : Tree) (i i' o o' : End) (used : Option StoreSeen) (status : ℕ) → Names query e → HasBytes e
     → RunsWell (Some (text_form query)) i i' o o' used status → EndsWith 0 (bytes_line e) o o' status
 was_named_whole query e i i' o o' used status names has well = by (query_end query i i' o o' used status well.run)
   where
@@ -52,7 +52,7 @@ data Refused (query : Bytes) (o o' : End) : Type 0 where
   deep_so : HasDeepType query → Added o.bytes o'.bytes (refusal_line (codes "NotSerializable")) → Refused query o o'
   long_so : HasLongPart query → Added o.bytes o'.bytes (refusal_line (codes "TooLong")) → Refused query o o'
 
-refused_of : (query : Bytes) (i i' o o' : End) (used : Option Seen) → IsRun (Some (text_form query)) i i' o o' used 4 → Refused query o o'
+refused_of : (query : Bytes) (i i' o o' : End) (used : Option StoreSeen) → IsRun (Some (text_form query)) i i' o o' used 4 → Refused query o o'
 refused_of query i i' o o' used run = by (query_end query i i' o o' used 4 run)
   where
     by : QueryEnd query i i' o o' used 4 → Refused query o o'
@@ -100,7 +100,7 @@ unnamed_row e short = record {
     means query o o' before stood told (long_so why written) =
         absurd (short (sym (one_text texts.TooLong e (told_as o o' before (text_refusal_name e) (codes "TooLong") stood told written))))
 
-    says : (query : Bytes) (i i' o o' : End) (used : Option Seen) (status : ℕ) → reading_of query ≡ Err e
+    says : (query : Bytes) (i i' o o' : End) (used : Option StoreSeen) (status : ℕ) → reading_of query ≡ Err e
         → RunsWell (Some (text_form query)) i i' o o' used status → QueryEnd query i i' o o' used status
         → EndsWith 4 (refusal_line (text_refusal_name e)) o o' status
     says query i i' o o' used status refuses well (cut_off s risen) = absurd (well.quiet risen)
@@ -126,7 +126,7 @@ long_row = record {
         absurd (no_long (told_as o o' before (codes "TooLong") (codes "NotSerializable") stood told written))
     means query o o' before stood told (long_so why written) = inr why
 
-    says : (query : Bytes) (i i' o o' : End) (used : Option Seen) (status : ℕ) → IsLongQuery query
+    says : (query : Bytes) (i i' o o' : End) (used : Option StoreSeen) (status : ℕ) → IsLongQuery query
         → RunsWell (Some (text_form query)) i i' o o' used status → QueryEnd query i i' o o' used status
         → EndsWith 4 (refusal_line (codes "TooLong")) o o' status
     says query i i' o o' used status long well (cut_off s risen) = absurd (well.quiet risen)
@@ -159,7 +159,7 @@ deep_row = record {
     means query o o' before stood told (long_so why written) =
         absurd (no_long (sym (told_as o o' before (codes "NotSerializable") (codes "TooLong") stood told written)))
 
-    says : (query : Bytes) (i i' o o' : End) (used : Option Seen) (status : ℕ) → HasDeepType query
+    says : (query : Bytes) (i i' o o' : End) (used : Option StoreSeen) (status : ℕ) → HasDeepType query
         → RunsWell (Some (text_form query)) i i' o o' used status → QueryEnd query i i' o o' used status
         → EndsWith 4 (refusal_line (codes "NotSerializable")) o o' status
     says query i i' o o' used status deep well (cut_off s risen) = absurd (well.quiet risen)

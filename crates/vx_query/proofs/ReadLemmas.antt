@@ -22,7 +22,7 @@ use Rattle.vx_tables.specs.Blocks.{have_lengths, have_types}
 use Rattle.vx_scan.specs.Runs.{block_asked}
 use Rattle.vx_scan.specs.ScanLaws.{is_asked_read}
 use Rattle.vx_scan.specs.Scanning.{AreAmong, asked_reads}
-use Rattle.vx_scan.specs.Stores.{Read, Seen}
+use Rattle.vx_scan.specs.Stores.{Read, StoreSeen}
 use Rattle.vx_scan.proofs.AmongLemmas.{among_nothing, among_all, among_append}
 use Rattle.vx_scan.proofs.AskedLemmas.{all_so, all_passing, all_here, number_itself, among_pass, reads_are_asked, reads_are_distinct}
 use Rattle.vx_tables.proofs.BlockLemmas.{table_lengths}
@@ -170,7 +170,7 @@ reads_needed a f p =
 
 -- ---- the store of a run
 
-pub asked_alone : KeptNumbersAreKeptBlocks → (form : Option Form) (i i' o o' : End) (store : Seen) (status : ℕ)
+pub asked_alone : KeptNumbersAreKeptBlocks → (form : Option Form) (i i' o o' : End) (store : StoreSeen) (status : ℕ)
     → reads_request form ≡ true → IsRun form i i' o o' (Some store) status → HasAskedReads i i' store
 asked_alone kept form i i' o o' store status reads run = by run.outcome run.comes run.held
   where

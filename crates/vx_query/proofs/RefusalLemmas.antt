@@ -11,7 +11,7 @@ use Rattle.vx_scan.proofs.TextLemmas.{both_are_taken, one_text_refusal}
 use Rattle.vx_request.specs.Requests.{RequestedScan, request_of}
 use Rattle.vx_query.specs.Exclusions.{IsSameScan}
 use Rattle.vx_query.specs.WireLaws.{WireLaws}
-use Rattle.vx_query.specs.Running.{Spells, HoldsScan, HoldsRefused, IsScanRefused, type_of_scan}
+use Rattle.vx_query.specs.Running.{SpellsScan, HoldsScan, HoldsRefused, IsScanRefused, type_of_scan}
 
 -- ---- the texts of a scan
 
@@ -21,7 +21,7 @@ one_spelled laws holds bytes a b x y =
     laws.builds holds y.0 a b (subst (λ w. IsBuilt holds w a) (laws.spells bytes x.0 y.0 x.1.spelled y.1.spelled) x.2) y.2
 
 -- the texts of a scan spell one filter and one projection
-pub one_pair : WireLaws → (a : RequestedScan) (f p g q : Tree) → Spells a f p → Spells a g q → (f ≡ g) × (p ≡ q)
+pub one_pair : WireLaws → (a : RequestedScan) (f p g q : Tree) → SpellsScan a f p → SpellsScan a g q → (f ≡ g) × (p ≡ q)
 one_pair laws a f p g q x y = (
   one_spelled laws is_default_kind a.filter f g x.filter_spelled y.filter_spelled,
   one_spelled laws is_default_kind a.projection p q x.projection_spelled y.projection_spelled,
@@ -36,7 +36,7 @@ one_err (Err x) e g h k =
     sym own ∙ other
 
 -- the type of a pair is that of the pair that is spelled
-typed_alike : WireLaws → (a : RequestedScan) (f p g q : Tree) (r : Result Ty ScanError) → Spells a f p → Spells a g q → type_of_scan a f p ≡ r
+typed_alike : WireLaws → (a : RequestedScan) (f p g q : Tree) (r : Result Ty ScanError) → SpellsScan a f p → SpellsScan a g q → type_of_scan a f p ≡ r
     → type_of_scan a g q ≡ r
 typed_alike laws a f p g q r x y h = let same = one_pair laws a f p g q x y in sym (λ i. type_of_scan a (same.0 i) (same.1 i)) ∙ h
 
@@ -61,7 +61,7 @@ not_err (Ok y) x e h k = absurd (cc k)
 not_err (Err y) x e h k = absurd (cc h)
 
 -- expressions that are typed are not refused
-not_refused : WireLaws → (a : RequestedScan) (f p : Tree) (t : Ty) (e : ScanError) → Spells a f p → type_of_scan a f p ≡ Ok t → ¬ (IsScanRefused a e)
+not_refused : WireLaws → (a : RequestedScan) (f p : Tree) (t : Ty) (e : ScanError) → SpellsScan a f p → type_of_scan a f p ≡ Ok t → ¬ (IsScanRefused a e)
 not_refused laws a f p t e spelled typed h =
     elim h [
       | inl texts ↦ both_are_taken is_default_kind a.filter a.projection f p e spelled texts
@@ -94,5 +94,5 @@ pub one_scan : WireLaws → (input : Bytes) (a : RequestedScan) (f p : Tree) (b 
     → HoldsScan input b g q → IsSameScan a f p b g q
 one_scan laws input a f p b g q h k =
     let asked : a ≡ b = one_ok (request_of input) a b h.asked k.asked in
-    let pair = one_pair laws b f p g q (subst (λ c. Spells c f p) asked h.spelled) k.spelled in
+    let pair = one_pair laws b f p g q (subst (λ c. SpellsScan c f p) asked h.spelled) k.spelled in
     record { asked = asked; filter = pair.0; projection = pair.1 }

@@ -4,20 +4,20 @@ use Rattle.vx_dtype.specs.Types.{Bytes}
 use Rattle.vx_expr.specs.Trees.{Tree}
 use Rattle.vx_semantics.specs.Breaks.{Cause}
 use Rattle.vx_io.specs.Ends.{Added}
-use Rattle.vx_scan.specs.Stores.{Seen}
+use Rattle.vx_scan.specs.Stores.{StoreSeen}
 use Rattle.vx_scan.specs.declared.errors.ScanError.{ScanError}
 use Rattle.vx_explain.specs.Explanations.{explain_text}
 use Rattle.vx_request.specs.Requests.{RequestedScan, request_of}
 use Rattle.vx_request.specs.declared.errors.RequestError.{RequestError}
 use Rattle.vx_query.specs.Refusals.{request_refusal_name, scan_refusal_name, break_name, refusal_line}
-use Rattle.vx_query.specs.Running.{End, Form, HoldsScan, HoldsRefused, scan_breaks, scan_breaks_by, scan_report, scanned_store, broken_store, scan_form, explain_form, show_form, text_form, gen_form, help_form, version_form, reads_request, shown_word, asked_query, IsTaken, Outcome, misused, helped, versioned, out_of_memory, unread, refused, unscanned, broken, answered, explained, undecoded, unshown, shown, unnamed, unserialized, overlong, named, summed, Writing, whole, cut, IsOutcome, IsWriting, IsRun, status_of, text_of, used_by}
+use Rattle.vx_query.specs.Running.{End, Form, HoldsScan, HoldsRefused, scan_breaks, scan_breaks_by, scan_report, scanned_store, broken_store, scan_form, explain_form, show_form, text_form, gen_form, help_form, version_form, reads_request, shown_word, asked_query, IsTaken, Outcome, misused, helped, versioned, out_of_memory, unread, refused, unscanned, broken, answered, explained, undecoded, unshown, shown, unnamed, unserialized, overlong, named, summed, Writing, whole, cut, IsOutcome, IsWriting, IsRun, status_of, outcome_text, used_by}
 use Rattle.vx_query.specs.Causes.{HasRisen}
 
 pub not_none : {X : Type 0} {x : X} → Some x ≡ None → ⊥
 not_none e = true≢false (ap is_some e)
 
 -- how their run ends: its text was cut off, there was no memory, the input wasn't read, or what it held was told
-pub data RequestEnd (form : Option Form) (i i' o o' : End) (used : Option Seen) (status : ℕ) : Type 0 where
+pub data RequestEnd (form : Option Form) (i i' o o' : End) (used : Option StoreSeen) (status : ℕ) : Type 0 where
   cut_off : status ≡ 7 → HasRisen o o' → RequestEnd form i i' o o' used status
   without_memory : status ≡ 8 → used ≡ None → RequestEnd form i i' o o' used status
   not_read : status ≡ 6 → HasRisen i i' → used ≡ None → RequestEnd form i i' o o' used status
@@ -58,11 +58,11 @@ asks_none (Some (gen_form rows)) query reads h = true≢false (sym reads)
 asks_none (Some help_form) query reads h = true≢false (sym reads)
 asks_none (Some version_form) query reads h = true≢false (sym reads)
 
-pub request_end : (form : Option Form) (i i' o o' : End) (used : Option Seen) (status : ℕ) → reads_request form ≡ true
+pub request_end : (form : Option Form) (i i' o o' : End) (used : Option StoreSeen) (status : ℕ) → reads_request form ≡ true
     → IsRun form i i' o o' used status → RequestEnd form i i' o o' used status
 request_end form i i' o o' used status reads run = by run.outcome run.writing run.comes run.written run.held
   where
-    by : (outcome : Outcome) (writing : Writing) → IsOutcome form i i' outcome → IsWriting o o' (text_of outcome) (status_of outcome) status writing
+    by : (outcome : Outcome) (writing : Writing) → IsOutcome form i i' outcome → IsWriting o o' (outcome_text outcome) (status_of outcome) status writing
         → used ≡ used_by outcome → RequestEnd form i i' o o' used status
     by outcome cut comes written held = cut_off written.0 written.1.1
     by misused whole comes written held = absurd (reads_other form None reads refl comes.0)

@@ -4,16 +4,16 @@ use Rattle.std.proofs.lemmas.Option.{same_Some}
 use Rattle.vx_dtype.specs.Types.{Bytes}
 use Rattle.vx_expr.specs.Trees.{Tree}
 use Rattle.vx_io.specs.Ends.{Added}
-use Rattle.vx_scan.specs.Stores.{Seen}
+use Rattle.vx_scan.specs.Stores.{StoreSeen}
 use Rattle.vx_scan.specs.declared.errors.ScanError.{ScanError}
 use Rattle.vx_request.specs.Requests.{hex_bytes}
 use Rattle.vx_query.specs.Refusals.{scan_refusal_name, refusal_line}
-use Rattle.vx_query.specs.Running.{End, Form, Showing, shown_text, WordSpells, WordIsRefused, scan_form, explain_form, show_form, text_form, gen_form, help_form, version_form, reads_request, shown_word, asked_query, Outcome, misused, helped, versioned, out_of_memory, unread, refused, unscanned, broken, answered, explained, undecoded, unshown, shown, unnamed, unserialized, overlong, named, summed, Writing, whole, cut, IsOutcome, IsWriting, IsRun, status_of, text_of, used_by}
+use Rattle.vx_query.specs.Running.{End, Form, Showing, shown_text, WordSpells, WordIsRefused, scan_form, explain_form, show_form, text_form, gen_form, help_form, version_form, reads_request, shown_word, asked_query, Outcome, misused, helped, versioned, out_of_memory, unread, refused, unscanned, broken, answered, explained, undecoded, unshown, shown, unnamed, unserialized, overlong, named, summed, Writing, whole, cut, IsOutcome, IsWriting, IsRun, status_of, outcome_text, used_by}
 use Rattle.vx_query.specs.Causes.{HasRisen}
 use Rattle.vx_query.proofs.RequestEnds.{not_none, shows_none}
 
 -- how their run ends: its text was cut off, there was no memory, or the word was told
-pub data WordEnd (form : Option Form) (word : Bytes) (i i' o o' : End) (used : Option Seen) (status : ℕ) : Type 0 where
+pub data WordEnd (form : Option Form) (word : Bytes) (i i' o o' : End) (used : Option StoreSeen) (status : ℕ) : Type 0 where
   cut_off : status ≡ 7 → HasRisen o o' → WordEnd form word i i' o o' used status
   without_memory : status ≡ 8 → WordEnd form word i i' o o' used status
   no_digits : status ≡ 3 → hex_bytes word ≡ None → Added o.bytes o'.bytes (refusal_line (codes "BadHex text"))
@@ -44,11 +44,11 @@ unread_word form word shows reads = shows_none form word reads shows
 same_word : (form : Option Form) (word other : Bytes) → shown_word form ≡ Some word → shown_word form ≡ Some other → other ≡ word
 same_word form word other h k = same_Some _ _ (sym k ∙ h)
 
-pub word_end : (form : Option Form) (word : Bytes) (i i' o o' : End) (used : Option Seen) (status : ℕ) → shown_word form ≡ Some word
+pub word_end : (form : Option Form) (word : Bytes) (i i' o o' : End) (used : Option StoreSeen) (status : ℕ) → shown_word form ≡ Some word
     → IsRun form i i' o o' used status → WordEnd form word i i' o o' used status
 word_end form word i i' o o' used status shows run = by run.outcome run.writing run.comes run.written run.held
   where
-    by : (outcome : Outcome) (writing : Writing) → IsOutcome form i i' outcome → IsWriting o o' (text_of outcome) (status_of outcome) status writing
+    by : (outcome : Outcome) (writing : Writing) → IsOutcome form i i' outcome → IsWriting o o' (outcome_text outcome) (status_of outcome) status writing
         → used ≡ used_by outcome → WordEnd form word i i' o o' used status
     by outcome cut comes written held = cut_off written.0 written.1.1
     by misused whole comes written held = absurd (shows_other form None word shows refl comes.0)

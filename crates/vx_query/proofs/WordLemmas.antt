@@ -5,7 +5,7 @@ use Rattle.vx_dtype.specs.Types.{Bytes}
 use Rattle.vx_expr.specs.Trees.{Tree}
 use Rattle.vx_wire.specs.Encodings.{is_default_kind}
 use Rattle.vx_io.specs.Ends.{Added}
-use Rattle.vx_scan.specs.Stores.{Seen}
+use Rattle.vx_scan.specs.Stores.{StoreSeen}
 use Rattle.vx_scan.specs.Texts.{SpellsTree, IsTextRefused}
 use Rattle.vx_scan.specs.declared.errors.Side.TheVariants.{Text}
 use Rattle.vx_scan.specs.declared.errors.ScanError.{ScanError}
@@ -46,7 +46,7 @@ one_showing _ _ word same = cc
 
 -- ---- what status 0 means
 
-pub was_shown : (showing : Showing) (word : Bytes) (i i' o o' : End) (used : Option Seen) → IsRun (Some (show_form showing word)) i i' o o' used 0
+pub was_shown : (showing : Showing) (word : Bytes) (i i' o o' : End) (used : Option StoreSeen) → IsRun (Some (show_form showing word)) i i' o o' used 0
     → IsShown (shown_text showing) word i i' o o' used
 was_shown showing word i i' o o' used run = by (word_end (Some (show_form showing word)) word i i' o o' used 0 refl run)
   where
@@ -65,7 +65,7 @@ was_shown showing word i i' o o' used run = by (word_end (Some (show_form showin
 
 -- ---- a word that spells an expression is shown
 
-pub was_shown_whole : (showing : Showing) (word : Bytes) (e : Tree) (i i' o o' : End) (used : Option Seen) (status : ℕ) → WordSpells word e
+pub was_shown_whole : (showing : Showing) (word : Bytes) (e : Tree) (i i' o o' : End) (used : Option StoreSeen) (status : ℕ) → WordSpells word e
     → RunsWell (Some (show_form showing word)) i i' o o' used status → EndsWith 0 (shown_text showing e) o o' status
 was_shown_whole showing word e i i' o o' used status spells well =
     by (word_end (Some (show_form showing word)) word i i' o o' used status refl well.run)
@@ -88,14 +88,14 @@ undigited = record {
   always = λ form word i i' o o' used status shows none well. says form word i i' o o' used status none well (word_end form word i i' o o' used status shows well.run);
 }
   where
-    means : (form : Option Form) (word : Bytes) (i i' o o' : End) (used : Option Seen) → WordEnd form word i i' o o' used 3 → hex_bytes word ≡ None
+    means : (form : Option Form) (word : Bytes) (i i' o o' : End) (used : Option StoreSeen) → WordEnd form word i i' o o' used 3 → hex_bytes word ≡ None
     means form word i i' o o' used (cut_off s risen) = absurd (omega (arith, s))
     means form word i i' o o' used (without_memory s) = absurd (omega (arith, s))
     means form word i i' o o' used (no_digits s none written) = none
     means form word i i' o o' used (no_expression e s why written) = absurd (omega (arith, s))
     means form word i i' o o' used (told showing e s is spells untaken written held) = absurd (omega (arith, s))
 
-    says : (form : Option Form) (word : Bytes) (i i' o o' : End) (used : Option Seen) (status : ℕ) → hex_bytes word ≡ None
+    says : (form : Option Form) (word : Bytes) (i i' o o' : End) (used : Option StoreSeen) (status : ℕ) → hex_bytes word ≡ None
         → RunsWell form i i' o o' used status → WordEnd form word i i' o o' used status
         → EndsWith 3 (refusal_line (codes "BadHex text")) o o' status
     says form word i i' o o' used status none well (cut_off s risen) = absurd (well.quiet risen)
@@ -111,7 +111,7 @@ unexpressed e = record {
   always = λ form word i i' o o' used status shows refuses well. says form word i i' o o' used status refuses well (word_end form word i i' o o' used status shows well.run);
 }
   where
-    means : (form : Option Form) (word : Bytes) (i i' o o' : End) (used : Option Seen)
+    means : (form : Option Form) (word : Bytes) (i i' o o' : End) (used : Option StoreSeen)
         → Tells form i i' o o' used 4 (refusal_line (scan_refusal_name e)) → WordEnd form word i i' o o' used 4 → WordIsRefused word e
     means form word i i' o o' used tells (cut_off s risen) = absurd (omega (arith, s))
     means form word i i' o o' used tells (without_memory s) = absurd (omega (arith, s))
@@ -122,7 +122,7 @@ unexpressed e = record {
         subst (λ r. WordIsRefused word r) same why
     means form word i i' o o' used tells (told showing g s is spells untaken written held) = absurd (omega (arith, s))
 
-    says : (form : Option Form) (word : Bytes) (i i' o o' : End) (used : Option Seen) (status : ℕ) → WordIsRefused word e
+    says : (form : Option Form) (word : Bytes) (i i' o o' : End) (used : Option StoreSeen) (status : ℕ) → WordIsRefused word e
         → RunsWell form i i' o o' used status → WordEnd form word i i' o o' used status
         → EndsWith 4 (refusal_line (scan_refusal_name e)) o o' status
     says form word i i' o o' used status refuses well (cut_off s risen) = absurd (well.quiet risen)

@@ -12,7 +12,7 @@ use Rattle.vx_display.specs.ValueTexts.{value_text}
 use Rattle.vx_io.specs.Counts.{one_more}
 use Rattle.vx_io.specs.Ends.{Added, AddedPrefix}
 use Rattle.vx_scan.specs.ScanLaws.{is_asked_read, distinct_reads}
-use Rattle.vx_scan.specs.Stores.{Read, Seen}
+use Rattle.vx_scan.specs.Stores.{Read, StoreSeen}
 use Rattle.vx_scan.specs.declared.errors.ScanError.{ScanError}
 use Rattle.vx_request.specs.Requests.{RequestedScan, request_of, hex_bytes}
 use Rattle.vx_request.specs.declared.errors.RequestError.{RequestError}
@@ -24,14 +24,14 @@ use Rattle.vx_text.specs.declared.errors.TextError.TheVariants.{TooLong}
 use Rattle.vx_explain.specs.Explanations.{explain_text}
 use Rattle.vx_query.specs.Running.{reads_request, IsPartTaken, IsCutShort, used_by, WordIsRefused}
 use Rattle.vx_query.specs.Running.{End, Form, IsTaken, HoldsScan, HoldsRefused, WordSpells, Names, IsShallow, IsOverlong, HasBytes, bytes_line, Outcome}
-use Rattle.vx_query.specs.Running.{IsOutcome, text_of, scan_form, scan_table, scan_reads, scan_report, scan_breaks, scan_breaks_by, scanned_store, broken_store}
+use Rattle.vx_query.specs.Running.{IsOutcome, outcome_text, scan_form, scan_table, scan_reads, scan_report, scan_breaks, scan_breaks_by, scanned_store, broken_store}
 
 -- an end counted a fault
 abbrev pub HasRisen : End → End → Type 0
 HasRisen before after = one_more before.faults ≤ after.faults
 
 -- a report was written whole: of the scan that the input holds, no phase of which breaks, and whose store is held
-pub record IsReported (in_before in_after out_before out_after : End) (used : Option Seen) : Type 0 where
+pub record IsReported (in_before in_after out_before out_after : End) (used : Option StoreSeen) : Type 0 where
   pub input : Bytes
   pub asked : RequestedScan
   pub filter : Tree
@@ -43,7 +43,7 @@ pub record IsReported (in_before in_after out_before out_after : End) (used : Op
   pub held : used ≡ Some (scanned_store asked filter projection)
 
 -- an input was taken that is no request, and the line of its refusal was written; no store is held
-pub record IsRefused (in_before in_after out_before out_after : End) (used : Option Seen) : Type 0 where
+pub record IsUnasked (in_before in_after out_before out_after : End) (used : Option StoreSeen) : Type 0 where
   pub input : Bytes
   pub refusal : RequestError
   pub taken : IsTaken in_before in_after input
@@ -52,7 +52,7 @@ pub record IsRefused (in_before in_after out_before out_after : End) (used : Opt
   pub unheld : used ≡ None
 
 -- an input was taken that holds a scan whose expressions are refused, and the line of the refusal was written; no store is held
-pub record IsUnscanned (in_before in_after out_before out_after : End) (used : Option Seen) : Type 0 where
+pub record IsUnscanned (in_before in_after out_before out_after : End) (used : Option StoreSeen) : Type 0 where
   pub input : Bytes
   pub refusal : ScanError
   pub taken : IsTaken in_before in_after input
@@ -62,7 +62,7 @@ pub record IsUnscanned (in_before in_after out_before out_after : End) (used : O
 
 -- an input was taken that holds a scan whose first phase that breaks does so by a cause, and the line of the cause was written; the store is held with
 -- the reads up to there
-pub record IsBroken (in_before in_after out_before out_after : End) (used : Option Seen) : Type 0 where
+pub record IsStopped (in_before in_after out_before out_after : End) (used : Option StoreSeen) : Type 0 where
   pub input : Bytes
   pub asked : RequestedScan
   pub filter : Tree
@@ -75,7 +75,7 @@ pub record IsBroken (in_before in_after out_before out_after : End) (used : Opti
   pub held : used ≡ Some (broken_store asked filter projection)
 
 -- the store after a scan: with the reads up to the end of its first phase that breaks where one does, with all where none does
-abbrev pub store_after : RequestedScan → Tree → Tree → Seen
+abbrev pub store_after : RequestedScan → Tree → Tree → StoreSeen
 store_after a f p = cond (scan_breaks a f p) (broken_store a f p) (scanned_store a f p)
 
 -- whether a read is of a column that the filter asks, or of a block at some row of which the filter means true
@@ -86,7 +86,7 @@ is_needed_read a f r =
 
 -- a store that was scanned as the input asks. Each of its reads is of a kept block and of a column that the filter or the projection asks, for the
 -- projection alone only where the filter means true at some row of the block; and none stands twice
-pub record HasAskedReads (in_before in_after : End) (store : Seen) : Type 0 where
+pub record HasAskedReads (in_before in_after : End) (store : StoreSeen) : Type 0 where
   pub input : Bytes
   pub asked : RequestedScan
   pub filter : Tree
@@ -99,7 +99,7 @@ pub record HasAskedReads (in_before in_after : End) (store : Seen) : Type 0 wher
   pub distinct : distinct_reads store.log ≡ true
 
 -- an explanation was written whole: of the scan that the input holds; no store is held
-pub record IsExplained (in_before in_after out_before out_after : End) (used : Option Seen) : Type 0 where
+pub record IsExplained (in_before in_after out_before out_after : End) (used : Option StoreSeen) : Type 0 where
   pub input : Bytes
   pub asked : RequestedScan
   pub filter : Tree
@@ -110,7 +110,7 @@ pub record IsExplained (in_before in_after out_before out_after : End) (used : O
   pub unheld : used ≡ None
 
 -- the text of the expression that the bytes of a word of hexadecimal digits spell was written whole; nothing was taken, and no store is held
-pub record IsShown (told : Tree → Bytes) (word : Bytes) (in_before in_after out_before out_after : End) (used : Option Seen) : Type 0 where
+pub record IsShown (told : Tree → Bytes) (word : Bytes) (in_before in_after out_before out_after : End) (used : Option StoreSeen) : Type 0 where
   pub expression : Tree
   pub spelled : WordSpells word expression
   pub untaken : in_after ≡ in_before
@@ -118,7 +118,7 @@ pub record IsShown (told : Tree → Bytes) (word : Bytes) (in_before in_after ou
   pub unheld : used ≡ None
 
 -- the bytes of the expression that a query names were written whole; nothing was taken, and no store is held
-pub record IsNamed (query : Bytes) (in_before in_after out_before out_after : End) (used : Option Seen) : Type 0 where
+pub record IsNamed (query : Bytes) (in_before in_after out_before out_after : End) (used : Option StoreSeen) : Type 0 where
   pub expression : Tree
   pub names : Names query expression
   pub bytes : HasBytes expression
@@ -138,7 +138,7 @@ abbrev pub IsLongQuery : Bytes → Type 0
 IsLongQuery query = (reading_of query ≡ Err TooLong) ⊎ HasLongPart query
 
 -- the line of arguments of no form was written whole; nothing was taken, and no store is held
-pub record IsMisuse (in_before in_after out_before out_after : End) (used : Option Seen) (status : ℕ) : Type 0 where
+pub record IsMisuse (in_before in_after out_before out_after : End) (used : Option StoreSeen) (status : ℕ) : Type 0 where
   pub ends : status ≡ 2
   pub written : Added out_before.bytes out_after.bytes (refusal_line (codes "Usage"))
   pub untaken : in_after ≡ in_before
@@ -157,16 +157,16 @@ pub record HasBroken (cause : Cause) (form : Option Form) (in_before in_after : 
 
 -- the sink counted a fault, and the first bytes were written of the text in which the run was to end; what was taken, and the store that is held, are
 -- those of that end
-pub record IsCut (form : Option Form) (in_before in_after out_before out_after : End) (used : Option Seen) : Type 0 where
+pub record IsCut (form : Option Form) (in_before in_after out_before out_after : End) (used : Option StoreSeen) : Type 0 where
   pub outcome : Outcome
   pub comes : IsOutcome form in_before in_after outcome
   pub risen : HasRisen out_before out_after
-  pub written : AddedPrefix out_before.bytes out_after.bytes (text_of outcome)
+  pub written : AddedPrefix out_before.bytes out_after.bytes (outcome_text outcome)
   pub held : used ≡ used_by outcome
 
 -- arguments that read a request couldn't read it: a first part of the input was taken, the source counted a fault, and its line was written whole; no
 -- store is held
-pub record IsUnread (form : Option Form) (in_before in_after out_before out_after : End) (used : Option Seen) : Type 0 where
+pub record IsUnread (form : Option Form) (in_before in_after out_before out_after : End) (used : Option StoreSeen) : Type 0 where
   pub reads : reads_request form ≡ true
   pub part : IsPartTaken in_before in_after
   pub risen : HasRisen in_before in_after
@@ -174,27 +174,27 @@ pub record IsUnread (form : Option Form) (in_before in_after out_before out_afte
   pub unheld : used ≡ None
 
 -- there was no memory: its line was written whole; no store is held
-pub record IsWithoutMemory (form : Option Form) (in_before in_after out_before out_after : End) (used : Option Seen) : Type 0 where
+pub record IsWithoutMemory (form : Option Form) (in_before in_after out_before out_after : End) (used : Option StoreSeen) : Type 0 where
   pub part : IsCutShort form in_before in_after
   pub written : Added out_before.bytes out_after.bytes (refusal_line (codes "NoMemory"))
   pub unheld : used ≡ None
 
 -- a text was written whole, whatever the input, of which nothing was taken; no store is held
-pub record IsTold (text : Bytes) (in_before in_after out_before out_after : End) (used : Option Seen) (status : ℕ) : Type 0 where
+pub record IsTold (text : Bytes) (in_before in_after out_before out_after : End) (used : Option StoreSeen) (status : ℕ) : Type 0 where
   pub ends : status ≡ 0
   pub written : Added out_before.bytes out_after.bytes text
   pub untaken : in_after ≡ in_before
   pub unheld : used ≡ None
 
 -- the line of a word that is no hexadecimal text was written whole; nothing was taken, and no store is held
-pub record IsUndigited (word : Bytes) (in_before in_after out_before out_after : End) (used : Option Seen) : Type 0 where
+pub record IsUndigited (word : Bytes) (in_before in_after out_before out_after : End) (used : Option StoreSeen) : Type 0 where
   pub cause : hex_bytes word ≡ None
   pub written : Added out_before.bytes out_after.bytes (refusal_line (codes "BadHex text"))
   pub untaken : in_after ≡ in_before
   pub unheld : used ≡ None
 
 -- that of a word whose bytes spell no expression, for a reason
-pub record IsUnshown (word : Bytes) (in_before in_after out_before out_after : End) (used : Option Seen) : Type 0 where
+pub record IsUnshown (word : Bytes) (in_before in_after out_before out_after : End) (used : Option StoreSeen) : Type 0 where
   pub refusal : ScanError
   pub cause : WordIsRefused word refusal
   pub written : Added out_before.bytes out_after.bytes (refusal_line (scan_refusal_name refusal))
@@ -208,7 +208,7 @@ HasNoBytes query name =
     ⊎ ((HasDeepType query × (name ≡ codes "NotSerializable")) ⊎ (HasLongPart query × (name ≡ codes "TooLong")))
 
 -- the line of a query that has none was written whole
-pub record IsUnnamed (query : Bytes) (in_before in_after out_before out_after : End) (used : Option Seen) : Type 0 where
+pub record IsUnnamed (query : Bytes) (in_before in_after out_before out_after : End) (used : Option StoreSeen) : Type 0 where
   pub name : Bytes
   pub cause : HasNoBytes query name
   pub written : Added out_before.bytes out_after.bytes (refusal_line name)

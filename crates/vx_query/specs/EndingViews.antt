@@ -4,12 +4,12 @@ use Rattle.std.specs.String.{string_bytes}
 use Rattle.vx_dtype.specs.Types.{Bytes, Ty}
 use Rattle.vx_expr.specs.Trees.{Tree}
 use Rattle.vx_semantics.specs.Breaks.{by_sum, by_cast}
-use Rattle.vx_scan.specs.Stores.{Seen}
+use Rattle.vx_scan.specs.Stores.{StoreSeen}
 use Rattle.vx_scan.specs.declared.errors.ScanError.{ScanError}
 use Rattle.vx_scan.specs.declared.errors.ScanError.TheVariants as scans
 use Rattle.vx_request.specs.Requests.{RequestedScan}
 use Rattle.vx_query.specs.Refusals.{break_name, refusal_line}
-use Rattle.vx_query.specs.Running.{HoldsScan, Spells, IsScanRefused, type_of_scan, scan_breaks, scan_breaks_by, scan_report, scanned_store, broken_store}
+use Rattle.vx_query.specs.Running.{HoldsScan, SpellsScan, IsScanRefused, type_of_scan, scan_breaks, scan_breaks_by, scan_report, scanned_store, broken_store}
 use Rattle.vx_query.specs.declared.endings.Ending.{Ending}
 use Rattle.vx_query.specs.declared.endings.Ending.TheVariants.{Report, Overflow, BadCast}
 
@@ -25,22 +25,22 @@ ending_text Overflow = refusal_line (break_name by_sum)
 ending_text BadCast = refusal_line (break_name by_cast)
 
 -- the scan of a filter and a projection ends so, and leaves its store so
-abbrev pub EndsBy : RequestedScan → Tree → Tree → Ending → Seen → Type 0
+abbrev pub EndsBy : RequestedScan → Tree → Tree → Ending → StoreSeen → Type 0
 EndsBy a f p (Report text) seen = (scan_breaks a f p ≡ false) × (string_bytes text ≡ scan_report a f p) × (seen ≡ scanned_store a f p)
 EndsBy a f p Overflow seen = (scan_breaks_by by_sum a f p ≡ true) × (seen ≡ broken_store a f p)
 EndsBy a f p BadCast seen = (scan_breaks_by by_cast a f p ≡ true) × (seen ≡ broken_store a f p)
 
 -- the texts of a scan spell a filter and a projection, strictly typed for its table, whose scan ends so
-pub record IsScanned (a : RequestedScan) (ending : Ending) (seen : Seen) : Type 0 where
+pub record IsScanned (a : RequestedScan) (ending : Ending) (seen : StoreSeen) : Type 0 where
   pub filter : Tree
   pub projection : Tree
-  pub spelled : Spells a filter projection
+  pub spelled : SpellsScan a filter projection
   pub ty : Ty
   pub typed : type_of_scan a filter projection ≡ Ok ty
   pub ends : EndsBy a filter projection ending seen
 
 -- an input holds a scan that ends so
-pub record IsAnswered (input : Bytes) (ending : Ending) (seen : Seen) : Type 0 where
+pub record IsAnswered (input : Bytes) (ending : Ending) (seen : StoreSeen) : Type 0 where
   pub asked : RequestedScan
   pub filter : Tree
   pub projection : Tree
@@ -48,7 +48,7 @@ pub record IsAnswered (input : Bytes) (ending : Ending) (seen : Seen) : Type 0 w
   pub ends : EndsBy asked filter projection ending seen
 
 -- why a scan whose store counts no fault gives no report
-abbrev pub IsUnreported : RequestedScan → ScanError → Seen → Type 0
+abbrev pub IsUnreported : RequestedScan → ScanError → StoreSeen → Type 0
 IsUnreported a scans.NoMemory seen = Unit {0}
 IsUnreported a scans.Overflow seen = IsScanned a Overflow seen
 IsUnreported a scans.BadCast seen = IsScanned a BadCast seen

@@ -2,21 +2,21 @@
 use Rattle.std.specs.Prelude.{◌≡◌, ℕ, ◌+◌, true, ◌++◌, take, Option, Some}
 use Rattle.vx_dtype.specs.Types.{Bytes}
 use Rattle.vx_io.specs.Ends.{Added}
-use Rattle.vx_scan.specs.Stores.{Seen}
+use Rattle.vx_scan.specs.Stores.{StoreSeen}
 use Rattle.vx_request.specs.Requests.{most_bytes}
 use Rattle.vx_query.specs.Refusals.{refusal_line}
 use Rattle.vx_query.specs.Running.{End, Form, IsTaken, IsRun, reads_request, shown_word, text_form}
 use Rattle.vx_query.specs.Causes.{HasRisen}
 
 -- a run whose sink tells what it wrote: this text
-pub record Tells (form : Option Form) (i i' o o' : End) (used : Option Seen) (status : ℕ) (text : Bytes) : Type 0 where
+pub record Tells (form : Option Form) (i i' o o' : End) (used : Option StoreSeen) (status : ℕ) (text : Bytes) : Type 0 where
   pub run : IsRun form i i' o o' used status
   pub before : Bytes
   pub stood : o.bytes ≡ Some before
   pub written : o'.bytes ≡ Some (before ++ text)
 
 -- a run that had memory, and whose sink counted no fault
-pub record RunsWell (form : Option Form) (i i' o o' : End) (used : Option Seen) (status : ℕ) : Type 0 where
+pub record RunsWell (form : Option Form) (i i' o o' : End) (used : Option StoreSeen) (status : ℕ) : Type 0 where
   pub run : IsRun form i i' o o' used status
   pub memory : ¬ (status ≡ 8)
   pub quiet : ¬ (HasRisen o o')
@@ -32,21 +32,21 @@ taken_of input = take (most_bytes + 1) input
 -- Of arguments that read a request: a run that ends with this exit status and tells the line of this name took an input that has this cause; and where what
 -- is taken of the input that a source tells has it, a run ends so that had memory, and in which no end counted a fault.
 pub record RequestsEndSo (told : ℕ) (name : Bytes) (Cause : Bytes → Type 0) : Type 0 where
-  pub only : (form : Option Form) (i i' o o' : End) (used : Option Seen) → reads_request form ≡ true
+  pub only : (form : Option Form) (i i' o o' : End) (used : Option StoreSeen) → reads_request form ≡ true
       → Tells form i i' o o' used told (refusal_line name) → (input : Bytes) × IsTaken i i' input × Cause input
-  pub always : (form : Option Form) (i i' o o' : End) (used : Option Seen) (status : ℕ) (input : Bytes) → reads_request form ≡ true
+  pub always : (form : Option Form) (i i' o o' : End) (used : Option StoreSeen) (status : ℕ) (input : Bytes) → reads_request form ≡ true
       → i.bytes ≡ Some input → Cause (taken_of input) → RunsWell form i i' o o' used status → ¬ (HasRisen i i')
       → EndsWith told (refusal_line name) o o' status
 
 -- the same of arguments that show a word, by the word
 pub record WordsEndSo (told : ℕ) (name : Bytes) (Cause : Bytes → Type 0) : Type 0 where
-  pub only : (form : Option Form) (word : Bytes) (i i' o o' : End) (used : Option Seen) → shown_word form ≡ Some word
+  pub only : (form : Option Form) (word : Bytes) (i i' o o' : End) (used : Option StoreSeen) → shown_word form ≡ Some word
       → Tells form i i' o o' used told (refusal_line name) → Cause word
-  pub always : (form : Option Form) (word : Bytes) (i i' o o' : End) (used : Option Seen) (status : ℕ) → shown_word form ≡ Some word → Cause word
+  pub always : (form : Option Form) (word : Bytes) (i i' o o' : End) (used : Option StoreSeen) (status : ℕ) → shown_word form ≡ Some word → Cause word
       → RunsWell form i i' o o' used status → EndsWith told (refusal_line name) o o' status
 
 -- and of arguments that ask the bytes of a query, by the query
 pub record QueriesEndSo (told : ℕ) (name : Bytes) (Cause : Bytes → Type 0) : Type 0 where
-  pub only : (query : Bytes) (i i' o o' : End) (used : Option Seen) → Tells (Some (text_form query)) i i' o o' used told (refusal_line name) → Cause query
-  pub always : (query : Bytes) (i i' o o' : End) (used : Option Seen) (status : ℕ) → Cause query → RunsWell (Some (text_form query)) i i' o o' used status
+  pub only : (query : Bytes) (i i' o o' : End) (used : Option StoreSeen) → Tells (Some (text_form query)) i i' o o' used told (refusal_line name) → Cause query
+  pub always : (query : Bytes) (i i' o o' : End) (used : Option StoreSeen) (status : ℕ) → Cause query → RunsWell (Some (text_form query)) i i' o o' used status
       → EndsWith told (refusal_line name) o o' status

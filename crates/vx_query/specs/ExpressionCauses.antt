@@ -11,7 +11,7 @@ use Rattle.vx_scan.specs.declared.errors.Side.{Side}
 use Rattle.vx_scan.specs.declared.errors.Side.TheVariants.{Filter, Projection, Text}
 use Rattle.vx_scan.specs.declared.errors.ScanError.{ScanError}
 use Rattle.vx_request.specs.Requests.{RequestedScan, request_of}
-use Rattle.vx_query.specs.Running.{Spells}
+use Rattle.vx_query.specs.Running.{SpellsScan}
 
 -- an input that holds a scan whose byte texts are refused so: the filter's, or the projection's behind a filter that is spelled
 pub record HoldsBadText (refusal : ScanError) (input : Bytes) : Type 0 where
@@ -45,7 +45,7 @@ pub record HoldsExpressions (So : RequestedScan → Tree → Tree → Type 0) (i
   pub held : request_of input ≡ Ok asked
   pub filter : Tree
   pub projection : Tree
-  pub spelled : Spells asked filter projection
+  pub spelled : SpellsScan asked filter projection
   pub so : So asked filter projection
 
 abbrev pub HoldsIllTyped : Side → Refusal → Bytes → Type 0

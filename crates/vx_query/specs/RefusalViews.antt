@@ -100,11 +100,11 @@ text_refusal texts.NoMemory = NoMemory
 text_refusal e = Query e
 
 -- an expression has no bytes, for this reason: want of memory at any time, else a type that is too deep, or a part that is too long
-abbrev pub IsUnspelled : Tree → Refusal → Type 0
-IsUnspelled e NoMemory = Unit {0}
-IsUnspelled e NotSerializable = ¬ (IsShallow e)
-IsUnspelled e LongPart = IsShallow e × IsOverlong e
-IsUnspelled e _ = ⊥
+abbrev pub IsWithoutBytes : Tree → Refusal → Type 0
+IsWithoutBytes e NoMemory = Unit {0}
+IsWithoutBytes e NotSerializable = ¬ (IsShallow e)
+IsWithoutBytes e LongPart = IsShallow e × IsOverlong e
+IsWithoutBytes e _ = ⊥
 
 -- a query has no bytes, for this reason: want of memory at any time, else it names no expression, or one that has none
 abbrev pub IsQueryRefused : Bytes → Refusal → Type 0

@@ -18,10 +18,10 @@ use Rattle.vx_display.specs.ValueTexts.{value_text}
 use Rattle.vx_display.specs.TreeTexts.{tree_text_of}
 use Rattle.vx_explain.specs.Explanations.{explain_text}
 use Rattle.vx_explain.specs.Explaining.{shown_line, query_line}
-use Rattle.vx_tables.specs.Blocks.{table_of}
+use Rattle.vx_tables.specs.Blocks.{table_of_blocks}
 use Rattle.vx_io.specs.Counts.{one_more}
 use Rattle.vx_scan.specs.Scanning.{scan_type}
-use Rattle.vx_scan.specs.Stores.{Read, Seen}
+use Rattle.vx_scan.specs.Stores.{Read, StoreSeen}
 use Rattle.vx_scan.specs.Texts.{SpellBoth, AreRefused, SpellsTree, IsTextRefused}
 use Rattle.vx_scan.specs.declared.errors.Side.TheVariants.{Text}
 use Rattle.vx_scan.specs.declared.errors.ScanError.{ScanError}
@@ -108,7 +108,7 @@ end_by bytes faults end = record { bytes = bytes end; faults = faults end }
 
 -- the table of a scan
 abbrev pub scan_table : RequestedScan → Table
-scan_table a = table_of a.zones a.blocks
+scan_table a = table_of_blocks a.zones a.blocks
 
 -- the reads of the scan of a filter and a projection
 abbrev pub scan_reads : RequestedScan → Tree → Tree → List Read
@@ -122,14 +122,14 @@ scan_report a f p =
     (read_columns (scan_table a) (scan_reads a f p)) (length (scan_reads a f p))
 
 -- the store of a scan with these reads: it holds the table; no read failed, and none can
-abbrev pub store_with : RequestedScan → List Read → Seen
+abbrev pub store_with : RequestedScan → List Read → StoreSeen
 store_with a reads = record { zones = a.zones; held = Some (scan_table a); log = reads; faults = 0; failed = None; faultless = true }
 
 -- the store that was scanned: its reads are those of the scan; and the store of a scan that broke: they are those up to the first phase that breaks
-abbrev pub scanned_store : RequestedScan → Tree → Tree → Seen
+abbrev pub scanned_store : RequestedScan → Tree → Tree → StoreSeen
 scanned_store a f p = store_with a (scan_reads a f p)
 
-abbrev pub broken_store : RequestedScan → Tree → Tree → Seen
+abbrev pub broken_store : RequestedScan → Tree → Tree → StoreSeen
 broken_store a f p = store_with a (reads_to_break (scan_table a) a.zones [] f p)
 
 -- the type of a scan's rows, or the refusal of its expressions
@@ -137,20 +137,20 @@ abbrev pub type_of_scan : RequestedScan → Tree → Tree → Result Ty ScanErro
 type_of_scan a f p = scan_type (row_type a.zones.columns) [] f p
 
 -- the two byte texts of a scan spell this filter and this projection
-abbrev pub Spells : RequestedScan → Tree → Tree → Type 0
-Spells a f p = SpellBoth is_default_kind a.filter a.projection f p
+abbrev pub SpellsScan : RequestedScan → Tree → Tree → Type 0
+SpellsScan a f p = SpellBoth is_default_kind a.filter a.projection f p
 
 -- an input that holds this scan, of this filter and this projection, both strictly typed for its table, the filter a boolean
 pub record HoldsScan (input : Bytes) (a : RequestedScan) (f p : Tree) : Type 0 where
   pub asked : request_of input ≡ Ok a
-  pub spelled : Spells a f p
+  pub spelled : SpellsScan a f p
   pub ty : Ty
   pub typed : type_of_scan a f p ≡ Ok ty
 
 -- why the expressions of a scan are refused: its texts spell none, or they are not typed so
 abbrev pub IsScanRefused : RequestedScan → ScanError → Type 0
 IsScanRefused a e =
-    AreRefused is_default_kind a.filter a.projection e ⊎ ((f : Tree) × (p : Tree) × Spells a f p × (type_of_scan a f p ≡ Err e))
+    AreRefused is_default_kind a.filter a.projection e ⊎ ((f : Tree) × (p : Tree) × SpellsScan a f p × (type_of_scan a f p ≡ Err e))
 
 -- an input that holds a scan whose expressions are refused so
 pub record HoldsRefused (input : Bytes) (e : ScanError) : Type 0 where
@@ -310,28 +310,28 @@ status_of (named e) = 0
 status_of (summed rows) = 0
 
 -- the text that an outcome writes
-abbrev pub text_of : Outcome → Bytes
-text_of misused = refusal_line (codes "Usage")
-text_of helped = help_text
-text_of versioned = version_text
-text_of out_of_memory = refusal_line (codes "NoMemory")
-text_of unread = refusal_line (codes "ReadFault")
-text_of (refused input e) = refusal_line (request_refusal_name e)
-text_of (unscanned input e) = refusal_line (scan_refusal_name e)
-text_of (broken cause input a f p) = refusal_line (break_name cause)
-text_of (answered input a f p) = scan_report a f p
-text_of (explained input a f p) = explain_text a.zones f p
-text_of undecoded = refusal_line (codes "BadHex text")
-text_of (unshown e) = refusal_line (scan_refusal_name e)
-text_of (shown showing e) = shown_text showing e
-text_of (unnamed e) = refusal_line (text_refusal_name e)
-text_of unserialized = refusal_line (codes "NotSerializable")
-text_of overlong = refusal_line (codes "TooLong")
-text_of (named e) = bytes_line e
-text_of (summed rows) = gen_line rows
+abbrev pub outcome_text : Outcome → Bytes
+outcome_text misused = refusal_line (codes "Usage")
+outcome_text helped = help_text
+outcome_text versioned = version_text
+outcome_text out_of_memory = refusal_line (codes "NoMemory")
+outcome_text unread = refusal_line (codes "ReadFault")
+outcome_text (refused input e) = refusal_line (request_refusal_name e)
+outcome_text (unscanned input e) = refusal_line (scan_refusal_name e)
+outcome_text (broken cause input a f p) = refusal_line (break_name cause)
+outcome_text (answered input a f p) = scan_report a f p
+outcome_text (explained input a f p) = explain_text a.zones f p
+outcome_text undecoded = refusal_line (codes "BadHex text")
+outcome_text (unshown e) = refusal_line (scan_refusal_name e)
+outcome_text (shown showing e) = shown_text showing e
+outcome_text (unnamed e) = refusal_line (text_refusal_name e)
+outcome_text unserialized = refusal_line (codes "NotSerializable")
+outcome_text overlong = refusal_line (codes "TooLong")
+outcome_text (named e) = bytes_line e
+outcome_text (summed rows) = gen_line rows
 
 -- the store that is held after an outcome: the one that was scanned, where a report or the line of a generated table was made, or a phase broke
-abbrev pub used_by : Outcome → Option Seen
+abbrev pub used_by : Outcome → Option StoreSeen
 used_by (broken cause input a f p) = Some (broken_store a f p)
 used_by (answered input a f p) = Some (scanned_store a f p)
 used_by (summed rows) = Some (generated_store rows)
@@ -348,9 +348,9 @@ IsWriting before after text told status whole = (status ≡ told) × (Added befo
 IsWriting before after text told status cut = (status ≡ 7) × (AddedPrefix before.bytes after.bytes text × (one_more before.faults ≤ after.faults))
 
 -- a run of the program: an outcome, its text as it was written, and the store that is held
-pub record IsRun (form : Option Form) (in_before in_after out_before out_after : End) (used : Option Seen) (status : ℕ) : Type 0 where
+pub record IsRun (form : Option Form) (in_before in_after out_before out_after : End) (used : Option StoreSeen) (status : ℕ) : Type 0 where
   pub outcome : Outcome
   pub comes : IsOutcome form in_before in_after outcome
   pub writing : Writing
-  pub written : IsWriting out_before out_after (text_of outcome) (status_of outcome) status writing
+  pub written : IsWriting out_before out_after (outcome_text outcome) (status_of outcome) status writing
   pub held : used ≡ used_by outcome

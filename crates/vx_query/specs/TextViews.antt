@@ -7,7 +7,7 @@ use Rattle.vx_dtype.specs.Types.{Bytes}
 use Rattle.vx_expr.specs.Trees.{Tree}
 use Rattle.vx_explain.specs.Explanations.{explain_text}
 use Rattle.vx_request.specs.Requests.{RequestedScan}
-use Rattle.vx_query.specs.Running.{End, Form, HoldsScan, WordSpells, Names, HasBytes, bytes_line, Outcome, IsOutcome, status_of, text_of, used_by}
+use Rattle.vx_query.specs.Running.{End, Form, HoldsScan, WordSpells, Names, HasBytes, bytes_line, Outcome, IsOutcome, status_of, outcome_text, used_by}
 use Rattle.vx_query.specs.RefusalViews.{refusal_status, refusal_text, IsUnanswered, IsWordUnshown, IsQueryRefused}
 use Rattle.vx_query.specs.declared.refusals.Refusal.{Refusal}
 
@@ -48,5 +48,5 @@ pub record IsAnsweredBy (form : Option Form) (before after : End) (answer : Resu
   pub outcome : Outcome
   pub comes : IsOutcome form before after outcome
   pub status : status_of outcome ≡ answer_status answer
-  pub text : text_of outcome ≡ answer_text answer
+  pub text : outcome_text outcome ≡ answer_text answer
   pub unheld : used_by outcome ≡ None

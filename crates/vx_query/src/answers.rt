@@ -12,7 +12,7 @@ ghost use Rattle.vx_scan.specs.StoreAnswers.{new_store};
 ghost use Rattle.vx_scan.specs.StoreViews.{entry_view, store_seen};
 ghost use Rattle.vx_scan.specs.declared.errors.ScanError.TheVariants as scans;
 ghost use Rattle.vx_semantics.specs.Scans.{read_columns};
-ghost use Rattle.vx_tables.specs.Blocks.{block_view, table_of, table_refusal};
+ghost use Rattle.vx_tables.specs.Blocks.{block_view, table_of_blocks, table_refusal};
 ghost use Rattle.vx_query.specs.EndingViews.{IsAnswered, IsScanned, IsUnreported};
 ghost use Rattle.vx_query.specs.Reports.{report_text};
 ghost use Rattle.vx_request.specs.Requests.{RequestedScan};
@@ -81,7 +81,7 @@ fn scan_store(
     let registry = ExprRegistry::default();
     match scan(alloc, &registry, filter, projection, &mut store) {
         Ok(report) => Ok(Scanned {
-            ending: Ending::Report(text_of(alloc, &report, &store)?),
+            ending: Ending::Report(outcome_text(alloc, &report, &store)?),
             store,
         }),
         Err(error) => unreported(error, store),
@@ -122,10 +122,10 @@ fn unreported(error: ScanError, store: MemoryStore) -> Result<Scanned, Refusal>
 }
 
 /// The text of the report of a scan of a store.
-fn text_of(alloc: Global, report: &ScanReport, store: &MemoryStore) -> Mem<String>
+fn outcome_text(alloc: Global, report: &ScanReport, store: &MemoryStore) -> Mem<String>
     requires { raws_fit (type_view report.now.dtype) report.now.rows ≡ true }
     ensures { IfOk result (λ text. string_bytes text ≡ report_text (map value_text (report_view report.now).rows) report.now.skipped
-        (read_columns (table_of store.now.zones store.now.blocks) store.now.reads) (length store.now.reads)) }
+        (read_columns (table_of_blocks store.now.zones store.now.blocks) store.now.reads) (length store.now.reads)) }
 {
     let rows = row_texts(alloc, &report.dtype, report.rows.as_slice())?;
     let names = columns_read(alloc, store)?;
@@ -140,7 +140,7 @@ fn text_of(alloc: Global, report: &ScanReport, store: &MemoryStore) -> Mem<Strin
 
 /// The names of the columns that were read at least once, in the table's order.
 fn columns_read(alloc: Global, store: &MemoryStore) -> Mem<Vec<FieldName>>
-    ensures { IfOk result (λ names. names.items ≡ read_columns (table_of store.now.zones store.now.blocks) store.now.reads) }
+    ensures { IfOk result (λ names. names.items ≡ read_columns (table_of_blocks store.now.zones store.now.blocks) store.now.reads) }
 {
     let columns = store.zones().dtype().as_struct_fields_opt().unwrap();
     read_names(alloc, columns.names().as_slice(), store.log())

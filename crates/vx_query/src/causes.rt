@@ -5,10 +5,10 @@ ghost use Rattle.vx_expr.specs.Trees.{Tree};
 ghost use Rattle.vx_semantics.specs.Breaks.{Cause};
 ghost use Rattle.vx_semantics.specs.Honest.{IsHonest};
 ghost use Rattle.vx_io.specs.Ends.{Added};
-ghost use Rattle.vx_scan.specs.Stores.{Seen};
+ghost use Rattle.vx_scan.specs.Stores.{StoreSeen};
 ghost use Rattle.vx_explain.specs.Explanations.{explain_text};
 ghost use Rattle.vx_laws_generated.specs.GeneratedLine.{gen_line};
-ghost use Rattle.vx_query.specs.Causes.{HasRisen, IsReported, IsRefused, IsUnscanned, IsBroken, HasBroken, HasAskedReads, IsCut, IsUnread, IsWithoutMemory};
+ghost use Rattle.vx_query.specs.Causes.{HasRisen, IsReported, IsUnasked, IsUnscanned, IsStopped, HasBroken, HasAskedReads, IsCut, IsUnread, IsWithoutMemory};
 ghost use Rattle.vx_query.specs.Causes.{TellsScan};
 ghost use Rattle.vx_query.specs.Causes.{told_breaks, told_breaks_by, whole_report};
 ghost use Rattle.vx_query.specs.Exactly.{Tells, RunsWell, EndsWith};
@@ -24,9 +24,9 @@ use vx_wire::{one_expression, one_tree};
 /// request; the expressions of its scan are refused. No store is held then. Which refusal a line tells is said by the laws of
 /// `refusal_causes`.
 pub fn statuses_have_their_causes()
-    ensures refused { (form : Option Form) (i i' o o' : End) (used : Option Seen) → reads_request form ≡ true → IsRun form i i' o o' used 3
-        → IsRefused i i' o o' used }
-    ensures unscanned { (form : Option Form) (i i' o o' : End) (used : Option Seen) → reads_request form ≡ true → IsRun form i i' o o' used 4
+    ensures refused { (form : Option Form) (i i' o o' : End) (used : Option StoreSeen) → reads_request form ≡ true → IsRun form i i' o o' used 3
+        → IsUnasked i i' o o' used }
+    ensures unscanned { (form : Option Form) (i i' o o' : End) (used : Option StoreSeen) → reads_request form ≡ true → IsRun form i i' o o' used 4
         → IsUnscanned i i' o o' used }
 {}
 
@@ -35,10 +35,10 @@ pub fn statuses_have_their_causes()
 /// of the argument `scan`. And a run of `scan` over a source that tells its bytes, which hold a scan some phase of which
 /// breaks, ends so where there is memory and no end counts a fault.
 pub fn breaks_exactly()
-    ensures only { (form : Option Form) (i i' o o' : End) (used : Option Seen) → IsRun form i i' o o' used 5 → IsBroken i i' o o' used }
-    ensures told { (cause : Cause) (form : Option Form) (i i' o o' : End) (used : Option Seen)
+    ensures only { (form : Option Form) (i i' o o' : End) (used : Option StoreSeen) → IsRun form i i' o o' used 5 → IsStopped i i' o o' used }
+    ensures told { (cause : Cause) (form : Option Form) (i i' o o' : End) (used : Option StoreSeen)
         → Tells form i i' o o' used 5 (refusal_line (break_name cause)) → HasBroken cause form i i' }
-    ensures always { (i i' o o' : End) (used : Option Seen) (status : ℕ) (told : TellsScan i) → told_breaks told ≡ true
+    ensures always { (i i' o o' : End) (used : Option StoreSeen) (status : ℕ) (told : TellsScan i) → told_breaks told ≡ true
         → RunsWell (Some scan_form) i i' o o' used status → ¬ (HasRisen i i')
         → ((cause : Cause) × (told_breaks_by cause told ≡ true) × EndsWith 5 (refusal_line (break_name cause)) o o' status)
         × (used ≡ Some (broken_store told.asked told.filter told.projection)) }
@@ -50,34 +50,34 @@ pub fn breaks_exactly()
 /// line of ReadFault was written whole, and no store is held. And where the source counted one, and the sink none, a run ends
 /// so, as long as the count isn't at its last value.
 pub fn read_faults_are_counted()
-    ensures only { (form : Option Form) (i i' o o' : End) (used : Option Seen) → IsRun form i i' o o' used 6 → IsUnread form i i' o o' used }
-    ensures always { (form : Option Form) (i i' o o' : End) (used : Option Seen) (status : ℕ) → i.faults < 2 ^ 64 - 1 → HasRisen i i'
+    ensures only { (form : Option Form) (i i' o o' : End) (used : Option StoreSeen) → IsRun form i i' o o' used 6 → IsUnread form i i' o o' used }
+    ensures always { (form : Option Form) (i i' o o' : End) (used : Option StoreSeen) (status : ℕ) → i.faults < 2 ^ 64 - 1 → HasRisen i i'
         → ¬ (HasRisen o o') → IsRun form i i' o o' used status → status ≡ 6 }
 {}
 
 /// 7 comes only where the sink counted a fault; what was written then is a first part of the text in which the run was to end,
 /// and what was taken and which store is held are as that end says.
 pub fn write_faults_are_counted()
-    ensures { (form : Option Form) (i i' o o' : End) (used : Option Seen) → IsRun form i i' o o' used 7 → IsCut form i i' o o' used }
+    ensures { (form : Option Form) (i i' o o' : End) (used : Option StoreSeen) → IsRun form i i' o o' used 7 → IsCut form i i' o o' used }
 {}
 
 /// 8 comes only with the line of NoMemory written whole: no read of the input failed, and no store is held.
 pub fn want_of_memory_is_told()
-    ensures { (form : Option Form) (i i' o o' : End) (used : Option Seen) → IsRun form i i' o o' used 8 → IsWithoutMemory form i i' o o' used }
+    ensures { (form : Option Form) (i i' o o' : End) (used : Option StoreSeen) → IsRun form i i' o o' used 8 → IsWithoutMemory form i i' o o' used }
 {}
 
 /// 0 of the argument `scan` means that the input was taken, that it is a request whose two byte texts spell expressions that
 /// are strictly typed for its table, the filter a boolean, that no phase of their scan breaks, and that its report was written
 /// whole.
 pub fn reports_are_typed()
-    ensures { (i i' o o' : End) (used : Option Seen) → IsRun (Some scan_form) i i' o o' used 0 → IsReported i i' o o' used }
+    ensures { (i i' o o' : End) (used : Option StoreSeen) → IsRun (Some scan_form) i i' o o' used 0 → IsReported i i' o o' used }
 {}
 
 /// The store that is held after the scan of a request has just the reads of the scan that the input holds, up to the end of its first phase that
 /// breaks where one does: each is of a block that the statistics don't rule out, and of a column that the filter asks or, where
 /// this means true at some row of the block, the projection; and none stands twice.
 pub fn reads_are_asked()
-    ensures { (form : Option Form) (i i' o o' : End) (store : Seen) (status : ℕ) → reads_request form ≡ true → IsRun form i i' o o' (Some store) status
+    ensures { (form : Option Form) (i i' o o' : End) (store : StoreSeen) (status : ℕ) → reads_request form ≡ true → IsRun form i i' o o' (Some store) status
         → HasAskedReads i i' store }
 {
     kept_numbers_are_kept_blocks();
@@ -89,16 +89,16 @@ pub fn reads_are_asked()
 /// that asks the bytes of a query ends with 0 and the bytes of the expression that the query names, where this has any; and one of
 /// `gen` with 0 and the line of its table, whatever the number of rows.
 pub fn answers_are_complete()
-    ensures scan { (i i' o o' : End) (used : Option Seen) (status : ℕ) (told : TellsScan i) → told_breaks told ≡ false
+    ensures scan { (i i' o o' : End) (used : Option StoreSeen) (status : ℕ) (told : TellsScan i) → told_breaks told ≡ false
         → RunsWell (Some scan_form) i i' o o' used status → ¬ (HasRisen i i')
         → EndsWith 0 (scan_report told.asked told.filter told.projection) o o' status }
-    ensures explain { (i i' o o' : End) (used : Option Seen) (status : ℕ) (told : TellsScan i) → RunsWell (Some explain_form) i i' o o' used status
+    ensures explain { (i i' o o' : End) (used : Option StoreSeen) (status : ℕ) (told : TellsScan i) → RunsWell (Some explain_form) i i' o o' used status
         → ¬ (HasRisen i i') → EndsWith 0 (explain_text told.asked.zones told.filter told.projection) o o' status }
-    ensures show { (showing : Showing) (word : Bytes) (e : Tree) (i i' o o' : End) (used : Option Seen) (status : ℕ) → WordSpells word e
+    ensures show { (showing : Showing) (word : Bytes) (e : Tree) (i i' o o' : End) (used : Option StoreSeen) (status : ℕ) → WordSpells word e
         → RunsWell (Some (show_form showing word)) i i' o o' used status → EndsWith 0 (shown_text showing e) o o' status }
-    ensures text { (query : Bytes) (e : Tree) (i i' o o' : End) (used : Option Seen) (status : ℕ) → Names query e → HasBytes e
+    ensures text { (query : Bytes) (e : Tree) (i i' o o' : End) (used : Option StoreSeen) (status : ℕ) → Names query e → HasBytes e
         → RunsWell (Some (text_form query)) i i' o o' used status → EndsWith 0 (bytes_line e) o o' status }
-    ensures generated { (rows : ℕ) (i i' o o' : End) (used : Option Seen) (status : ℕ) → RunsWell (Some (gen_form rows)) i i' o o' used status
+    ensures generated { (rows : ℕ) (i i' o o' : End) (used : Option StoreSeen) (status : ℕ) → RunsWell (Some (gen_form rows)) i i' o o' used status
         → EndsWith 0 (gen_line rows) o o' status }
 {
     wire_laws();
@@ -107,9 +107,9 @@ pub fn answers_are_complete()
 /// What a report tells is settled by the bytes of the source: where they hold the scan of a filter and a projection, a
 /// run that ends with exit status 0 wrote the report of these two, and holds the store of their scan.
 pub fn reports_are_of_the_request()
-    ensures written { (i i' o o' : End) (used : Option Seen) (told : TellsScan i) → IsRun (Some scan_form) i i' o o' used 0 →
+    ensures written { (i i' o o' : End) (used : Option StoreSeen) (told : TellsScan i) → IsRun (Some scan_form) i i' o o' used 0 →
         Added o.bytes o'.bytes (scan_report told.asked told.filter told.projection) }
-    ensures held { (i i' o o' : End) (used : Option Seen) (told : TellsScan i) → IsRun (Some scan_form) i i' o o' used 0 →
+    ensures held { (i i' o o' : End) (used : Option StoreSeen) (told : TellsScan i) → IsRun (Some scan_form) i i' o o' used 0 →
         used ≡ Some (scanned_store told.asked told.filter told.projection) }
 {
     wire_laws();
@@ -119,9 +119,9 @@ pub fn reports_are_of_the_request()
 /// projection means at exactly the rows at which the filter means true, in the table's order. So it is also of the scan that
 /// the bytes of the source hold, where they are told.
 pub fn honest_reports_are_whole()
-    ensures reported { (i i' o o' : End) (used : Option Seen) (report : IsReported i i' o o' used) → IsHonest report.asked.zones (scan_table report.asked) →
+    ensures reported { (i i' o o' : End) (used : Option StoreSeen) (report : IsReported i i' o o' used) → IsHonest report.asked.zones (scan_table report.asked) →
         Added o.bytes o'.bytes (whole_report report.asked report.filter report.projection) }
-    ensures told { (i i' o o' : End) (used : Option Seen) (told : TellsScan i) → IsRun (Some scan_form) i i' o o' used 0 →
+    ensures told { (i i' o o' : End) (used : Option StoreSeen) (told : TellsScan i) → IsRun (Some scan_form) i i' o o' used 0 →
         IsHonest told.asked.zones (scan_table told.asked) → Added o.bytes o'.bytes (whole_report told.asked told.filter told.projection) }
 {
     wire_laws();

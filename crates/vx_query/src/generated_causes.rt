@@ -1,6 +1,6 @@
 // What the exit status of a run tells of the argument `gen`.
 ghost use Rattle.std.specs.Prelude.{◌≡◌, ℕ, Option, Some};
-ghost use Rattle.vx_scan.specs.Stores.{Seen};
+ghost use Rattle.vx_scan.specs.Stores.{StoreSeen};
 ghost use Rattle.vx_query.specs.GeneratedCauses.{GeneratedEnd, HasGeneratedReads};
 ghost use Rattle.vx_query.specs.Running.{End, IsRun, gen_form};
 
@@ -11,9 +11,9 @@ use vx_laws_scan::kept_numbers_are_kept_blocks;
 /// that is held is the one that was scanned: each of its reads is of a block that the statistics don't rule out, and of a column that
 /// the filter or the projection asks.
 pub fn generated_scans_are_summed()
-    ensures ends { (rows : ℕ) (i i' o o' : End) (used : Option Seen) (status : ℕ) → IsRun (Some (gen_form rows)) i i' o o' used status
+    ensures ends { (rows : ℕ) (i i' o o' : End) (used : Option StoreSeen) (status : ℕ) → IsRun (Some (gen_form rows)) i i' o o' used status
         → GeneratedEnd rows i i' o o' used status }
-    ensures holds { (rows : ℕ) (i i' o o' : End) (store : Seen) (status : ℕ) → IsRun (Some (gen_form rows)) i i' o o' (Some store) status
+    ensures holds { (rows : ℕ) (i i' o o' : End) (store : StoreSeen) (status : ℕ) → IsRun (Some (gen_form rows)) i i' o o' (Some store) status
         → HasGeneratedReads rows store }
 {
     kept_numbers_are_kept_blocks();

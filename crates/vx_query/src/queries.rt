@@ -5,7 +5,7 @@ ghost use Rattle.hex.specs.Hex.{encode_lower};
 ghost use Rattle.vx_wire.specs.Forms.{wire_of, wire_text, Everywhere};
 ghost use Rattle.vx_wire.specs.Metadata.{HasShortMetadata};
 ghost use Rattle.vx_wire_bytes.specs.WireViews.{tree_view};
-ghost use Rattle.vx_query.specs.RefusalViews.{IsUnspelled};
+ghost use Rattle.vx_query.specs.RefusalViews.{IsWithoutBytes};
 ghost use Rattle.vx_query.specs.Running.{IsShallow, HasBytes};
 ghost use Rattle.vx_query.specs.TextViews.{AnswersQuery};
 
@@ -31,7 +31,7 @@ pub(crate) fn query_bytes(alloc: Global, query: &str) -> Result<String, Refusal>
 fn expression_bytes(alloc: Global, expr: &ExprRef) -> Result<Vec<u8>, Refusal>
     ensures bytes { IfOk result (λ bytes. bytes.items ≡ wire_text expr.now) }
     ensures written { IfOk result (λ bytes. HasBytes expr.now) }
-    ensures refused { IfErr result (IsUnspelled expr.now) }
+    ensures refused { IfErr result (IsWithoutBytes expr.now) }
 {
     match expr.serialize_proto(alloc) {
         Ok(tree) => tree_bytes(alloc, expr, &tree),
@@ -51,7 +51,7 @@ fn tree_bytes(alloc: Global, expr: &ExprRef, tree: &WireTree) -> Result<Vec<u8>,
     requires short { Everywhere HasShortMetadata expr.now }
     ensures bytes { IfOk result (λ bytes. bytes.items ≡ wire_text expr.now) }
     ensures written { IfOk result (λ bytes. HasBytes expr.now) }
-    ensures refused { IfErr result (IsUnspelled expr.now) }
+    ensures refused { IfErr result (IsWithoutBytes expr.now) }
 {
     match write_tree(alloc, tree) {
         Ok(bytes) => Ok(bytes),

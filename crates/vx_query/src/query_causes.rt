@@ -1,7 +1,7 @@
 // What the exit status of a run tells of the argument `text`.
 ghost use Rattle.std.specs.Prelude.{◌≡◌, ◌≢◌, codes, Option, Some, Err};
 ghost use Rattle.vx_dtype.specs.Types.{Bytes};
-ghost use Rattle.vx_scan.specs.Stores.{Seen};
+ghost use Rattle.vx_scan.specs.Stores.{StoreSeen};
 ghost use Rattle.vx_text.specs.Reading.{reading_of};
 ghost use Rattle.vx_text.specs.declared.errors.TextError.{TextError};
 ghost use Rattle.vx_text.specs.declared.errors.TextError.TheVariants.{TooLong};
@@ -13,7 +13,7 @@ ghost use Rattle.vx_query.specs.Running.{End, IsRun, text_form};
 /// 0 of the argument `text` with a query means that the query names an expression, whose bytes were written whole, two
 /// hexadecimal digits for each.
 pub fn text_is_named_exactly()
-    ensures { (query : Bytes) (i i' o o' : End) (used : Option Seen) → IsRun (Some (text_form query)) i i' o o' used 0 → IsNamed query i i' o o' used }
+    ensures { (query : Bytes) (i i' o o' : End) (used : Option StoreSeen) → IsRun (Some (text_form query)) i i' o o' used 0 → IsNamed query i i' o o' used }
 {}
 
 /// A query is refused with BadToken, TooManyTokens, BadQuery or BadValue exactly where its reading is; with TooLong exactly

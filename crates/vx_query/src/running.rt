@@ -1,7 +1,7 @@
 // The program as a call.
 ghost use Rattle.std.specs.Prelude.{◌≡◌, map, option_map, Some, None, IfOk, IfErr, IsErr};
 ghost use Rattle.std.specs.String.{string_bytes};
-ghost use Rattle.vx_query.specs.Running.{End, Outcome, Writing, IsOutcome, IsRun, IsWriting, end_by, form_of, explain_form, gen_form, scan_form, status_of, text_of, used_by};
+ghost use Rattle.vx_query.specs.Running.{End, Outcome, Writing, IsOutcome, IsRun, IsWriting, end_by, form_of, explain_form, gen_form, scan_form, status_of, outcome_text, used_by};
 ghost use Rattle.vx_scan.specs.StoreViews.{store_seen};
 ghost use Rattle.vx_query.specs.EndingViews.{ending_status, ending_text};
 ghost use Rattle.vx_query.specs.RefusalViews.{refusal_status, refusal_text};
@@ -98,7 +98,7 @@ fn write_generated<O: Sink>(
     requires { used.old ≡ None }
     ensures { let sink = end_by O.written O.faults in (source : End) → (outcome : Outcome) × IsOutcome (Some (gen_form rows)) source source outcome
         × (option_map store_seen used.new ≡ used_by outcome)
-        × ((writing : Writing) × IsWriting (sink output.old) (sink output.new) (text_of outcome) (status_of outcome) result writing) }
+        × ((writing : Writing) × IsWriting (sink output.old) (sink output.new) (outcome_text outcome) (status_of outcome) result writing) }
 {
     match scan_generated(alloc, rows) {
         Ok(scanned) => {
@@ -129,10 +129,10 @@ fn scan_input<I: Source>(
 ) -> Result<Ending, Refusal>
     ensures told { let source = end_by I.left I.faults in IfOk result (λ ending. (outcome : Outcome)
         × IsOutcome (Some scan_form) (source input.old) (source input.new) outcome × (status_of outcome ≡ ending_status ending)
-        × (text_of outcome ≡ ending_text ending) × (option_map store_seen used.new ≡ used_by outcome)) }
+        × (outcome_text outcome ≡ ending_text ending) × (option_map store_seen used.new ≡ used_by outcome)) }
     ensures refused { let source = end_by I.left I.faults in IfErr result
         (λ refusal. (outcome : Outcome) × IsOutcome (Some scan_form) (source input.old) (source input.new) outcome
-        × (status_of outcome ≡ refusal_status refusal) × (text_of outcome ≡ refusal_text refusal) × (used_by outcome ≡ None)) }
+        × (status_of outcome ≡ refusal_status refusal) × (outcome_text outcome ≡ refusal_text refusal) × (used_by outcome ≡ None)) }
     ensures unused { IsErr result → used.new ≡ used.old }
 {
     let bytes = read_up_to(alloc, MOST_BYTES + 1, input)?;

@@ -13,7 +13,7 @@ use Rattle.vx_semantics.specs.Breaks.{Cause, by_sum, by_cast}
 use Rattle.vx_semantics.specs.Asked.{asked_columns}
 use Rattle.vx_semantics.specs.Scans.{Phase, reads_in, further_columns, matching_rows, block_rows, block_phases, has_rows}
 use Rattle.vx_semantics.specs.Tables.{Table, Zones, row_type}
-use Rattle.vx_scan.specs.Stores.{Read, Seen, WhereTold, AgreesWith, IsSameStore}
+use Rattle.vx_scan.specs.Stores.{Read, StoreSeen, WhereTold, AgreesWith, IsSameStore}
 use Rattle.vx_scan.specs.Scanning.{asks_breaking}
 use Rattle.vx_scan.specs.Runs.{Runs, block_asked, FailedAmong, EndsBlock, AddsRows, RunsBlock, RunsBlockOf}
 use Rattle.vx_scan.specs.Steps.{EndsPart, RunsTold, RunsPart, AreTruths, AddsToldRows}
@@ -26,7 +26,7 @@ use Rattle.vx_scan.proofs.RunLemmas.{logged, run_on, run_more}
 use Rattle.vx_scan.proofs.ScanLemmas.{same_after, told_both}
 
 -- how the last phase that ran ends is how the block ends: what was made and what is left are reads of the block
-ends_block : (f p g : Tree) (block : ℕ) (a m b : Seen) (made left behind : List Read) (result : Result (Unit {0}) ScanError) → m.failed ≡ a.failed → a.faults ≤ m.faults
+ends_block : (f p g : Tree) (block : ℕ) (a m b : StoreSeen) (made left behind : List Read) (result : Result (Unit {0}) ScanError) → m.failed ≡ a.failed → a.faults ≤ m.faults
     → ((c : Cause) → asks_breaking c (row_type a.zones.columns) g ≡ true → (asks_breaking c (row_type a.zones.columns) f || asks_breaking c (row_type a.zones.columns) p) ≡ true)
     → block_asked a.zones f p block ≡ made ++ (left ++ behind) → EndsPart (row_type a.zones.columns) g left m b result → EndsBlock f p block a b made result
 ends_block f p g block a m b made left behind (Ok u) k later asks all h = h.1 ∙ k
@@ -52,11 +52,11 @@ ends_block f p g block a m b made left behind (Err (errors.TypeMismatch s)) k la
 ends_block f p g block a m b made left behind (Err errors.FilterNotBool) k later asks all h = absurd h
 
 -- the reads of the filter's phase and of the projection's, and whole runs of the filter's
-abbrev pub FilterPart : Slots → Tree → ℕ → Seen → Seen → Result (Unit {0}) ScanError → Type 0
+abbrev pub FilterPart : Slots → Tree → ℕ → StoreSeen → StoreSeen → Result (Unit {0}) ScanError → Type 0
 FilterPart slots f block a b result =
     RunsPart slots f (reads_in block (asked_columns (row_type a.zones.columns) f)) block (λ rows. rows) a b result
 
-abbrev pub ProjectionPart : Slots → Tree → Tree → ℕ → Seen → Seen → Result (Unit {0}) ScanError → Type 0
+abbrev pub ProjectionPart : Slots → Tree → Tree → ℕ → StoreSeen → StoreSeen → Result (Unit {0}) ScanError → Type 0
 ProjectionPart slots f p block a b result =
     RunsPart slots p (reads_in block (further_columns (row_type a.zones.columns) f p)) block (matching_rows (row_type a.zones.columns) slots f) a b result
 
@@ -67,7 +67,7 @@ by_projection : (f p : Tree) (t : Ty) (c : Cause) → asks_breaking c t p ≡ tr
 by_projection f p t c h = or_right (asks_breaking c t f) (asks_breaking c t p) h
 
 -- the filter's phase did not end well
-pub block_stops : (slots : Slots) (f p : Tree) (block : ℕ) (a b : Seen) (was now : List Val) (e : ScanError) → IsSameStore a b → WhereTold a.held (AgreesWith a.zones)
+pub block_stops : (slots : Slots) (f p : Tree) (block : ℕ) (a b : StoreSeen) (was now : List Val) (e : ScanError) → IsSameStore a b → WhereTold a.held (AgreesWith a.zones)
     → FilterPart slots f block a b (Err e) → RunsBlock slots f p block a b was now (Err e)
 block_stops slots f p block a b was now e same agrees h =
     let t = row_type a.zones.columns in
@@ -102,7 +102,7 @@ some_match [] h = let no : ⊥ = cc in absurd no
 some_match (row ∷ rows) h = refl
 
 -- the filter is true at no row: the block gives no row
-pub block_without : (slots : Slots) (f p : Tree) (block : ℕ) (a b : Seen) (was keep : List Val) → IsSameStore a b → WhereTold a.held (AgreesWith a.zones)
+pub block_without : (slots : Slots) (f p : Tree) (block : ℕ) (a b : StoreSeen) (was keep : List Val) → IsSameStore a b → WhereTold a.held (AgreesWith a.zones)
     → FilterPart slots f block a b (Ok tt) → WhereTold a.held (AreTruths (row_type a.zones.columns) slots f block keep) → nat_eq (length (kept_rows keep keep)) 0 ≡ true
     → RunsBlock slots f p block a b was was (Ok tt)
 block_without slots f p block a b was keep same agrees h truths none =
@@ -137,7 +137,7 @@ block_without slots f p block a b was keep same agrees h truths none =
     }
 
 -- what is known of a table where the projection's phase has run
-record Projected (t : Ty) (slots : Slots) (f p : Tree) (block : ℕ) (a m b : Seen) (was now keep : List Val) (result : Result (Unit {0}) ScanError) (table : Table) : Type 0 where
+record Projected (t : Ty) (slots : Slots) (f p : Tree) (block : ℕ) (a m b : StoreSeen) (was now keep : List Val) (result : Result (Unit {0}) ScanError) (table : Table) : Type 0 where
   columns : row_type table.columns ≡ t
   filtered : RunsTold t slots f (reads_in block (asked_columns t f)) block (λ rows. rows) a m (Ok tt) table
   truths : AreTruths t slots f block keep table
@@ -149,7 +149,7 @@ adds_rows : (T : Ty) (slots : Slots) (f p : Tree) (block : ℕ) (was now rows : 
 adds_rows T slots f p block was now rows (Ok u) table e h = h.2 ∙ ap (λ (rs : List Val). was ++ block_rows T slots f p rs) (some_same (sym h.1 ∙ e))
 adds_rows T slots f p block was now rows (Err x) table e h = tt
 
-projected_block : (T : Ty) (slots : Slots) (f p : Tree) (block : ℕ) (a m b : Seen) (was now keep : List Val) (result : Result (Unit {0}) ScanError) (table : Table)
+projected_block : (T : Ty) (slots : Slots) (f p : Tree) (block : ℕ) (a m b : StoreSeen) (was now keep : List Val) (result : Result (Unit {0}) ScanError) (table : Table)
     → nat_eq (length (kept_rows keep keep)) 0 ≡ false → Projected T slots f p block a m b was now keep result table → RunsBlockOf slots f p block table a b was now result
 projected_block T slots f p block a m b was now keep result table some k =
     let rows = k.filtered.0 in
@@ -171,7 +171,7 @@ projected_block T slots f p block a m b was now keep result table some k =
     }
 
 -- the projection's phase ran after the filter's
-pub block_projects : (slots : Slots) (f p : Tree) (block : ℕ) (a m b : Seen) (was now keep : List Val) (result : Result (Unit {0}) ScanError) → IsSameStore a m → IsSameStore m b
+pub block_projects : (slots : Slots) (f p : Tree) (block : ℕ) (a m b : StoreSeen) (was now keep : List Val) (result : Result (Unit {0}) ScanError) → IsSameStore a m → IsSameStore m b
     → WhereTold a.held (AgreesWith a.zones) → FilterPart slots f block a m (Ok tt) → WhereTold a.held (AreTruths (row_type a.zones.columns) slots f block keep)
     → nat_eq (length (kept_rows keep keep)) 0 ≡ false → ProjectionPart slots f p block m b result
     → WhereTold m.held (AddsToldRows (block_rows (row_type m.zones.columns) slots f p) block was now result) → RunsBlock slots f p block a b was now result

@@ -20,18 +20,18 @@ use Rattle.vx_semantics.specs.Meaning.{Slots, mean}
 use Rattle.vx_semantics.specs.Scans.{matching_rows}
 use Rattle.vx_semantics.specs.Tables.{Table, Zones, row_type}
 use Rattle.vx_prepare.specs.Preparing.{AreOf, HaveColumns}
-use Rattle.vx_scan.specs.Stores.{Seen, WhereTold, AreHeld, AgreesWith, IsSameStore, IsColumnOf}
+use Rattle.vx_scan.specs.Stores.{StoreSeen, WhereTold, AreHeld, AgreesWith, IsSameStore, IsColumnOf}
 use Rattle.vx_scan.specs.Steps.{AreColumnsOf, further_names, kept_column}
 
 -- a column of a block is one in each state of the store
-pub column_moved : (a b : Seen) (block : ℕ) (name : Bytes) (c : Column) → b.zones ≡ a.zones → b.held ≡ a.held → IsColumnOf a block name c → IsColumnOf b block name c
+pub column_moved : (a b : StoreSeen) (block : ℕ) (name : Bytes) (c : Column) → b.zones ≡ a.zones → b.held ≡ a.held → IsColumnOf a block name c → IsColumnOf b block name c
 column_moved a b block name c e k h = record {
   ty = subst (λ (z : Zones). field_type name z.columns ≡ Some c.ty) (sym e) h.ty;
   len = subst (λ (z : Zones). slice_get z.lengths block ≡ Some (length c.rows)) (sym e) h.len;
   rows = subst (λ (held : Option Table). WhereTold held (AreHeld block name c.rows)) (sym k) h.rows;
 }
 
-pub columns_moved : (a b : Seen) (block : ℕ) (names : List Bytes) (cs : List Column) → b.zones ≡ a.zones → b.held ≡ a.held → AreColumnsOf a block names cs → AreColumnsOf b block names cs
+pub columns_moved : (a b : StoreSeen) (block : ℕ) (names : List Bytes) (cs : List Column) → b.zones ≡ a.zones → b.held ≡ a.held → AreColumnsOf a block names cs → AreColumnsOf b block names cs
 columns_moved a b block [] [] e k h = tt
 columns_moved a b block [] (c ∷ cs) e k h = absurd h
 columns_moved a b block (n ∷ names) [] e k h = absurd h
@@ -57,7 +57,7 @@ zipped_at R (x ∷ xs) (y ∷ ys) zero d e h l = h.0
 zipped_at R (x ∷ xs) (y ∷ ys) (suc i) d e h l = zipped_at R xs ys i d e h.1 (omega arith)
 
 -- one more column that is read for the name at a place
-pub columns_grow : (a m : Seen) (block : ℕ) (names known_names : List Bytes) (known items new : List Column) (i : ℕ) (name : Bytes) (c : Column) → i < length names → name ≡ get_or names i name → IsSameStore a m
+pub columns_grow : (a m : StoreSeen) (block : ℕ) (names known_names : List Bytes) (known items new : List Column) (i : ℕ) (name : Bytes) (c : Column) → i < length names → name ≡ get_or names i name → IsSameStore a m
     → new ≡ items ++ c ∷ [] → (AreColumnsOf a block known_names known → AreColumnsOf a block (take i names) items) → (AreColumnsOf m block known_names known → IsColumnOf m block name c)
     → AreColumnsOf a block known_names known → AreColumnsOf a block (take (i + 1) names) new
 columns_grow a m block names known_names known items new i name c l e s g h k r =
@@ -67,7 +67,7 @@ columns_grow a m block names known_names known items new i name c l e s g h k r 
     (subst (λ (ns : List Bytes). AreColumnsOf a block ns (items ++ c ∷ [])) (sym next) (zipped_more (IsColumnOf a block) (take i names) items name c (h r) own))
 
 -- the column that is known under a name
-pub known_column : (a : Seen) (block : ℕ) (names : List Bytes) (known : List Column) (name : Bytes) (i : ℕ) (c d : Column) → position (bytes_eq name) names ≡ Some i → c ≡ get_or known i d → AreColumnsOf a block names known → IsColumnOf a block name c
+pub known_column : (a : StoreSeen) (block : ℕ) (names : List Bytes) (known : List Column) (name : Bytes) (i : ℕ) (c d : Column) → position (bytes_eq name) names ≡ Some i → c ≡ get_or known i d → AreColumnsOf a block names known → IsColumnOf a block name c
 known_column a block names known name i c d e g h =
     let found = position-Some (bytes_eq name) names i name e in
     let same : name ≡ get_or names i name = (bytes_eq-Decides name (get_or names i name)).0 found.1 in
@@ -106,7 +106,7 @@ unplaced_further names name e =
 pub some_same : {X : Type 0} {x y : X} → Some x ≡ Some y → x ≡ y
 some_same e = cc
 
-pub columns_are : (a : Seen) (block len : ℕ) (names : List Bytes) (cs : List Column) → slice_get a.zones.lengths block ≡ Some len → AreColumnsOf a block names cs → AreOf a.zones.columns len names cs
+pub columns_are : (a : StoreSeen) (block len : ℕ) (names : List Bytes) (cs : List Column) → slice_get a.zones.lengths block ≡ Some len → AreColumnsOf a block names cs → AreOf a.zones.columns len names cs
 columns_are a block len [] [] e h = tt
 columns_are a block len [] (c ∷ cs) e h = absurd h
 columns_are a block len (n ∷ names) [] e h = absurd h
@@ -117,7 +117,7 @@ pub told_at : (P : Table → Type 0) (held : Option Table) (table : Table) → h
 told_at P None table e h = let no : ⊥ = cc in absurd no
 told_at P (Some other) table e h = subst P (some_same e) h
 
-pub columns_have : (a : Seen) (table : Table) (block : ℕ) (names : List Bytes) (cs : List Column) (rows : List Val) → a.held ≡ Some table → slice_get table.blocks block ≡ Some rows → AreColumnsOf a block names cs
+pub columns_have : (a : StoreSeen) (table : Table) (block : ℕ) (names : List Bytes) (cs : List Column) (rows : List Val) → a.held ≡ Some table → slice_get table.blocks block ≡ Some rows → AreColumnsOf a block names cs
     → AllZip (λ name. λ (c : Column). c.rows ≡ map (field_of name) rows) names cs
 columns_have a table block [] [] rows e k h = tt
 columns_have a table block [] (c ∷ cs) rows e k h = absurd h
@@ -149,7 +149,7 @@ block_is zones block len table a e =
     let at = unmapped length table.blocks block len (ap (λ (ns : List ℕ). slice_get ns block) a.lengths ∙ e) in
     record { rows = at.0; there = at.1; long = at.2; fit = all_at (rows_fit (row_type zones.columns)) table.blocks block at.0 a.fit at.1 }
 
-pub block_columns : (a : Seen) (table : Table) (block len : ℕ) (names : List Bytes) (cs : List Column) (b : IsBlock a.zones block len table) → a.held ≡ Some table → AreColumnsOf a block names cs
+pub block_columns : (a : StoreSeen) (table : Table) (block len : ℕ) (names : List Bytes) (cs : List Column) (b : IsBlock a.zones block len table) → a.held ≡ Some table → AreColumnsOf a block names cs
     → HaveColumns a.zones.columns len names cs b.rows
 block_columns a table block len names cs b e h = record { fit = b.fit; long = b.long; each = columns_have a table block names cs b.rows e b.there h }
 
@@ -186,7 +186,7 @@ kept_fit t p (row ∷ rows) h = by-test (p row) (and_parts (val_fits row t) (row
     by-test false own rest = rest
 
 -- the columns at these rows: how many rows there are, and what they are where the table is told
-pub kept_are : (a : Seen) (block : ℕ) (names : List Bytes) (cs : List Column) (keep : List Val) → slice_get a.zones.lengths block ≡ Some (length keep) → AreColumnsOf a block names cs
+pub kept_are : (a : StoreSeen) (block : ℕ) (names : List Bytes) (cs : List Column) (keep : List Val) → slice_get a.zones.lengths block ≡ Some (length keep) → AreColumnsOf a block names cs
     → AreOf a.zones.columns (length (kept_rows keep keep)) names (map (kept_column keep) cs)
 kept_are a block [] [] keep e h = tt
 kept_are a block [] (c ∷ cs) keep e h = absurd h
@@ -214,7 +214,7 @@ matching_length t slots f rows keep e =
     ∙ ap length (kept_of k k rows)
     ∙ length_mapped k (matching_rows t slots f rows))
 
-pub matching_columns : (a : Seen) (slots : Slots) (f : Tree) (names : List Bytes) (cs : List Column) (rows keep : List Val) (len : ℕ)
+pub matching_columns : (a : StoreSeen) (slots : Slots) (f : Tree) (names : List Bytes) (cs : List Column) (rows keep : List Val) (len : ℕ)
     → HaveColumns a.zones.columns len names cs rows → keep ≡ map (λ row. mean (row_type a.zones.columns) slots row f) rows
     → HaveColumns a.zones.columns (length (kept_rows keep keep)) names (map (kept_column keep) cs) (matching_rows (row_type a.zones.columns) slots f rows)
 matching_columns a slots f names cs rows keep len h e =

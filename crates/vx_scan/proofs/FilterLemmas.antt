@@ -13,7 +13,7 @@ use Rattle.vx_semantics.specs.Scans.{reads_in, further_columns}
 use Rattle.vx_semantics.specs.Tables.{row_type}
 use Rattle.vx_prepare.specs.Preparing.{IsPrepared, AreOf, CanBeOver}
 use Rattle.vx_prepare.specs.declared.prepared.PreparedExpr.{PreparedExpr}
-use Rattle.vx_scan.specs.Stores.{Seen}
+use Rattle.vx_scan.specs.Stores.{StoreSeen}
 use Rattle.vx_scan.specs.Steps.{MakesReads, further_names, AreColumnsOf, IsPreparedScan, IsFiltered, kept_column}
 use Rattle.vx_scan.specs.declared.errors.ScanError.{ScanError}
 use Rattle.vx_scan.specs.declared.filtering.FilteredBlock.{FilteredBlock}
@@ -32,26 +32,26 @@ pub asked_there : (fs : Fields) (slots : Slots) (e : Tree) (expr : PreparedExpr)
 asked_there fs slots e expr names h k = ap (list_all (λ n. has_name n (field_names fs))) (h ∙ k.columns) ∙ picked_are_there _ (field_names fs)
 
 -- the reads of the filter's phase: none of its columns is known before
-pub filter_reads : (a b : Seen) (block : ℕ) (none names columns asked : List Bytes) (result : Result (Unit {0}) ScanError) → none ≡ [] → names ≡ columns → columns ≡ asked
+pub filter_reads : (a b : StoreSeen) (block : ℕ) (none names columns asked : List Bytes) (result : Result (Unit {0}) ScanError) → none ≡ [] → names ≡ columns → columns ≡ asked
     → MakesReads (reads_in block (further_names none names)) a b result → MakesReads (reads_in block asked) a b result
 filter_reads a b block none names columns asked result e h k m =
     subst (λ (ns : List Bytes). MakesReads (reads_in block ns) a b result) (ap (λ (known : List Bytes). further_names known names) e ∙ none_known names ∙ h ∙ k) m
 
 -- the columns of the filter's phase
-pub filter_columns : (a : Seen) (block : ℕ) (none names columns : List Bytes) (unread cs : List Column) → none ≡ [] → unread ≡ [] → names ≡ columns
+pub filter_columns : (a : StoreSeen) (block : ℕ) (none names columns : List Bytes) (unread cs : List Column) → none ≡ [] → unread ≡ [] → names ≡ columns
     → (AreColumnsOf a block none unread → AreColumnsOf a block names cs) → AreColumnsOf a block columns cs
 filter_columns a block none names columns unread cs e u h k =
     let nothing : AreColumnsOf a block none unread = subst (λ (ns : List Bytes). AreColumnsOf a block ns unread) (sym e) (subst (λ (xs : List Column). AreColumnsOf a block [] xs) (sym u) tt) in
     subst (λ (ns : List Bytes). AreColumnsOf a block ns cs) h (k nothing)
 
 -- the filter can be evaluated over its columns
-pub can_be_whole : (a : Seen) (slots : Slots) (f p : Tree) (scan : PreparedScan) (block len : ℕ) (cs : List Column) → IsPreparedScan a.zones slots f p scan → slice_get a.zones.lengths block ≡ Some len
+pub can_be_whole : (a : StoreSeen) (slots : Slots) (f p : Tree) (scan : PreparedScan) (block len : ℕ) (cs : List Column) → IsPreparedScan a.zones slots f p scan → slice_get a.zones.lengths block ≡ Some len
     → AreColumnsOf a block scan.filter.columns cs → CanBeOver slots scan.filter len cs
 can_be_whole a slots f p scan block len cs h e k =
     record { fields = a.zones.columns; expression = f; prepared = h.filter; distinct = h.distinct; own = columns_are a block len scan.filter.columns cs e k }
 
 -- the reads of the projection's phase: the filter's columns are known
-pub projection_reads : (a b : Seen) (slots : Slots) (f p : Tree) (scan : PreparedScan) (block : ℕ) (names known : List Bytes) (result : Result (Unit {0}) ScanError) → IsPreparedScan a.zones slots f p scan
+pub projection_reads : (a b : StoreSeen) (slots : Slots) (f p : Tree) (scan : PreparedScan) (block : ℕ) (names known : List Bytes) (result : Result (Unit {0}) ScanError) → IsPreparedScan a.zones slots f p scan
     → names ≡ scan.projection.columns → known ≡ scan.filter.columns → MakesReads (reads_in block (further_names known names)) a b result
     → MakesReads (reads_in block (further_columns (row_type a.zones.columns) f p)) a b result
 projection_reads a b slots f p scan block names known result h e k m =
@@ -59,19 +59,19 @@ projection_reads a b slots f p scan block names known result h e k m =
     let ks : known ≡ asked_columns (row_type a.zones.columns) f = k ∙ h.filter.columns in
     subst (λ (rs : List Bytes). MakesReads (reads_in block rs) a b result) (λ i. further_names (ks i) (ns i)) m
 
-pub projection_columns : (a : Seen) (block : ℕ) (names columns known_names others : List Bytes) (known cs : List Column) → names ≡ columns → known_names ≡ others → AreColumnsOf a block others known
+pub projection_columns : (a : StoreSeen) (block : ℕ) (names columns known_names others : List Bytes) (known cs : List Column) → names ≡ columns → known_names ≡ others → AreColumnsOf a block others known
     → (AreColumnsOf a block known_names known → AreColumnsOf a block names cs) → AreColumnsOf a block columns cs
 projection_columns a block names columns known_names others known cs e k own h =
     subst (λ (ns : List Bytes). AreColumnsOf a block ns cs) e (h (subst (λ (ns : List Bytes). AreColumnsOf a block ns known) (sym k) own))
 
 -- the projection's columns at the rows that are kept, over which it can be evaluated
-pub kept_of_type : (a : Seen) (slots : Slots) (f : Tree) (names others : List Bytes) (block : ℕ) (filtered : FilteredBlock) (cs kept : List Column) → IsFiltered slots f others block a filtered
+pub kept_of_type : (a : StoreSeen) (slots : Slots) (f : Tree) (names others : List Bytes) (block : ℕ) (filtered : FilteredBlock) (cs kept : List Column) → IsFiltered slots f others block a filtered
     → AreColumnsOf a block names cs → kept ≡ map (kept_column filtered.keep.rows) cs → AreOf a.zones.columns filtered.count names kept
 kept_of_type a slots f names others block filtered cs kept k own e =
     let all : AreOf a.zones.columns (length (kept_rows filtered.keep.rows filtered.keep.rows)) names (map (kept_column filtered.keep.rows) cs) = kept_are a block names cs filtered.keep.rows k.len own in
     subst (λ (n : ℕ). AreOf a.zones.columns n names kept) (sym k.count) (subst (λ (xs : List Column). AreOf a.zones.columns (length (kept_rows filtered.keep.rows filtered.keep.rows)) names xs) (sym e) all)
 
-pub can_be_kept : (a : Seen) (slots : Slots) (f p : Tree) (scan : PreparedScan) (block : ℕ) (filtered : FilteredBlock) (cs kept : List Column) → IsPreparedScan a.zones slots f p scan
+pub can_be_kept : (a : StoreSeen) (slots : Slots) (f p : Tree) (scan : PreparedScan) (block : ℕ) (filtered : FilteredBlock) (cs kept : List Column) → IsPreparedScan a.zones slots f p scan
     → IsFiltered slots f scan.filter.columns block a filtered → AreColumnsOf a block scan.projection.columns cs → kept ≡ map (kept_column filtered.keep.rows) cs
     → CanBeOver slots scan.projection filtered.count kept
 can_be_kept a slots f p scan block filtered cs kept h k own e =
@@ -87,7 +87,7 @@ can_be_kept a slots f p scan block filtered cs kept h k own e =
 nat_eq_same : (n m : ℕ) → n ≡ m → nat_eq n m ≡ true
 nat_eq_same n m e = grind (arith, nat_tests)
 
-pub columns_long : (a : Seen) (block len : ℕ) (names : List Bytes) (cs : List Column) → slice_get a.zones.lengths block ≡ Some len → AreColumnsOf a block names cs → list_all (λ c. nat_eq (length c.rows) len) cs ≡ true
+pub columns_long : (a : StoreSeen) (block len : ℕ) (names : List Bytes) (cs : List Column) → slice_get a.zones.lengths block ≡ Some len → AreColumnsOf a block names cs → list_all (λ c. nat_eq (length c.rows) len) cs ≡ true
 columns_long a block len names [] e h = refl
 columns_long a block len [] (c ∷ cs) e h = absurd h
 columns_long a block len (n ∷ names) (c ∷ cs) e h =

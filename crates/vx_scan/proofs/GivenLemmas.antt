@@ -12,7 +12,7 @@ use Rattle.vx_semantics.specs.Scans.{matching_rows, block_rows}
 use Rattle.vx_semantics.specs.Tables.{Table, Zones, row_type}
 use Rattle.vx_prepare.specs.Preparing.{IsPrepared, AreOf, HaveColumns}
 use Rattle.vx_prepare.specs.declared.prepared.PreparedExpr.{PreparedExpr}
-use Rattle.vx_scan.specs.Stores.{Seen, WhereTold, AgreesWith, IsSameStore}
+use Rattle.vx_scan.specs.Stores.{StoreSeen, WhereTold, AgreesWith, IsSameStore}
 use Rattle.vx_scan.specs.Steps.{AreColumnsOf, kept_column, GivesAsked, AreTruths, AddsToldRows, IsFiltered}
 use Rattle.vx_scan.specs.declared.errors.ScanError.{ScanError}
 use Rattle.vx_scan.specs.declared.filtering.FilteredBlock.{FilteredBlock}
@@ -24,7 +24,7 @@ told_is : (held : Option Table) (P Q : Table → Type 0) → ((table : Table) �
 told_is None P Q h k = tt
 told_is (Some table) P Q h k = h table refl k
 
-pub block_told : (a : Seen) (block len : ℕ) → WhereTold a.held (AgreesWith a.zones) → slice_get a.zones.lengths block ≡ Some len → BlockTold a block len
+pub block_told : (a : StoreSeen) (block len : ℕ) → WhereTold a.held (AgreesWith a.zones) → slice_get a.zones.lengths block ≡ Some len → BlockTold a block len
 block_told a block len agrees e = told_is a.held (AgreesWith a.zones) (IsBlock a.zones block len) (λ table same agree. block_is a.zones block len table agree e) agrees
 
 -- what an expression that is evaluated over columns gives at the rows that have them
@@ -32,7 +32,7 @@ abbrev pub GivesWhereHeld : Slots → PreparedExpr → ℕ → List Column → R
 GivesWhereHeld slots expr len cs result = (fs : Fields) (e : Tree) → IsPrepared fs slots e expr → no_name_twice (row_type fs) ≡ true
     → AreOf fs len expr.columns cs → (rows : List Val) → HaveColumns fs len expr.columns cs rows → GivesAsked (row_type fs) slots e rows result
 
-pub gives_whole : (a : Seen) (slots : Slots) (e : Tree) (expr : PreparedExpr) (block len : ℕ) (cs : List Column) (result : Result ColumnRef ScanError) → slice_get a.zones.lengths block ≡ Some len → BlockTold a block len
+pub gives_whole : (a : StoreSeen) (slots : Slots) (e : Tree) (expr : PreparedExpr) (block len : ℕ) (cs : List Column) (result : Result ColumnRef ScanError) → slice_get a.zones.lengths block ≡ Some len → BlockTold a block len
     → AreColumnsOf a block expr.columns cs → IsPrepared a.zones.columns slots e expr → no_name_twice (row_type a.zones.columns) ≡ true → GivesWhereHeld slots expr len cs result
     → GivesTold slots e block (λ rows. rows) a result
 gives_whole a slots e expr block len cs result at told columns prepared distinct gives =
@@ -41,7 +41,7 @@ gives_whole a slots e expr block len cs result at told columns prepared distinct
     told
 
 -- the truths of a filter that was evaluated
-pub truths_of : (a : Seen) (slots : Slots) (f : Tree) (block : ℕ) (c : ColumnRef) → GivesTold slots f block (λ rows. rows) a (Ok c) → WhereTold a.held (AreTruths (row_type a.zones.columns) slots f block c.rows)
+pub truths_of : (a : StoreSeen) (slots : Slots) (f : Tree) (block : ℕ) (c : ColumnRef) → GivesTold slots f block (λ rows. rows) a (Ok c) → WhereTold a.held (AreTruths (row_type a.zones.columns) slots f block c.rows)
 truths_of a slots f block c h =
     told_is a.held (λ table. (rows : List Val) × (slice_get table.blocks block ≡ Some rows) × GivesAsked (row_type a.zones.columns) slots f rows (Ok c)) (AreTruths (row_type a.zones.columns) slots f block c.rows)
     (λ table same k. (k.0, k.1, k.2.0)) h
@@ -51,7 +51,7 @@ both_told : (held : Option Table) (P Q : Table → Type 0) → WhereTold held P 
 both_told None P Q h k = tt
 both_told (Some table) P Q h k = (h, k)
 
-pub gives_matching : (a : Seen) (slots : Slots) (f e : Tree) (expr : PreparedExpr) (block : ℕ) (cs : List Column) (keep : List Val) (result : Result ColumnRef ScanError) → slice_get a.zones.lengths block ≡ Some (length keep) → BlockTold a block (length keep)
+pub gives_matching : (a : StoreSeen) (slots : Slots) (f e : Tree) (expr : PreparedExpr) (block : ℕ) (cs : List Column) (keep : List Val) (result : Result ColumnRef ScanError) → slice_get a.zones.lengths block ≡ Some (length keep) → BlockTold a block (length keep)
     → AreColumnsOf a block expr.columns cs → IsPrepared a.zones.columns slots e expr → no_name_twice (row_type a.zones.columns) ≡ true → WhereTold a.held (AreTruths (row_type a.zones.columns) slots f block keep)
     → GivesWhereHeld slots expr (length (kept_rows keep keep)) (map (kept_column keep) cs) result → GivesTold slots e block (matching_rows (row_type a.zones.columns) slots f) a result
 gives_matching a slots f e expr block cs keep result at told columns prepared distinct truths gives =
@@ -67,14 +67,14 @@ gives_matching a slots f e expr block cs keep result at told columns prepared di
     (both_told a.held (IsBlock a.zones block (length keep)) (AreTruths t slots f block keep) told truths)
 
 -- the rows that a projection gives stand behind those before
-pub rows_added : (a : Seen) (slots : Slots) (f p : Tree) (block : ℕ) (was now : List Val) (c : ColumnRef) → GivesTold slots p block (matching_rows (row_type a.zones.columns) slots f) a (Ok c)
+pub rows_added : (a : StoreSeen) (slots : Slots) (f p : Tree) (block : ℕ) (was now : List Val) (c : ColumnRef) → GivesTold slots p block (matching_rows (row_type a.zones.columns) slots f) a (Ok c)
     → now ≡ was ++ c.rows → WhereTold a.held (AddsToldRows (block_rows (row_type a.zones.columns) slots f p) block was now (Ok tt))
 rows_added a slots f p block was now c h e =
     let t = row_type a.zones.columns in
     told_is a.held (λ table. (rows : List Val) × (slice_get table.blocks block ≡ Some rows) × GivesAsked t slots p (matching_rows t slots f rows) (Ok c)) (AddsToldRows (block_rows t slots f p) block was now (Ok tt))
     (λ table same k. (k.0, k.1, e ∙ ap (λ (rs : List Val). was ++ rs) k.2.0)) h
 
-pub nothing_added : (a : Seen) (given : List Val → List Val) (block : ℕ) (was now : List Val) (e : ScanError) → WhereTold a.held (AddsToldRows given block was now (Err e))
+pub nothing_added : (a : StoreSeen) (given : List Val → List Val) (block : ℕ) (was now : List Val) (e : ScanError) → WhereTold a.held (AddsToldRows given block was now (Err e))
 nothing_added a given block was now e = anywhere a.held
   where
     anywhere : (held : Option Table) → WhereTold held (AddsToldRows given block was now (Err e))
@@ -82,7 +82,7 @@ nothing_added a given block was now e = anywhere a.held
     anywhere (Some table) = tt
 
 -- a filtered block is one in each state of the store
-pub filtered_moved : (a b : Seen) (slots : Slots) (f : Tree) (names : List Bytes) (block : ℕ) (filtered : FilteredBlock) → IsSameStore a b → IsFiltered slots f names block a filtered → IsFiltered slots f names block b filtered
+pub filtered_moved : (a b : StoreSeen) (slots : Slots) (f : Tree) (names : List Bytes) (block : ℕ) (filtered : FilteredBlock) → IsSameStore a b → IsFiltered slots f names block a filtered → IsFiltered slots f names block b filtered
 filtered_moved a b slots f names block filtered s h = record {
   columns = columns_moved a b block names filtered.columns.items s.zones s.held h.columns;
   len = subst (λ (z : Zones). slice_get z.lengths block ≡ Some (length filtered.keep.rows)) (sym s.zones) h.len;
@@ -93,7 +93,7 @@ filtered_moved a b slots f names block filtered s h = record {
 }
 
 -- what a projection gives at the rows that are kept
-pub gives_kept : (a : Seen) (slots : Slots) (f p : Tree) (expr : PreparedExpr) (names : List Bytes) (block : ℕ) (filtered : FilteredBlock) (cs kept : List Column) (result : Result ColumnRef ScanError)
+pub gives_kept : (a : StoreSeen) (slots : Slots) (f p : Tree) (expr : PreparedExpr) (names : List Bytes) (block : ℕ) (filtered : FilteredBlock) (cs kept : List Column) (result : Result ColumnRef ScanError)
     → WhereTold a.held (AgreesWith a.zones) → IsFiltered slots f names block a filtered → AreColumnsOf a block expr.columns cs → IsPrepared a.zones.columns slots p expr → no_name_twice (row_type a.zones.columns) ≡ true
     → kept ≡ map (kept_column filtered.keep.rows) cs → GivesWhereHeld slots expr filtered.count kept result → GivesTold slots p block (matching_rows (row_type a.zones.columns) slots f) a result
 gives_kept a slots f p expr names block filtered cs kept result agrees k own prepared distinct e gives =

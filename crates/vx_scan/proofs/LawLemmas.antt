@@ -11,11 +11,11 @@ use Rattle.vx_semantics.specs.Scans.{Phase, phase_breaks, phase_breaks_by, first
 use Rattle.vx_laws_scan.proofs.Keeping.{kept_rows_are_all}
 use Rattle.vx_io.specs.Counts.{one_more}
 use Rattle.vx_wire.specs.declared.encodings.ExprEncoding.{ExprEncoding}
-use Rattle.vx_scan.specs.Stores.{Seen, WhereTold}
+use Rattle.vx_scan.specs.Stores.{StoreSeen, WhereTold}
 use Rattle.vx_scan.proofs.TextLemmas.{texts_so, both_are_taken, one_text_refusal}
 use Rattle.vx_scan.specs.Texts.{AreRefused}
 use Rattle.vx_scan.specs.Reports.{report_view}
-use Rattle.vx_scan.specs.Scanning.{scan_type, IsBroken, IsScanOf, IsUnspelled}
+use Rattle.vx_scan.specs.Scanning.{scan_type, IsScanBroken, IsScanOf, IsUnspelled}
 use Rattle.vx_scan.specs.ScanLaws.{HonestScansAreWhole, HonestTextScansAreWhole, IsQuietScan, FaultlessStoresCountNoFault}
 use Rattle.vx_scan.specs.ScanLaws.{ReportsUnlessNoMemory, UnbrokenScansReport, UnbrokenTextScansReport, BreaksUnlessNoMemory, ScansBreakWhereAPhaseBreaks, TextScansBreakWhereAPhaseBreaks}
 use Rattle.vx_scan.specs.ScanLaws.{RefusesBy, RefusedTypesAreRefused, RefusedTextsAreRefused}
@@ -58,17 +58,17 @@ breaks_somewhere c t slots (phase ∷ phases) h = by-test (phase_breaks t slots 
     by-test true k r = refl
     by-test false k r = r k
 
-first_so : (c : Cause) (slots : Slots) (f p : Tree) (table : Table) (before after : Seen) → before.held ≡ Some table → IsBroken c slots f p before after
+first_so : (c : Cause) (slots : Slots) (f p : Tree) (table : Table) (before after : StoreSeen) → before.held ≡ Some table → IsScanBroken c slots f p before after
     → first_breaks_by c (row_type table.columns) slots (phases_of table before.zones slots f p) ≡ true
 first_so c slots f p table before after e h =
     told_here before.held table (λ table. first_breaks_by c (row_type table.columns) slots (phases_of table before.zones slots f p) ≡ true) e h.first_breaks
 
-broken_so : (c : Cause) (slots : Slots) (f p : Tree) (table : Table) (before after : Seen) → before.held ≡ Some table → IsBroken c slots f p before after
+broken_so : (c : Cause) (slots : Slots) (f p : Tree) (table : Table) (before after : StoreSeen) → before.held ≡ Some table → IsScanBroken c slots f p before after
     → some_phase_breaks table before.zones slots f p ≡ true
 broken_so c slots f p table before after e h =
     breaks_somewhere c (row_type table.columns) slots (phases_of table before.zones slots f p) (first_so c slots f p table before after e h)
 
-report_so : (slots : Slots) (f p : Tree) (table : Table) (before after : Seen) (report : ScanReport) → before.held ≡ Some table
+report_so : (slots : Slots) (f p : Tree) (table : Table) (before after : StoreSeen) (report : ScanReport) → before.held ≡ Some table
     → IsScanOf slots f p before after (Ok report) → some_phase_breaks table before.zones slots f p ≡ false
 report_so slots f p table before after report e h =
     told_here before.held table (λ table. some_phase_breaks table before.zones slots f p ≡ false) e h.unbroken
@@ -82,7 +82,7 @@ one_refusal : (answer : Result Ty ScanError) (d e : ScanError) → answer ≡ Er
 one_refusal (Ok v) d e h k = absurd cc
 one_refusal (Err c) d e h k = cc
 
-refused_so : (slots : Slots) (f p : Tree) (before after : Seen) (e : ScanError) → is_refusal e ≡ true → IsScanOf slots f p before after (Err e)
+refused_so : (slots : Slots) (f p : Tree) (before after : StoreSeen) (e : ScanError) → is_refusal e ≡ true → IsScanOf slots f p before after (Err e)
     → scan_type (row_type before.zones.columns) slots f p ≡ Err e
 refused_so slots f p before after errors.NoMemory r h = absurd cc
 refused_so slots f p before after errors.Overflow r h = absurd cc
@@ -102,8 +102,8 @@ refused_so slots f p before after (errors.TypeMismatch z) r h = h.1
 refused_so slots f p before after errors.FilterNotBool r h = h.1
 
 -- a break is one by a sum or by a cast
-by_break : (slots : Slots) (f p : Tree) (before after : Seen) (e : ScanError) (Gives : Type 0) → is_break e ≡ true
-    → ((c : Cause) → IsBroken c slots f p before after → Gives) → IsScanOf slots f p before after (Err e) → Gives
+by_break : (slots : Slots) (f p : Tree) (before after : StoreSeen) (e : ScanError) (Gives : Type 0) → is_break e ≡ true
+    → ((c : Cause) → IsScanBroken c slots f p before after → Gives) → IsScanOf slots f p before after (Err e) → Gives
 by_break slots f p before after errors.Overflow Gives b give h = give by_sum h
 by_break slots f p before after errors.BadCast Gives b give h = give by_cast h
 by_break slots f p before after errors.NoMemory Gives b give h = absurd cc
@@ -122,7 +122,7 @@ by_break slots f p before after (errors.TypeMismatch z) Gives b give h = absurd 
 by_break slots f p before after errors.FilterNotBool Gives b give h = absurd cc
 
 -- a scan of typed expressions over a told table in which no fault was counted: a report, a break, or no memory
-by_quiet : (slots : Slots) (f p : Tree) (table : Table) (before after : Seen) (Gives : Result ScanReport ScanError → Type 0) → IsQuietScan slots f p table before after
+by_quiet : (slots : Slots) (f p : Tree) (table : Table) (before after : StoreSeen) (Gives : Result ScanReport ScanError → Type 0) → IsQuietScan slots f p table before after
     → ((report : ScanReport) → IsScanOf slots f p before after (Ok report) → Gives (Ok report))
     → (IsScanOf slots f p before after (Err errors.Overflow) → Gives (Err errors.Overflow))
     → (IsScanOf slots f p before after (Err errors.BadCast) → Gives (Err errors.BadCast))
@@ -194,7 +194,7 @@ either : {P : Type 0} → ⊥ ⊎ (P × ⊥) → ⊥
 either (inl h) = h
 either (inr h) = h.1
 
-unspelled_breaks : (holds : ExprEncoding → Bool) (ft pt : Bytes) (before after : Seen) (e : ScanError) → is_break e ≡ true → ¬ (IsUnspelled holds ft pt before after (Err e))
+unspelled_breaks : (holds : ExprEncoding → Bool) (ft pt : Bytes) (before after : StoreSeen) (e : ScanError) → is_break e ≡ true → ¬ (IsUnspelled holds ft pt before after (Err e))
 unspelled_breaks holds ft pt before after errors.Overflow b h = either h.1
 unspelled_breaks holds ft pt before after errors.BadCast b h = either h.1
 unspelled_breaks holds ft pt before after errors.NoMemory b h = absurd cc
@@ -223,7 +223,7 @@ text_refusals_so holds ft pt before after other d e r b h (inr k) =
     refusals_so [] k.0 k.1 before after other d e r b (texts_so holds ft pt k.0 k.1 before after (Err d) k.2 h) k.3
 
 -- what is refused is refused whenever it is scanned, but for want of memory
-refused_by : (slots : Slots) (f p : Tree) (before after : Seen) (e : ScanError) (result : Result ScanReport ScanError)
+refused_by : (slots : Slots) (f p : Tree) (before after : StoreSeen) (e : ScanError) (result : Result ScanReport ScanError)
     → scan_type (row_type before.zones.columns) slots f p ≡ Err e → IsScanOf slots f p before after result → RefusesBy e result
 refused_by slots f p before after e (Ok report) r h = never_refused (scan_type (row_type before.zones.columns) slots f p) (report_view report).ty e h.typed r
 refused_by slots f p before after e (Err errors.Overflow) r h = absurd (never_refused (scan_type (row_type before.zones.columns) slots f p) h.ty e h.typed r)
@@ -246,7 +246,7 @@ refused_by slots f p before after e (Err (errors.TypeMismatch z)) r h = inl (one
 pub refused_types_so : RefusedTypesAreRefused
 refused_types_so = refused_by
 
-unspelled_by : (holds : ExprEncoding → Bool) (ft pt : Bytes) (before after : Seen) (e : ScanError) (result : Result ScanReport ScanError)
+unspelled_by : (holds : ExprEncoding → Bool) (ft pt : Bytes) (before after : StoreSeen) (e : ScanError) (result : Result ScanReport ScanError)
     → AreRefused holds ft pt e → IsUnspelled holds ft pt before after result → RefusesBy e result
 unspelled_by holds ft pt before after e (Ok report) r h = h
 unspelled_by holds ft pt before after e (Err errors.NoMemory) r h = inr refl

@@ -9,7 +9,7 @@ use Rattle.vx_expr.specs.Trees.{Tree}
 use Rattle.vx_semantics.specs.Meaning.{Slots}
 use Rattle.vx_semantics.specs.Scans.{Phase}
 use Rattle.vx_semantics.specs.Tables.{row_type}
-use Rattle.vx_scan.specs.Stores.{Read, Seen, WhereTold}
+use Rattle.vx_scan.specs.Stores.{Read, StoreSeen, WhereTold}
 use Rattle.vx_scan.specs.Steps.{ending, MakesReads, GivesAsked, BreaksAsAsked, RunsTold, RunsPart}
 use Rattle.vx_scan.specs.declared.errors.ScanError.{ScanError}
 use Rattle.vx_scan.specs.declared.errors.ScanError.TheVariants as errors
@@ -23,15 +23,15 @@ abbrev phase_of : Tree → List Read → List Val → Phase
 phase_of e reads rows = record { expression = e; reads = reads; rows = rows }
 
 -- the rows of the block, where the table is told
-abbrev pub BlockTold : Seen → ℕ → ℕ → Type 0
+abbrev pub BlockTold : StoreSeen → ℕ → ℕ → Type 0
 BlockTold seen block len = WhereTold seen.held (IsBlock seen.zones block len)
 
 -- a read failed, or there was no memory among the reads
-abbrev UnreadPart : Slots → Tree → List Read → ℕ → (List Val → List Val) → Seen → Seen → Result (Unit {0}) ScanError → Type 0
+abbrev UnreadPart : Slots → Tree → List Read → ℕ → (List Val → List Val) → StoreSeen → StoreSeen → Result (Unit {0}) ScanError → Type 0
 UnreadPart slots e reads block of_rows a b (Ok u) = Unit {0}
 UnreadPart slots e reads block of_rows a b (Err err) = RunsPart slots e reads block of_rows a b (Err err)
 
-pub part_unread : (slots : Slots) (e : Tree) (reads : List Read) (block len : ℕ) (of_rows : List Val → List Val) (a b : Seen) (err : ScanError)
+pub part_unread : (slots : Slots) (e : Tree) (reads : List Read) (block len : ℕ) (of_rows : List Val → List Val) (a b : StoreSeen) (err : ScanError)
     → BlockTold a block len → MakesReads reads a b (Err err) → RunsPart slots e reads block of_rows a b (Err err)
 part_unread slots e reads block len of_rows a b err told =
     by_reads reads a b (UnreadPart slots e reads block of_rows a b)
@@ -60,18 +60,18 @@ part_unread slots e reads block len of_rows a b err told =
     t = row_type a.zones.columns
 
 -- all was read, and then there was no memory
-pub part_cut : (slots : Slots) (e : Tree) (reads : List Read) (block len : ℕ) (of_rows : List Val → List Val) (a b : Seen)
+pub part_cut : (slots : Slots) (e : Tree) (reads : List Read) (block len : ℕ) (of_rows : List Val → List Val) (a b : StoreSeen)
     → BlockTold a block len → MakesReads reads a b (Ok tt) → RunsPart slots e reads block of_rows a b (Err errors.NoMemory)
 part_cut slots e reads block len of_rows a b told h =
     part_unread slots e reads block len of_rows a b errors.NoMemory told (reads, [], h.1, h.0, sym (append-nil reads))
 
 -- what was evaluated over the rows of the block that are the phase's, where the table is told
-abbrev pub GivesTold : Slots → Tree → ℕ → (List Val → List Val) → Seen → Result ColumnRef ScanError → Type 0
+abbrev pub GivesTold : Slots → Tree → ℕ → (List Val → List Val) → StoreSeen → Result ColumnRef ScanError → Type 0
 GivesTold slots e block of_rows a result =
     WhereTold a.held (λ table. (rows : List Val) × (slice_get table.blocks block ≡ Some rows) × GivesAsked (row_type a.zones.columns) slots e (of_rows rows) result)
 
 -- all was read, and the expression was evaluated
-pub part_ran : (slots : Slots) (e : Tree) (reads : List Read) (block len : ℕ) (of_rows : List Val → List Val) (a b : Seen) (result : Result ColumnRef ScanError)
+pub part_ran : (slots : Slots) (e : Tree) (reads : List Read) (block len : ℕ) (of_rows : List Val → List Val) (a b : StoreSeen) (result : Result ColumnRef ScanError)
     → BlockTold a block len → MakesReads reads a b (Ok tt) → BreaksAsAsked (row_type a.zones.columns) e result → GivesTold slots e block of_rows a result
     → RunsPart slots e reads block of_rows a b (ending result)
 part_ran slots e reads block len of_rows a b (Ok c) there h asks gives = record {

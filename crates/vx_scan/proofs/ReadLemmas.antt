@@ -9,14 +9,14 @@ use Rattle.vx_dtype.specs.Types.{Bytes}
 use Rattle.vx_dtype.specs.TypeRules.{has_name}
 use Rattle.vx_semantics.specs.Scans.{reads_in}
 use Rattle.vx_io.specs.Counts.{one_more}
-use Rattle.vx_scan.specs.Stores.{Read, Seen, IsSameStore}
+use Rattle.vx_scan.specs.Stores.{Read, StoreSeen, IsSameStore}
 use Rattle.vx_scan.specs.Steps.{MakesReads, further_names}
 use Rattle.vx_scan.specs.declared.errors.ScanError.{ScanError}
 use Rattle.vx_scan.specs.declared.errors.ScanError.TheVariants as errors
 use Rattle.vx_scan.proofs.RunLemmas.{logged}
 
 -- reads end in one of three ways
-pub by_reads : (reads : List Read) (before after : Seen) (Gives : Result (Unit {0}) ScanError → Type 0)
+pub by_reads : (reads : List Read) (before after : StoreSeen) (Gives : Result (Unit {0}) ScanError → Type 0)
     → ((u : Unit {0}) → MakesReads reads before after (Ok u) → Gives (Ok u))
     → (MakesReads reads before after (Err errors.StoreFault) → Gives (Err errors.StoreFault))
     → (MakesReads reads before after (Err errors.NoMemory) → Gives (Err errors.NoMemory))
@@ -43,11 +43,11 @@ pub one_more_later : (a b c : ℕ) → a ≤ b → one_more b ≤ c → one_more
 one_more_later a b c h k = grind (arith, h, k)
 
 -- no reads were made yet
-pub reads_nothing : (seen : Seen) → MakesReads [] seen seen (Ok tt)
+pub reads_nothing : (seen : StoreSeen) → MakesReads [] seen seen (Ok tt)
 reads_nothing seen = (sym (append-nil seen.log), refl)
 
 -- all of some reads, and then others
-pub reads_on : (xs ys : List Read) (a b c : Seen) (result : Result (Unit {0}) ScanError) → IsSameStore a b
+pub reads_on : (xs ys : List Read) (a b c : StoreSeen) (result : Result (Unit {0}) ScanError) → IsSameStore a b
     → MakesReads xs a b (Ok tt) → MakesReads ys b c result → MakesReads (xs ++ ys) a c result
 reads_on xs ys a b c result same h =
     by_reads ys b c (MakesReads (xs ++ ys) a c)
@@ -71,11 +71,11 @@ reads_on xs ys a b c result same h =
     result
 
 -- reads that ended before their end, with more behind
-abbrev StaysUnmade : List Read → Seen → Seen → Result (Unit {0}) ScanError → Type 0
+abbrev StaysUnmade : List Read → StoreSeen → StoreSeen → Result (Unit {0}) ScanError → Type 0
 StaysUnmade reads before after (Ok u) = Unit {0}
 StaysUnmade reads before after (Err e) = MakesReads reads before after (Err e)
 
-pub reads_more : (xs ys : List Read) (a b : Seen) (e : ScanError) → MakesReads xs a b (Err e) → MakesReads (xs ++ ys) a b (Err e)
+pub reads_more : (xs ys : List Read) (a b : StoreSeen) (e : ScanError) → MakesReads xs a b (Err e) → MakesReads (xs ++ ys) a b (Err e)
 reads_more xs ys a b e =
     by_reads xs a b (StaysUnmade (xs ++ ys) a b)
     (λ u k. tt)
@@ -84,14 +84,14 @@ reads_more xs ys a b e =
     (Err e)
 
 -- no memory after some reads, of more
-pub reads_cut : (xs ys : List Read) (a b : Seen) → MakesReads xs a b (Ok tt) → MakesReads (xs ++ ys) a b (Err errors.NoMemory)
+pub reads_cut : (xs ys : List Read) (a b : StoreSeen) → MakesReads xs a b (Ok tt) → MakesReads (xs ++ ys) a b (Err errors.NoMemory)
 reads_cut xs ys a b h = (xs, ys, h.1, h.0, refl)
 
-pub reads_cut_all : (xs : List Read) (a b : Seen) → MakesReads xs a b (Ok tt) → MakesReads xs a b (Err errors.NoMemory)
+pub reads_cut_all : (xs : List Read) (a b : StoreSeen) → MakesReads xs a b (Ok tt) → MakesReads xs a b (Err errors.NoMemory)
 reads_cut_all xs a b h = (xs, [], h.1, h.0, sym (append-nil xs))
 
 -- no memory before the first one
-pub reads_uncut : (xs : List Read) (a : Seen) → MakesReads xs a a (Err errors.NoMemory)
+pub reads_uncut : (xs : List Read) (a : StoreSeen) → MakesReads xs a a (Err errors.NoMemory)
 reads_uncut xs a = ([], xs, refl, sym (append-nil a.log), refl)
 
 -- the further ones of some names, and of others
@@ -144,14 +144,14 @@ picked_are_there p (n ∷ names) = by-test (p n) (wider n names (filter p names)
     by-test false h = h
 
 -- the loop over names: it goes on, it stops at a read, or there is no memory for a column
-pub loop_goes : (block : ℕ) (known names : List Bytes) (i : ℕ) (name : Bytes) (a m b : Seen) → i < length names → name ≡ get_or names i name → IsSameStore a m
+pub loop_goes : (block : ℕ) (known names : List Bytes) (i : ℕ) (name : Bytes) (a m b : StoreSeen) → i < length names → name ≡ get_or names i name → IsSameStore a m
     → MakesReads (reads_in block (further_names known (take i names))) a m (Ok tt) → MakesReads (reads_in block (further_names known (name ∷ []))) m b (Ok tt)
     → MakesReads (reads_in block (further_names known (take (i + 1) names))) a b (Ok tt)
 loop_goes block known names i name a m b l e s h k =
     subst (λ (rs : List Read). MakesReads rs a b (Ok tt)) (sym (further_step block known names i name l e))
     (reads_on (reads_in block (further_names known (take i names))) (reads_in block (further_names known (name ∷ []))) a m b (Ok tt) s h k)
 
-pub loop_stops : (block : ℕ) (known names : List Bytes) (i : ℕ) (name : Bytes) (a m b : Seen) (err : ScanError) → i < length names → name ≡ get_or names i name → IsSameStore a m
+pub loop_stops : (block : ℕ) (known names : List Bytes) (i : ℕ) (name : Bytes) (a m b : StoreSeen) (err : ScanError) → i < length names → name ≡ get_or names i name → IsSameStore a m
     → MakesReads (reads_in block (further_names known (take i names))) a m (Ok tt) → MakesReads (reads_in block (further_names known (name ∷ []))) m b (Err err)
     → MakesReads (reads_in block (further_names known names)) a b (Err err)
 loop_stops block known names i name a m b err l e s h k =
@@ -161,7 +161,7 @@ loop_stops block known names i name a m b err l e s h k =
     (subst (λ (rs : List Read). MakesReads (rs ++ reads_in block (further_names known (drop (i + 1) names))) a b (Err err)) (sym (further_step block known names i name l e))
     (reads_more (xs ++ ys) (reads_in block (further_names known (drop (i + 1) names))) a b err (reads_on xs ys a m b (Err err) s h k)))
 
-pub loop_cut : (block : ℕ) (known names : List Bytes) (i : ℕ) (name : Bytes) (a m b : Seen) → i < length names → name ≡ get_or names i name → IsSameStore a m
+pub loop_cut : (block : ℕ) (known names : List Bytes) (i : ℕ) (name : Bytes) (a m b : StoreSeen) → i < length names → name ≡ get_or names i name → IsSameStore a m
     → MakesReads (reads_in block (further_names known (take i names))) a m (Ok tt) → MakesReads (reads_in block (further_names known (name ∷ []))) m b (Ok tt)
     → MakesReads (reads_in block (further_names known names)) a b (Err errors.NoMemory)
 loop_cut block known names i name a m b l e s h k =
@@ -170,7 +170,7 @@ loop_cut block known names i name a m b l e s h k =
     (loop_goes block known names i name a m b l e s h k))
 
 -- a read of the store that failed
-pub read_fails : (a b : Seen) (block : ℕ) (name : Bytes) → (one_more a.faults ≤ b.faults) × (b.log ≡ a.log) × (b.failed ≡ Some (block, name)) → MakesReads ((block, name) ∷ []) a b (Err errors.StoreFault)
+pub read_fails : (a b : StoreSeen) (block : ℕ) (name : Bytes) → (one_more a.faults ≤ b.faults) × (b.log ≡ a.log) × (b.failed ≡ Some (block, name)) → MakesReads ((block, name) ∷ []) a b (Err errors.StoreFault)
 read_fails a b block name h = ((block, name), [], [], h.2, h.0, h.1 ∙ sym (append-nil a.log), refl)
 
 -- the error that comes out is the one that went in

@@ -12,8 +12,8 @@ use Rattle.vx_semantics.specs.Pruning.{rules_out}
 use Rattle.vx_semantics.specs.Tables.{Table, Zones, row_type}
 use Rattle.vx_semantics.specs.Scans.{Phase, block_phases, block_rows, phase_breaks, first_breaks_by, phase_reads, phases_to_break, phases_of, reads_of, reads_to_break, some_phase_breaks, kept_rows_of}
 use Rattle.vx_io.specs.Counts.{one_more}
-use Rattle.vx_scan.specs.Stores.{Read, Seen, WhereTold, AgreesWith, IsSameStore}
-use Rattle.vx_scan.specs.Scanning.{scan_type, asked_reads, AreAmong, IsReport, IsBroken, IsStoreFault, IsCutOff, IsScanOf, asks_breaking}
+use Rattle.vx_scan.specs.Stores.{Read, StoreSeen, WhereTold, AgreesWith, IsSameStore}
+use Rattle.vx_scan.specs.Scanning.{scan_type, asked_reads, AreAmong, IsReport, IsScanBroken, IsStoreFault, IsCutOff, IsScanOf, asks_breaking}
 use Rattle.vx_scan.specs.Reports.{Report}
 use Rattle.vx_scan.specs.Runs.{Runs, phases_before, rows_before, block_asked, asked_before, GrowsAmong, IsScannedTo}
 use Rattle.vx_scan.specs.Runs.{FailedAmong, BrokeBy, RunsBlock, RunsBlockOf}
@@ -39,10 +39,10 @@ told_both None P Q R h a b = tt
 told_both (Some table) P Q R h a b = h table a b
 
 -- a store is the same as itself, and after two calls that leave it the same
-pub same_store : (seen : Seen) → IsSameStore seen seen
+pub same_store : (seen : StoreSeen) → IsSameStore seen seen
 same_store seen = record { zones = refl; held = refl; faultless = refl; later = omega arith; quiet = λ none. refl }
 
-pub same_after : (a b c : Seen) → IsSameStore a b → IsSameStore b c → IsSameStore a c
+pub same_after : (a b c : StoreSeen) → IsSameStore a b → IsSameStore b c → IsSameStore a c
 same_after a b c s t = record {
   zones = t.zones ∙ s.zones;
   held = t.held ∙ s.held;
@@ -52,7 +52,7 @@ same_after a b c s t = record {
 }
 
 -- its table agrees with its zones before where it does after
-pub agrees_before : (before after : Seen) → IsSameStore before after → WhereTold after.held (AgreesWith after.zones) → WhereTold before.held (AgreesWith before.zones)
+pub agrees_before : (before after : StoreSeen) → IsSameStore before after → WhereTold after.held (AgreesWith after.zones) → WhereTold before.held (AgreesWith before.zones)
 agrees_before before after s h =
     subst (λ (zones : Zones). WhereTold before.held (AgreesWith zones)) s.zones
     (subst (λ (held : Option Table). WhereTold held (AgreesWith after.zones)) s.held h)
@@ -61,7 +61,7 @@ one_more_later : (a b c : ℕ) → a ≤ b → one_more b ≤ c → one_more a �
 one_more_later a b c h k = grind (arith, h, k)
 
 -- before the first block
-pub scan_start : (slots : Slots) (f p : Tree) (seen : Seen) → IsScannedTo slots f p 0 seen seen [] [] []
+pub scan_start : (slots : Slots) (f p : Tree) (seen : StoreSeen) → IsScannedTo slots f p 0 seen seen [] [] []
 scan_start slots f p seen = record {
   same = same_store seen;
   unfailed = refl;
@@ -75,7 +75,7 @@ scan_start slots f p seen = record {
 }
 
 -- behind a block that is ruled out
-pub scan_skips : (slots : Slots) (f p : Tree) (i : ℕ) (before after : Seen) (rows : List Val) (keeps skips more : List ℕ)
+pub scan_skips : (slots : Slots) (f p : Tree) (i : ℕ) (before after : StoreSeen) (rows : List Val) (keeps skips more : List ℕ)
     → WhereTold before.held (AgreesWith before.zones) → i < length before.zones.lengths → rules_out before.zones slots i f ≡ true → more ≡ skips ++ (i ∷ [])
     → IsScannedTo slots f p i before after rows keeps skips → IsScannedTo slots f p (i + 1) before after rows keeps more
 scan_skips slots f p i before after rows keeps skips more a l e m s =
@@ -99,13 +99,13 @@ scan_skips slots f p i before after rows keeps skips more a l e m s =
     }
 
 -- what is known of the run of a kept block where the table is told
-told_block : (slots : Slots) (f p : Tree) (i : ℕ) (before middle after : Seen) (was now : List Val) (result : Result (Unit {0}) ScanError) → IsSameStore before middle
+told_block : (slots : Slots) (f p : Tree) (i : ℕ) (before middle after : StoreSeen) (was now : List Val) (result : Result (Unit {0}) ScanError) → IsSameStore before middle
     → RunsBlock slots f p i middle after was now result → WhereTold before.held (λ table. RunsBlockOf slots f p i table middle after was now result)
 told_block slots f p i before middle after was now result s r =
     subst (λ (held : Option Table). WhereTold held (λ table. RunsBlockOf slots f p i table middle after was now result)) s.held r.told
 
 -- the reads before a kept block and then its own are among those that are asked up to its end
-asked_with : (slots : Slots) (f p : Tree) (i : ℕ) (before middle : Seen) (front made : List Read) → IsSameStore before middle
+asked_with : (slots : Slots) (f p : Tree) (i : ℕ) (before middle : StoreSeen) (front made : List Read) → IsSameStore before middle
     → i < length before.zones.lengths → rules_out before.zones slots i f ≡ false
     → AreAmong front (asked_before before.zones slots f p i) → AreAmong made (block_asked middle.zones f p i)
     → AreAmong (front ++ made) (asked_before before.zones slots f p (i + 1))
@@ -116,7 +116,7 @@ asked_with slots f p i before middle front made s l e h k =
     (among_append front made (asked_before zones slots f p i) (block_asked zones f p i) h own)
 
 -- behind a kept block that came to its end
-pub scan_keeps : (slots : Slots) (f p : Tree) (i : ℕ) (before middle after : Seen) (was now : List Val) (keeps skips more : List ℕ)
+pub scan_keeps : (slots : Slots) (f p : Tree) (i : ℕ) (before middle after : StoreSeen) (was now : List Val) (keeps skips more : List ℕ)
     → i < length before.zones.lengths → rules_out before.zones slots i f ≡ false → more ≡ keeps ++ (i ∷ [])
     → IsScannedTo slots f p i before middle was keeps skips → RunsBlock slots f p i middle after was now (Ok tt)
     → IsScannedTo slots f p (i + 1) before after now more skips
@@ -154,7 +154,7 @@ scan_keeps slots f p i before middle after was now keeps skips more l e m s r =
     }
 
 -- behind the last block
-pub scan_report : (slots : Slots) (f p : Tree) (before after : Seen) (rows : List Val) (keeps skips : List ℕ) (report : Report)
+pub scan_report : (slots : Slots) (f p : Tree) (before after : StoreSeen) (rows : List Val) (keeps skips : List ℕ) (report : Report)
     → WhereTold before.held (AgreesWith before.zones) → IsScannedTo slots f p (length before.zones.lengths) before after rows keeps skips
     → scan_type (row_type before.zones.columns) slots f p ≡ Ok report.ty → report.rows ≡ rows → report.kept ≡ keeps → report.skipped ≡ skips
     → report.filter_columns ≡ asked_columns (row_type before.zones.columns) f → report.projection_columns ≡ asked_columns (row_type before.zones.columns) p
@@ -210,7 +210,7 @@ run_whole table zones slots f p i rows before middle after was failed e there ou
     (run_more t slots (front ++ own) split.0 before after failed e (run_on t slots front own before middle after was failed (Err e) h k))
 
 -- a scan that has come to a kept block whose run ended before its end
-record Stops (slots : Slots) (f p : Tree) (i : ℕ) (before middle after : Seen) (made : List Read) (e : ScanError) : Type 0 where
+record Stops (slots : Slots) (f p : Tree) (i : ℕ) (before middle after : StoreSeen) (made : List Read) (e : ScanError) : Type 0 where
   there : i < length before.zones.lengths
   kept : rules_out before.zones slots i f ≡ false
   same : IsSameStore before middle
@@ -221,7 +221,7 @@ record Stops (slots : Slots) (f p : Tree) (i : ℕ) (before middle after : Seen)
   among : AreAmong front (asked_before before.zones slots f p i)
   ran : WhereTold before.held (λ table. Runs (row_type table.columns) slots (phases_of table before.zones slots f p) before.log after.log after.failed (Err e))
 
-stops : (slots : Slots) (f p : Tree) (i : ℕ) (before middle after : Seen) (was now : List Val) (keeps skips : List ℕ) (e : ScanError)
+stops : (slots : Slots) (f p : Tree) (i : ℕ) (before middle after : StoreSeen) (was now : List Val) (keeps skips : List ℕ) (e : ScanError)
     → i < length before.zones.lengths → rules_out before.zones slots i f ≡ false
     → IsScannedTo slots f p i before middle was keeps skips → (r : RunsBlock slots f p i middle after was now (Err e)) → Stops slots f p i before middle after r.made e
 stops slots f p i before middle after was now keeps skips e l out s r =
@@ -244,7 +244,7 @@ stops slots f p i before middle after was now keeps skips e l out s r =
     }
 
 -- its reads are asked ones
-asked_all : (slots : Slots) (f p : Tree) (i : ℕ) (before middle : Seen) (front made : List Read) → IsSameStore before middle
+asked_all : (slots : Slots) (f p : Tree) (i : ℕ) (before middle : StoreSeen) (front made : List Read) → IsSameStore before middle
     → i < length before.zones.lengths → rules_out before.zones slots i f ≡ false
     → AreAmong front (asked_before before.zones slots f p i) → AreAmong made (block_asked middle.zones f p i)
     → AreAmong (front ++ made) (asked_reads before.zones slots f p)
@@ -254,12 +254,12 @@ asked_all slots f p i before middle front made s l e h k =
     (among_more (front ++ made) (asked_before before.zones slots f p (i + 1)) split.0 (asked_with slots f p i before middle front made s l e h k))
 
 -- by a cause
-scan_broke : (c : Cause) (slots : Slots) (f p : Tree) (i : ℕ) (before middle after : Seen) (made : List Read) (ty : Ty) (e : ScanError)
+scan_broke : (c : Cause) (slots : Slots) (f p : Tree) (i : ℕ) (before middle after : StoreSeen) (made : List Read) (ty : Ty) (e : ScanError)
     → scan_type (row_type before.zones.columns) slots f p ≡ Ok ty → Stops slots f p i before middle after made e
     → AreAmong made (block_asked middle.zones f p i) → BrokeBy c f p middle after
     → ((table : Table) → Runs (row_type table.columns) slots (phases_of table before.zones slots f p) before.log after.log after.failed (Err e)
     → (after.log ≡ before.log ++ reads_to_break table before.zones slots f p) × (first_breaks_by c (row_type table.columns) slots (phases_of table before.zones slots f p) ≡ true))
-    → IsBroken c slots f p before after
+    → IsScanBroken c slots f p before after
 scan_broke c slots f p i before middle after made ty e typed s asked b broke =
     let zones = before.zones in
     let all = s.front ++ made in
@@ -288,7 +288,7 @@ failed_read all made None h = absurd h
 failed_read all made (Some read) h = (read, refl, h)
 
 -- at a read that failed
-scan_failed : (slots : Slots) (f p : Tree) (i : ℕ) (before middle after : Seen) (made : List Read) (ty : Ty)
+scan_failed : (slots : Slots) (f p : Tree) (i : ℕ) (before middle after : StoreSeen) (made : List Read) (ty : Ty)
     → scan_type (row_type before.zones.columns) slots f p ≡ Ok ty → Stops slots f p i before middle after made errors.StoreFault
     → AreAmong made (block_asked middle.zones f p i) → one_more middle.faults ≤ after.faults → FailedAmong (block_asked middle.zones f p i) made after.failed
     → IsStoreFault slots f p before after
@@ -322,7 +322,7 @@ scan_failed slots f p i before middle after made ty typed s asked risen failed =
     }
 
 -- without memory
-scan_cut : (slots : Slots) (f p : Tree) (i : ℕ) (before middle after : Seen) (made : List Read) (ty : Ty)
+scan_cut : (slots : Slots) (f p : Tree) (i : ℕ) (before middle after : StoreSeen) (made : List Read) (ty : Ty)
     → scan_type (row_type before.zones.columns) slots f p ≡ Ok ty → Stops slots f p i before middle after made errors.NoMemory
     → AreAmong made (block_asked middle.zones f p i) → after.failed ≡ middle.failed → IsCutOff slots f p before after
 scan_cut slots f p i before middle after made ty typed s asked unfailed =
@@ -348,7 +348,7 @@ scan_cut slots f p i before middle after made ty typed s asked unfailed =
     }
 
 -- a scan ends as the run of a kept block that ended before its end
-pub scan_stops : (slots : Slots) (f p : Tree) (i : ℕ) (before middle after : Seen) (was now : List Val) (keeps skips : List ℕ) (ty : Ty) (e : ScanError)
+pub scan_stops : (slots : Slots) (f p : Tree) (i : ℕ) (before middle after : StoreSeen) (was now : List Val) (keeps skips : List ℕ) (ty : Ty) (e : ScanError)
     → scan_type (row_type before.zones.columns) slots f p ≡ Ok ty → i < length before.zones.lengths → rules_out before.zones slots i f ≡ false
     → IsScannedTo slots f p i before middle was keeps skips → RunsBlock slots f p i middle after was now (Err e) → IsScanOf slots f p before after (Err e)
 scan_stops slots f p i before middle after was now keeps skips ty errors.Overflow typed l out s r =
@@ -377,7 +377,7 @@ scan_stops slots f p i before middle after was now keeps skips ty (errors.TypeMi
 scan_stops slots f p i before middle after was now keeps skips ty errors.FilterNotBool typed l out s r = absurd r.ends
 
 -- there was no memory between two blocks
-pub scan_stops_between : (slots : Slots) (f p : Tree) (i : ℕ) (before after : Seen) (rows : List Val) (keeps skips : List ℕ) (ty : Ty)
+pub scan_stops_between : (slots : Slots) (f p : Tree) (i : ℕ) (before after : StoreSeen) (rows : List Val) (keeps skips : List ℕ) (ty : Ty)
     → scan_type (row_type before.zones.columns) slots f p ≡ Ok ty → IsScannedTo slots f p i before after rows keeps skips
     → IsCutOff slots f p before after
 scan_stops_between slots f p i before after rows keeps skips ty typed s =

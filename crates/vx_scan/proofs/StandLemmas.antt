@@ -8,7 +8,7 @@ use Rattle.vx_semantics.specs.Meaning.{Slots}
 use Rattle.vx_semantics.specs.Pruning.{rules_out}
 use Rattle.vx_semantics.specs.Tables.{Table, Zones, row_type, numbered_from}
 use Rattle.vx_wire.specs.declared.encodings.ExprEncoding.{ExprEncoding}
-use Rattle.vx_scan.specs.Stores.{Seen, WhereTold, AgreesWith}
+use Rattle.vx_scan.specs.Stores.{StoreSeen, WhereTold, AgreesWith}
 use Rattle.vx_scan.specs.Texts.{SpellsTree}
 use Rattle.vx_scan.specs.Scanning.{scan_type, IsScanOf, IsUnspelled, IsReport}
 use Rattle.vx_scan.specs.Reports.{Report}
@@ -23,13 +23,13 @@ use Rattle.vx_scan.proofs.PrepareLemmas.{scan_typed}
 use Rattle.vx_scan.proofs.ScanLemmas.{scan_skips, scan_keeps, scan_report, scan_stops, scan_stops_between}
 
 -- what is known of a store is known of it in each state
-pub prepared_moved : (a b : Seen) (slots : Slots) (f p : Tree) (scan : PreparedScan) → b.zones ≡ a.zones → IsPreparedScan a.zones slots f p scan → IsPreparedScan b.zones slots f p scan
+pub prepared_moved : (a b : StoreSeen) (slots : Slots) (f p : Tree) (scan : PreparedScan) → b.zones ≡ a.zones → IsPreparedScan a.zones slots f p scan → IsPreparedScan b.zones slots f p scan
 prepared_moved a b slots f p scan e h = subst (λ (z : Zones). IsPreparedScan z slots f p scan) (sym e) h
 
-pub agrees_moved : (a b : Seen) → b.zones ≡ a.zones → b.held ≡ a.held → WhereTold a.held (AgreesWith a.zones) → WhereTold b.held (AgreesWith b.zones)
+pub agrees_moved : (a b : StoreSeen) → b.zones ≡ a.zones → b.held ≡ a.held → WhereTold a.held (AgreesWith a.zones) → WhereTold b.held (AgreesWith b.zones)
 agrees_moved a b e k h = subst (λ (z : Zones). WhereTold b.held (AgreesWith z)) (sym e) (subst (λ (held : Option Table). WhereTold held (AgreesWith a.zones)) (sym k) h)
 
-pub within_moved : (a b : Seen) (i : ℕ) → b.zones ≡ a.zones → i < length a.zones.lengths → i < length b.zones.lengths
+pub within_moved : (a b : StoreSeen) (i : ℕ) → b.zones ≡ a.zones → i < length a.zones.lengths → i < length b.zones.lengths
 within_moved a b i e h = subst (λ (z : Zones). i < length z.lengths) (sym e) h
 
 -- whether a block is ruled out stands at its place
@@ -57,19 +57,19 @@ flag_is zones slots f p scan i flag d h l e =
     ∙ ap (λ (n : ℕ). rules_out zones slots n f) place)
 
 -- a step of a scan: a block that is ruled out, no memory, and a block that is scanned
-pub step_skips : (slots : Slots) (f p : Tree) (scan : PreparedScan) (i : ℕ) (start now : Seen) (rows : List Val) (keeps skips more : List ℕ) → IsPreparedScan now.zones slots f p scan → WhereTold now.held (AgreesWith now.zones)
+pub step_skips : (slots : Slots) (f p : Tree) (scan : PreparedScan) (i : ℕ) (start now : StoreSeen) (rows : List Val) (keeps skips more : List ℕ) → IsPreparedScan now.zones slots f p scan → WhereTold now.held (AgreesWith now.zones)
     → i < length now.zones.lengths → rules_out now.zones slots i f ≡ true → more ≡ skips ++ (i ∷ []) → IsScannedTo slots f p i start now rows keeps skips → IsScannedTo slots f p (i + 1) start now rows keeps more
 step_skips slots f p scan i start now rows keeps skips more h agrees l out m s =
     let e : start.zones ≡ now.zones = sym s.same.zones in
     scan_skips slots f p i start now rows keeps skips more (agrees_moved now start e (sym s.same.held) agrees) (within_moved now start i e l)
     (subst (λ (z : Zones). rules_out z slots i f ≡ true) (sym e) out) m s
 
-pub step_cut : (slots : Slots) (f p : Tree) (scan : PreparedScan) (i : ℕ) (start now : Seen) (rows : List Val) (keeps skips : List ℕ) → IsPreparedScan now.zones slots f p scan → IsScannedTo slots f p i start now rows keeps skips
+pub step_cut : (slots : Slots) (f p : Tree) (scan : PreparedScan) (i : ℕ) (start now : StoreSeen) (rows : List Val) (keeps skips : List ℕ) → IsPreparedScan now.zones slots f p scan → IsScannedTo slots f p i start now rows keeps skips
     → IsScanOf slots f p start now (Err errors.NoMemory)
 step_cut slots f p scan i start now rows keeps skips h s =
     inr (scan_stops_between slots f p i start now rows keeps skips (type_view scan.projection.dtype) (scan_typed start.zones slots f p scan (prepared_moved now start slots f p scan (sym s.same.zones) h)) s)
 
-pub step_scans : (slots : Slots) (f p : Tree) (scan : PreparedScan) (i : ℕ) (start middle after : Seen) (was now : List Val) (keeps skips more : List ℕ) (result : Result (Unit {0}) ScanError) → IsPreparedScan middle.zones slots f p scan
+pub step_scans : (slots : Slots) (f p : Tree) (scan : PreparedScan) (i : ℕ) (start middle after : StoreSeen) (was now : List Val) (keeps skips more : List ℕ) (result : Result (Unit {0}) ScanError) → IsPreparedScan middle.zones slots f p scan
     → i < length middle.zones.lengths → rules_out middle.zones slots i f ≡ false → more ≡ keeps ++ (i ∷ []) → RunsBlock slots f p i middle after was now result → IsScannedTo slots f p i start middle was keeps skips
     → StandsAt slots f p (i + 1) start after now more skips result
 step_scans slots f p scan i start middle after was now keeps skips more (Ok u) h l out m r s =
@@ -81,7 +81,7 @@ step_scans slots f p scan i start middle after was now keeps skips more (Err err
     (within_moved middle start i e l) (subst (λ (z : Zones). rules_out z slots i f ≡ false) (sym e) out) s r
 
 -- a scan that is not made ready
-pub unprepared : (slots : Slots) (f p : Tree) (seen : Seen) (zones : Zones) (e : ScanError) → zones ≡ seen.zones → PreparesScan zones slots f p (Err e) → IsScanOf slots f p seen seen (Err e)
+pub unprepared : (slots : Slots) (f p : Tree) (seen : StoreSeen) (zones : Zones) (e : ScanError) → zones ≡ seen.zones → PreparesScan zones slots f p (Err e) → IsScanOf slots f p seen seen (Err e)
 unprepared slots f p seen zones errors.NoMemory z h = inl refl
 unprepared slots f p seen zones errors.Overflow z h = absurd h
 unprepared slots f p seen zones errors.BadCast z h = absurd h
@@ -100,7 +100,7 @@ unprepared slots f p seen zones (errors.TypeMismatch s) z h = (refl, ap (λ (w :
 unprepared slots f p seen zones errors.FilterNotBool z h = (refl, ap (λ (w : Zones). scan_type (row_type w.columns) slots f p) (sym z) ∙ h)
 
 -- the report of a scan that is at its end
-pub report_of : (slots : Slots) (f p : Tree) (scan : PreparedScan) (before after : Seen) (rows : List Val) (keeps skips : List ℕ) (report : Report) → IsPreparedScan before.zones slots f p scan → WhereTold before.held (AgreesWith before.zones)
+pub report_of : (slots : Slots) (f p : Tree) (scan : PreparedScan) (before after : StoreSeen) (rows : List Val) (keeps skips : List ℕ) (report : Report) → IsPreparedScan before.zones slots f p scan → WhereTold before.held (AgreesWith before.zones)
     → IsScannedTo slots f p (length before.zones.lengths) before after rows keeps skips → report.ty ≡ type_view scan.projection.dtype → report.rows ≡ rows → report.kept ≡ keeps → report.skipped ≡ skips
     → report.filter_columns ≡ scan.filter.columns → report.projection_columns ≡ scan.projection.columns → IsReport slots f p before after report
 report_of slots f p scan before after rows keeps skips report h agrees s ty values kept skipped asked projected =
@@ -108,7 +108,7 @@ report_of slots f p scan before after rows keeps skips report h agrees s ty valu
     (asked ∙ h.filter.columns) (projected ∙ h.projection.columns)
 
 -- texts that are refused
-pub filter_unspelled : (holds : ExprEncoding → Bool) (ft pt : Bytes) (seen : Seen) (e : ScanError) → Decodes holds Filter ft (Err e) → IsUnspelled holds ft pt seen seen (Err e)
+pub filter_unspelled : (holds : ExprEncoding → Bool) (ft pt : Bytes) (seen : StoreSeen) (e : ScanError) → Decodes holds Filter ft (Err e) → IsUnspelled holds ft pt seen seen (Err e)
 filter_unspelled holds ft pt seen errors.NoMemory h = refl
 filter_unspelled holds ft pt seen errors.Overflow h = (refl, inl h)
 filter_unspelled holds ft pt seen errors.BadCast h = (refl, inl h)
@@ -126,7 +126,7 @@ filter_unspelled holds ft pt seen (errors.DuplicateField s) h = (refl, inl h)
 filter_unspelled holds ft pt seen (errors.TypeMismatch s) h = (refl, inl h)
 filter_unspelled holds ft pt seen errors.FilterNotBool h = (refl, inl h)
 
-pub projection_unspelled : (holds : ExprEncoding → Bool) (ft pt : Bytes) (f : Tree) (seen : Seen) (e : ScanError) → SpellsTree holds ft f → Decodes holds Projection pt (Err e) → IsUnspelled holds ft pt seen seen (Err e)
+pub projection_unspelled : (holds : ExprEncoding → Bool) (ft pt : Bytes) (f : Tree) (seen : StoreSeen) (e : ScanError) → SpellsTree holds ft f → Decodes holds Projection pt (Err e) → IsUnspelled holds ft pt seen seen (Err e)
 projection_unspelled holds ft pt f seen errors.NoMemory k h = refl
 projection_unspelled holds ft pt f seen errors.Overflow k h = (refl, inr ((f, k), h))
 projection_unspelled holds ft pt f seen errors.BadCast k h = (refl, inr ((f, k), h))

@@ -12,7 +12,7 @@ use Rattle.vx_wire.specs.declared.encodings.ExprEncoding.{ExprEncoding}
 use Rattle.vx_wire.specs.declared.errors.BuildError.{BuildError}
 use Rattle.vx_wire.specs.declared.errors.BuildError.TheVariants as builds
 use Rattle.vx_wire.proofs.LawLemmas.{one_built, never_both}
-use Rattle.vx_scan.specs.Stores.{Seen}
+use Rattle.vx_scan.specs.Stores.{StoreSeen}
 use Rattle.vx_scan.specs.Texts.{SpellsTree, SpellsUnbuilt, IsTextRefused, SpellBoth, AreRefused}
 use Rattle.vx_scan.specs.Scanning.{IsScanOf, IsUnspelled}
 use Rattle.vx_scan.specs.ScanLaws.{TextsScanAsTheySpell}
@@ -60,7 +60,7 @@ pub both_are_taken : (holds : ExprEncoding → Bool) (ft pt : Bytes) (f p : Tree
 both_are_taken holds ft pt f p why s (inl h) = spelled_is_taken holds Filter ft f why s.filter_spelled h
 both_are_taken holds ft pt f p why s (inr h) = spelled_is_taken holds Projection pt p why s.projection_spelled h.1
 
-unspelled_so : (holds : ExprEncoding → Bool) (ft pt : Bytes) (f p : Tree) (before after : Seen) (result : Result ScanReport ScanError)
+unspelled_so : (holds : ExprEncoding → Bool) (ft pt : Bytes) (f p : Tree) (before after : StoreSeen) (result : Result ScanReport ScanError)
     → SpellBoth holds ft pt f p → IsUnspelled holds ft pt before after result → IsScanOf [] f p before after result
 unspelled_so holds ft pt f p before after (Ok report) s h = absurd h
 unspelled_so holds ft pt f p before after (Err errors.NoMemory) s h = inl h

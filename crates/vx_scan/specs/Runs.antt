@@ -11,7 +11,7 @@ use Rattle.vx_semantics.specs.Asked.{asked_columns}
 use Rattle.vx_semantics.specs.Pruning.{rules_out}
 use Rattle.vx_semantics.specs.Tables.{Table, Zones, row_type, numbered_from}
 use Rattle.vx_semantics.specs.Scans.{Phase, block_phases, phase_breaks, phases_to_break, first_breaks_by, phase_reads, block_rows, reads_in, further_columns}
-use Rattle.vx_scan.specs.Stores.{Read, Seen, WhereTold, IsSameStore}
+use Rattle.vx_scan.specs.Stores.{Read, StoreSeen, WhereTold, IsSameStore}
 use Rattle.vx_io.specs.Counts.{one_more}
 use Rattle.vx_scan.specs.Scanning.{AreAmong, asks_breaking}
 use Rattle.vx_scan.specs.declared.errors.ScanError.{ScanError}
@@ -63,7 +63,7 @@ abbrev pub GrowsAmong : List Read → List Read → List Read → Type 0
 GrowsAmong all before after = (made : List Read) × (after ≡ before ++ made) × AreAmong made all
 
 -- a scan has come to a block: nothing failed, and these are the rows, the kept and the skipped blocks before it
-pub record IsScannedTo (slots : Slots) (f p : Tree) (i : ℕ) (before after : Seen) (rows : List Val) (keeps skips : List ℕ) : Type 0 where
+pub record IsScannedTo (slots : Slots) (f p : Tree) (i : ℕ) (before after : StoreSeen) (rows : List Val) (keeps skips : List ℕ) : Type 0 where
   pub same : IsSameStore before after
   pub unfailed : after.failed ≡ before.failed
   pub among : GrowsAmong (asked_before before.zones slots f p i) before.log after.log
@@ -79,13 +79,13 @@ FailedAmong all made None = ⊥
 FailedAmong all made (Some read) = AreAmong (made ++ (read ∷ [])) all
 
 -- a kept block's run broke by this cause, which the filter or the projection can do
-abbrev pub BrokeBy : Cause → Tree → Tree → Seen → Seen → Type 0
+abbrev pub BrokeBy : Cause → Tree → Tree → StoreSeen → StoreSeen → Type 0
 BrokeBy cause f p before after =
     (after.failed ≡ before.failed)
     × ((asks_breaking cause (row_type before.zones.columns) f || asks_breaking cause (row_type before.zones.columns) p) ≡ true)
 
 -- how the run of a kept block ends, whether its table is told or not
-abbrev pub EndsBlock : Tree → Tree → ℕ → Seen → Seen → List Read → Result (Unit {0}) ScanError → Type 0
+abbrev pub EndsBlock : Tree → Tree → ℕ → StoreSeen → StoreSeen → List Read → Result (Unit {0}) ScanError → Type 0
 EndsBlock f p block before after made (Ok u) = after.failed ≡ before.failed
 EndsBlock f p block before after made (Err errors.Overflow) = BrokeBy by_sum f p before after
 EndsBlock f p block before after made (Err errors.BadCast) = BrokeBy by_cast f p before after
@@ -100,7 +100,7 @@ AddsRows added was now (Ok u) = now ≡ was ++ added
 AddsRows added was now (Err e) = Unit {0}
 
 -- what the run of a kept block is where the table is told: a run through its phases, and its rows
-pub record RunsBlockOf (slots : Slots) (f p : Tree) (block : ℕ) (table : Table) (before after : Seen) (was now : List Val)
+pub record RunsBlockOf (slots : Slots) (f p : Tree) (block : ℕ) (table : Table) (before after : StoreSeen) (was now : List Val)
     (result : Result (Unit {0}) ScanError) : Type 0 where
   pub held_rows : List Val
   pub there : slice_get table.blocks block ≡ Some held_rows
@@ -108,7 +108,7 @@ pub record RunsBlockOf (slots : Slots) (f p : Tree) (block : ℕ) (table : Table
   pub adds : AddsRows (block_rows (row_type table.columns) slots f p held_rows) was now result
 
 -- the run of a kept block from one state of the store to another: it made some of the block's reads, and ended so
-pub record RunsBlock (slots : Slots) (f p : Tree) (block : ℕ) (before after : Seen) (was now : List Val)
+pub record RunsBlock (slots : Slots) (f p : Tree) (block : ℕ) (before after : StoreSeen) (was now : List Val)
     (result : Result (Unit {0}) ScanError) : Type 0 where
   pub same : IsSameStore before after
   pub made : List Read

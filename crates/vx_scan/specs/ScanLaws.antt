@@ -13,7 +13,7 @@ use Rattle.vx_semantics.specs.Tables.{Table, Zones, row_type}
 use Rattle.vx_semantics.specs.Scans.{rows_of, kept_blocks, phases_of, some_phase_breaks, first_breaks_by}
 use Rattle.vx_io.specs.Counts.{one_more}
 use Rattle.vx_wire.specs.declared.encodings.ExprEncoding.{ExprEncoding}
-use Rattle.vx_scan.specs.Stores.{Read, Seen, IsSameStore}
+use Rattle.vx_scan.specs.Stores.{Read, StoreSeen, IsSameStore}
 use Rattle.vx_scan.specs.Texts.{SpellBoth, AreRefused}
 use Rattle.vx_scan.specs.Reports.{Report, report_view}
 use Rattle.vx_scan.specs.Scanning.{scan_type, asked_reads, AreAmong, IsReport, IsScanOf, IsScan}
@@ -24,7 +24,7 @@ use Rattle.vx_scan.specs.declared.reports.ScanReport.{ScanReport}
 -- two texts that spell two expressions are scanned as these, without slots
 abbrev pub TextsScanAsTheySpell : Type 0
 TextsScanAsTheySpell =
-    (holds : ExprEncoding → Bool) (filter_text projection_text : Bytes) (filter_expr projection : Tree) (before after : Seen)
+    (holds : ExprEncoding → Bool) (filter_text projection_text : Bytes) (filter_expr projection : Tree) (before after : StoreSeen)
     (result : Result ScanReport ScanError)
     → SpellBoth holds filter_text projection_text filter_expr projection → IsScan holds filter_text projection_text before after result
     → IsScanOf [] filter_expr projection before after result
@@ -32,19 +32,19 @@ TextsScanAsTheySpell =
 -- over honest statistics the rows of a report are all rows of the answer
 abbrev pub HonestScansAreWhole : Type 0
 HonestScansAreWhole =
-    (slots : Slots) (filter_expr projection : Tree) (before after : Seen) (report : Report) (table : Table)
+    (slots : Slots) (filter_expr projection : Tree) (before after : StoreSeen) (report : Report) (table : Table)
     → IsReport slots filter_expr projection before after report → before.held ≡ Some table → IsHonest before.zones table
     → report.rows ≡ rows_of table slots filter_expr projection
 
 abbrev pub HonestTextScansAreWhole : Type 0
 HonestTextScansAreWhole =
-    (holds : ExprEncoding → Bool) (filter_text projection_text : Bytes) (filter_expr projection : Tree) (before after : Seen) (report : ScanReport)
+    (holds : ExprEncoding → Bool) (filter_text projection_text : Bytes) (filter_expr projection : Tree) (before after : StoreSeen) (report : ScanReport)
     (table : Table) → SpellBoth holds filter_text projection_text filter_expr projection
     → IsScan holds filter_text projection_text before after (Ok report) → before.held ≡ Some table → IsHonest before.zones table
     → (report_view report).rows ≡ rows_of table [] filter_expr projection
 
 -- a scan of typed expressions over a told table in which no fault was counted
-pub record IsQuietScan (slots : Slots) (filter_expr projection : Tree) (table : Table) (before after : Seen) : Type 0 where
+pub record IsQuietScan (slots : Slots) (filter_expr projection : Tree) (table : Table) (before after : StoreSeen) : Type 0 where
   pub held : before.held ≡ Some table
   pub ty : Ty
   pub typed : scan_type (row_type before.zones.columns) slots filter_expr projection ≡ Ok ty
@@ -53,7 +53,7 @@ pub record IsQuietScan (slots : Slots) (filter_expr projection : Tree) (table : 
 -- a store that is known to count no fault counted none, where its count isn't at its last value
 abbrev pub FaultlessStoresCountNoFault : Type 0
 FaultlessStoresCountNoFault =
-    (before after : Seen) → IsSameStore before after → before.faultless ≡ true → before.faults < 2 ^ 64 - 1 → after.faults < one_more before.faults
+    (before after : StoreSeen) → IsSameStore before after → before.faultless ≡ true → before.faults < 2 ^ 64 - 1 → after.faults < one_more before.faults
 
 -- a report, or no memory for it
 abbrev pub ReportsUnlessNoMemory : Result ScanReport ScanError → Type 0
@@ -64,13 +64,13 @@ ReportsUnlessNoMemory (Err _) = ⊥
 -- where no phase breaks there is a report
 abbrev pub UnbrokenScansReport : Type 0
 UnbrokenScansReport =
-    (slots : Slots) (filter_expr projection : Tree) (table : Table) (before after : Seen) (result : Result ScanReport ScanError)
+    (slots : Slots) (filter_expr projection : Tree) (table : Table) (before after : StoreSeen) (result : Result ScanReport ScanError)
     → IsQuietScan slots filter_expr projection table before after → some_phase_breaks table before.zones slots filter_expr projection ≡ false
     → IsScanOf slots filter_expr projection before after result → ReportsUnlessNoMemory result
 
 abbrev pub UnbrokenTextScansReport : Type 0
 UnbrokenTextScansReport =
-    (holds : ExprEncoding → Bool) (filter_text projection_text : Bytes) (filter_expr projection : Tree) (table : Table) (before after : Seen)
+    (holds : ExprEncoding → Bool) (filter_text projection_text : Bytes) (filter_expr projection : Tree) (table : Table) (before after : StoreSeen)
     (result : Result ScanReport ScanError)
     → SpellBoth holds filter_text projection_text filter_expr projection → IsQuietScan [] filter_expr projection table before after
     → some_phase_breaks table before.zones [] filter_expr projection ≡ false → IsScan holds filter_text projection_text before after result
@@ -86,13 +86,13 @@ BreaksUnlessNoMemory _ = ⊥
 -- where a phase breaks there is no report
 abbrev pub ScansBreakWhereAPhaseBreaks : Type 0
 ScansBreakWhereAPhaseBreaks =
-    (slots : Slots) (filter_expr projection : Tree) (table : Table) (before after : Seen) (result : Result ScanReport ScanError)
+    (slots : Slots) (filter_expr projection : Tree) (table : Table) (before after : StoreSeen) (result : Result ScanReport ScanError)
     → IsQuietScan slots filter_expr projection table before after → some_phase_breaks table before.zones slots filter_expr projection ≡ true
     → IsScanOf slots filter_expr projection before after result → BreaksUnlessNoMemory result
 
 abbrev pub TextScansBreakWhereAPhaseBreaks : Type 0
 TextScansBreakWhereAPhaseBreaks =
-    (holds : ExprEncoding → Bool) (filter_text projection_text : Bytes) (filter_expr projection : Tree) (table : Table) (before after : Seen)
+    (holds : ExprEncoding → Bool) (filter_text projection_text : Bytes) (filter_expr projection : Tree) (table : Table) (before after : StoreSeen)
     (result : Result ScanReport ScanError)
     → SpellBoth holds filter_text projection_text filter_expr projection → IsQuietScan [] filter_expr projection table before after
     → some_phase_breaks table before.zones [] filter_expr projection ≡ true → IsScan holds filter_text projection_text before after result
@@ -106,13 +106,13 @@ RefusesBy e (Err d) = (d ≡ e) ⊎ (d ≡ errors.NoMemory)
 -- where the expressions' typing refuses, and where the texts do, there is that refusal
 abbrev pub RefusedTypesAreRefused : Type 0
 RefusedTypesAreRefused =
-    (slots : Slots) (filter_expr projection : Tree) (before after : Seen) (e : ScanError) (result : Result ScanReport ScanError)
+    (slots : Slots) (filter_expr projection : Tree) (before after : StoreSeen) (e : ScanError) (result : Result ScanReport ScanError)
     → scan_type (row_type before.zones.columns) slots filter_expr projection ≡ Err e → IsScanOf slots filter_expr projection before after result
     → RefusesBy e result
 
 abbrev pub RefusedTextsAreRefused : Type 0
 RefusedTextsAreRefused =
-    (holds : ExprEncoding → Bool) (filter_text projection_text : Bytes) (before after : Seen) (e : ScanError) (result : Result ScanReport ScanError)
+    (holds : ExprEncoding → Bool) (filter_text projection_text : Bytes) (before after : StoreSeen) (e : ScanError) (result : Result ScanReport ScanError)
     → AreRefused holds filter_text projection_text e → IsScan holds filter_text projection_text before after result → RefusesBy e result
 
 -- whether an error refuses the expressions before the first block, and whether a phase that breaks gives it
@@ -131,38 +131,38 @@ is_break _ = false
 -- from one store that tells its table, scans of the same expressions don't end one with a report and one with a refusal or a break
 abbrev pub ReportsExcludeErrors : Type 0
 ReportsExcludeErrors =
-    (slots : Slots) (filter_expr projection : Tree) (table : Table) (before after other : Seen) (report : ScanReport) (e : ScanError)
+    (slots : Slots) (filter_expr projection : Tree) (table : Table) (before after other : StoreSeen) (report : ScanReport) (e : ScanError)
     → before.held ≡ Some table → (is_refusal e || is_break e) ≡ true → IsScanOf slots filter_expr projection before after (Ok report)
     → ¬ (IsScanOf slots filter_expr projection before other (Err e))
 
 abbrev pub TextReportsExcludeErrors : Type 0
 TextReportsExcludeErrors =
-    (holds : ExprEncoding → Bool) (filter_text projection_text : Bytes) (table : Table) (before after other : Seen) (report : ScanReport) (e : ScanError)
+    (holds : ExprEncoding → Bool) (filter_text projection_text : Bytes) (table : Table) (before after other : StoreSeen) (report : ScanReport) (e : ScanError)
     → before.held ≡ Some table → (is_refusal e || is_break e) ≡ true → IsScan holds filter_text projection_text before after (Ok report)
     → ¬ (IsScan holds filter_text projection_text before other (Err e))
 
 -- nor one with a refusal and one with a break
 abbrev pub RefusalsExcludeBreaks : Type 0
 RefusalsExcludeBreaks =
-    (slots : Slots) (filter_expr projection : Tree) (before after other : Seen) (d e : ScanError) → is_refusal d ≡ true → is_break e ≡ true
+    (slots : Slots) (filter_expr projection : Tree) (before after other : StoreSeen) (d e : ScanError) → is_refusal d ≡ true → is_break e ≡ true
     → IsScanOf slots filter_expr projection before after (Err d) → ¬ (IsScanOf slots filter_expr projection before other (Err e))
 
 abbrev pub TextRefusalsExcludeBreaks : Type 0
 TextRefusalsExcludeBreaks =
-    (holds : ExprEncoding → Bool) (filter_text projection_text : Bytes) (before after other : Seen) (d e : ScanError)
+    (holds : ExprEncoding → Bool) (filter_text projection_text : Bytes) (before after other : StoreSeen) (d e : ScanError)
     → is_refusal d ≡ true → is_break e ≡ true → IsScan holds filter_text projection_text before after (Err d)
     → ¬ (IsScan holds filter_text projection_text before other (Err e))
 
 -- nor with two refusals
 abbrev pub RefusalsAreOne : Type 0
 RefusalsAreOne =
-    (slots : Slots) (filter_expr projection : Tree) (before after other : Seen) (d e : ScanError) → is_refusal d ≡ true → is_refusal e ≡ true
+    (slots : Slots) (filter_expr projection : Tree) (before after other : StoreSeen) (d e : ScanError) → is_refusal d ≡ true → is_refusal e ≡ true
     → IsScanOf slots filter_expr projection before after (Err d) → IsScanOf slots filter_expr projection before other (Err e) → d ≡ e
 
 -- and one by a sum and one by a cast only where the first phase that breaks does so by both
 abbrev pub BothBreaksAreOfOnePhase : Type 0
 BothBreaksAreOfOnePhase =
-    (slots : Slots) (filter_expr projection : Tree) (table : Table) (before after other : Seen) → before.held ≡ Some table
+    (slots : Slots) (filter_expr projection : Tree) (table : Table) (before after other : StoreSeen) → before.held ≡ Some table
     → IsScanOf slots filter_expr projection before after (Err errors.Overflow) → IsScanOf slots filter_expr projection before other (Err errors.BadCast)
     → (first_breaks_by by_sum (row_type table.columns) slots (phases_of table before.zones slots filter_expr projection) ≡ true)
     × (first_breaks_by by_cast (row_type table.columns) slots (phases_of table before.zones slots filter_expr projection) ≡ true)

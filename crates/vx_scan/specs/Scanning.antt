@@ -16,7 +16,7 @@ use Rattle.vx_eval.specs.Evaluating.{checked_type}
 use Rattle.vx_prepare.specs.Preparing.{is_sum, is_cast}
 use Rattle.vx_io.specs.Counts.{one_more}
 use Rattle.vx_wire.specs.declared.encodings.ExprEncoding.{ExprEncoding}
-use Rattle.vx_scan.specs.Stores.{Read, Seen, WhereTold}
+use Rattle.vx_scan.specs.Stores.{Read, StoreSeen, WhereTold}
 use Rattle.vx_scan.specs.Texts.{SpellBoth, AreRefused}
 use Rattle.vx_scan.specs.Reports.{Report, report_view}
 use Rattle.vx_scan.specs.declared.errors.Side.{Side}
@@ -64,14 +64,14 @@ AreAmong (r ∷ made) [] = ⊥
 AreAmong (r ∷ made) (s ∷ all) = ((r ≡ s) × AreAmong made all) ⊎ AreAmong (r ∷ made) all
 
 -- how a scan's reads grow the log: they are asked ones, and where the table is told just these
-pub record GrowsLog (slots : Slots) (filter_expr projection : Tree) (before after : Seen) (AreJust : Table → List Read → Type 0) : Type 0 where
+pub record GrowsLog (slots : Slots) (filter_expr projection : Tree) (before after : StoreSeen) (AreJust : Table → List Read → Type 0) : Type 0 where
   pub made : List Read
   pub grown : after.log ≡ before.log ++ made
   pub asked : AreAmong made (asked_reads before.zones slots filter_expr projection)
   pub told : WhereTold before.held (λ table. AreJust table made)
 
 -- the report of a scan: all its reads were made, and none failed; where the table is told the rows are those of the kept blocks, and no phase breaks
-pub record IsReport (slots : Slots) (filter_expr projection : Tree) (before after : Seen) (report : Report) : Type 0 where
+pub record IsReport (slots : Slots) (filter_expr projection : Tree) (before after : StoreSeen) (report : Report) : Type 0 where
   pub typed : scan_type (row_type before.zones.columns) slots filter_expr projection ≡ Ok report.ty
   pub rows : WhereTold before.held (λ table. report.rows ≡ kept_rows_of table before.zones slots filter_expr projection)
   pub unbroken : WhereTold before.held (λ table. some_phase_breaks table before.zones slots filter_expr projection ≡ false)
@@ -98,7 +98,7 @@ some_block (b ∷ bs) = true
 
 -- a phase broke by this cause: a block is kept, and one of the expressions asks a node that can; where the table is told the first phase that breaks does so,
 -- and just the reads up to its end were made
-pub record IsBroken (cause : Cause) (slots : Slots) (filter_expr projection : Tree) (before after : Seen) : Type 0 where
+pub record IsScanBroken (cause : Cause) (slots : Slots) (filter_expr projection : Tree) (before after : StoreSeen) : Type 0 where
   pub ty : Ty
   pub typed : scan_type (row_type before.zones.columns) slots filter_expr projection ≡ Ok ty
   pub asks : (asks_breaking cause (row_type before.zones.columns) filter_expr || asks_breaking cause (row_type before.zones.columns) projection) ≡ true
@@ -109,7 +109,7 @@ pub record IsBroken (cause : Cause) (slots : Slots) (filter_expr projection : Tr
   pub unfailed : after.failed ≡ before.failed
 
 -- a read failed: the store counted a fault; the reads before it were made, and where the table is told it is the next one
-pub record IsStoreFault (slots : Slots) (filter_expr projection : Tree) (before after : Seen) : Type 0 where
+pub record IsStoreFault (slots : Slots) (filter_expr projection : Tree) (before after : StoreSeen) : Type 0 where
   pub ty : Ty
   pub typed : scan_type (row_type before.zones.columns) slots filter_expr projection ≡ Ok ty
   pub risen : one_more before.faults ≤ after.faults
@@ -120,7 +120,7 @@ pub record IsStoreFault (slots : Slots) (filter_expr projection : Tree) (before 
   pub next_asked : AreAmong (reads.made ++ (read ∷ [])) (asked_reads before.zones slots filter_expr projection)
 
 -- there was no memory: before the first block nothing was read; later some first reads were made
-pub record IsCutOff (slots : Slots) (filter_expr projection : Tree) (before after : Seen) : Type 0 where
+pub record IsCutOff (slots : Slots) (filter_expr projection : Tree) (before after : StoreSeen) : Type 0 where
   pub ty : Ty
   pub typed : scan_type (row_type before.zones.columns) slots filter_expr projection ≡ Ok ty
   pub reads : GrowsLog slots filter_expr projection before after
@@ -128,15 +128,15 @@ pub record IsCutOff (slots : Slots) (filter_expr projection : Tree) (before afte
   pub unfailed : after.failed ≡ before.failed
 
 -- the expressions are refused before the first block, by this answer of their typing: nothing was read
-abbrev pub AreIllTyped : Slots → Tree → Tree → Seen → Seen → ScanError → Type 0
+abbrev pub AreIllTyped : Slots → Tree → Tree → StoreSeen → StoreSeen → ScanError → Type 0
 AreIllTyped slots filter_expr projection before after e =
     (after ≡ before) × (scan_type (row_type before.zones.columns) slots filter_expr projection ≡ Err e)
 
 -- how the scan of two expressions ends; typing gives none of the six refusals of texts, so that none of these comes
-abbrev pub IsScanOf : Slots → Tree → Tree → Seen → Seen → Result ScanReport ScanError → Type 0
+abbrev pub IsScanOf : Slots → Tree → Tree → StoreSeen → StoreSeen → Result ScanReport ScanError → Type 0
 IsScanOf slots filter_expr projection before after (Ok report) = IsReport slots filter_expr projection before after (report_view report)
-IsScanOf slots filter_expr projection before after (Err errors.Overflow) = IsBroken by_sum slots filter_expr projection before after
-IsScanOf slots filter_expr projection before after (Err errors.BadCast) = IsBroken by_cast slots filter_expr projection before after
+IsScanOf slots filter_expr projection before after (Err errors.Overflow) = IsScanBroken by_sum slots filter_expr projection before after
+IsScanOf slots filter_expr projection before after (Err errors.BadCast) = IsScanBroken by_cast slots filter_expr projection before after
 IsScanOf slots filter_expr projection before after (Err errors.StoreFault) = IsStoreFault slots filter_expr projection before after
 IsScanOf slots filter_expr projection before after (Err errors.NoMemory) = (after ≡ before) ⊎ IsCutOff slots filter_expr projection before after
 IsScanOf slots filter_expr projection before after (Err (errors.NotStruct side)) = AreIllTyped slots filter_expr projection before after (errors.NotStruct side)
@@ -153,12 +153,12 @@ IsScanOf slots filter_expr projection before after (Err (errors.BadMetadata side
 IsScanOf slots filter_expr projection before after (Err (errors.WrongChildren side)) = AreIllTyped slots filter_expr projection before after (errors.WrongChildren side)
 
 -- two texts are refused so: nothing was read
-abbrev pub AreUntaken : (ExprEncoding → Bool) → Bytes → Bytes → Seen → Seen → ScanError → Type 0
+abbrev pub AreUntaken : (ExprEncoding → Bool) → Bytes → Bytes → StoreSeen → StoreSeen → ScanError → Type 0
 AreUntaken holds filter_text projection_text before after e = (after ≡ before) × AreRefused holds filter_text projection_text e
 
 -- two texts that were refused, or of which it wasn't known for want of memory: nothing was read; texts are refused by six errors alone, so that none of the
 -- others comes
-abbrev pub IsUnspelled : (ExprEncoding → Bool) → Bytes → Bytes → Seen → Seen → Result ScanReport ScanError → Type 0
+abbrev pub IsUnspelled : (ExprEncoding → Bool) → Bytes → Bytes → StoreSeen → StoreSeen → Result ScanReport ScanError → Type 0
 IsUnspelled holds filter_text projection_text before after (Ok report) = ⊥
 IsUnspelled holds filter_text projection_text before after (Err errors.NoMemory) = after ≡ before
 IsUnspelled holds filter_text projection_text before after (Err (errors.BadWire side)) = AreUntaken holds filter_text projection_text before after (errors.BadWire side)
@@ -178,7 +178,7 @@ IsUnspelled holds filter_text projection_text before after (Err errors.BadCast) 
 IsUnspelled holds filter_text projection_text before after (Err errors.StoreFault) = AreUntaken holds filter_text projection_text before after errors.StoreFault
 
 -- how the scan of two byte texts ends: they are refused, or it ends as that of the expressions that they spell, without slots
-abbrev pub IsScan : (ExprEncoding → Bool) → Bytes → Bytes → Seen → Seen → Result ScanReport ScanError → Type 0
+abbrev pub IsScan : (ExprEncoding → Bool) → Bytes → Bytes → StoreSeen → StoreSeen → Result ScanReport ScanError → Type 0
 IsScan holds filter_text projection_text before after result =
     IsUnspelled holds filter_text projection_text before after result
     ⊎ ((filter_expr : Tree) × (projection : Tree) × SpellBoth holds filter_text projection_text filter_expr projection

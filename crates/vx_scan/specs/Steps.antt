@@ -18,7 +18,7 @@ use Rattle.vx_io.specs.Counts.{one_more}
 use Rattle.vx_prepare.specs.Preparing.{IsPrepared, asked_breaks_by}
 use Rattle.vx_prepare.specs.declared.prepared.PreparedExpr.{PreparedExpr}
 use Rattle.vx_block_pruning.specs.BlocksRuledOut.{blocks_ruled_out}
-use Rattle.vx_scan.specs.Stores.{Read, Seen, WhereTold, IsColumnOf}
+use Rattle.vx_scan.specs.Stores.{Read, StoreSeen, WhereTold, IsColumnOf}
 use Rattle.vx_scan.specs.Scanning.{on_side, scan_type, asks_breaking, IsScanOf}
 use Rattle.vx_scan.specs.Runs.{Runs, IsScannedTo}
 use Rattle.vx_scan.specs.declared.errors.Side.{Side}
@@ -60,7 +60,7 @@ ending (Ok a) = Ok tt
 ending (Err e) = Err e
 
 -- of these reads all were made; or the first ones before the one that failed, which counted a fault; or the first ones before there was no memory
-abbrev pub MakesReads : List Read → Seen → Seen → Result (Unit {0}) ScanError → Type 0
+abbrev pub MakesReads : List Read → StoreSeen → StoreSeen → Result (Unit {0}) ScanError → Type 0
 MakesReads reads before after (Ok a) = (after.log ≡ before.log ++ reads) × (after.failed ≡ before.failed)
 MakesReads reads before after (Err errors.StoreFault) =
     (read : Read) × (done : List Read) × (left : List Read) × (after.failed ≡ Some read) × (one_more before.faults ≤ after.faults)
@@ -74,7 +74,7 @@ abbrev pub further_names : List Bytes → List Bytes → List Bytes
 further_names known names = filter (λ c. not (has_name c known)) names
 
 -- the columns of a block of these names
-abbrev pub AreColumnsOf : Seen → ℕ → List Bytes → List Column → Type 0
+abbrev pub AreColumnsOf : StoreSeen → ℕ → List Bytes → List Column → Type 0
 AreColumnsOf store block names columns = AllZip (IsColumnOf store block) names columns
 
 -- a column at the rows at which another is true
@@ -99,7 +99,7 @@ BreaksAsAsked t e (Err errors.NoMemory) = Unit {0}
 BreaksAsAsked t e (Err _) = ⊥
 
 -- how a phase's run ends, of whose reads these are left
-abbrev pub EndsPart : Ty → Tree → List Read → Seen → Seen → Result (Unit {0}) ScanError → Type 0
+abbrev pub EndsPart : Ty → Tree → List Read → StoreSeen → StoreSeen → Result (Unit {0}) ScanError → Type 0
 EndsPart t e left before after (Ok a) = (left ≡ []) × (after.failed ≡ before.failed)
 EndsPart t e left before after (Err errors.Overflow) = (left ≡ []) × (after.failed ≡ before.failed) × (asks_breaking by_sum t e ≡ true)
 EndsPart t e left before after (Err errors.BadCast) = (left ≡ []) × (after.failed ≡ before.failed) × (asks_breaking by_cast t e ≡ true)
@@ -109,13 +109,13 @@ EndsPart t e left before after (Err errors.NoMemory) = after.failed ≡ before.f
 EndsPart t e left before after (Err _) = ⊥
 
 -- a phase's run in a block where the table is told: over the rows that the block's rows have for it
-abbrev pub RunsTold : Ty → Slots → Tree → List Read → ℕ → (List Val → List Val) → Seen → Seen → Result (Unit {0}) ScanError → Table → Type 0
+abbrev pub RunsTold : Ty → Slots → Tree → List Read → ℕ → (List Val → List Val) → StoreSeen → StoreSeen → Result (Unit {0}) ScanError → Table → Type 0
 RunsTold t slots e reads block of_rows before after result table =
     (rows : List Val) × (slice_get table.blocks block ≡ Some rows)
     × Runs t slots (record { expression = e; reads = reads; rows = of_rows rows } ∷ []) before.log after.log after.failed result
 
 -- the run of one of a block's phases: of its reads some first ones were made, and it ended so
-pub record RunsPart (slots : Slots) (e : Tree) (reads : List Read) (block : ℕ) (of_rows : List Val → List Val) (before after : Seen)
+pub record RunsPart (slots : Slots) (e : Tree) (reads : List Read) (block : ℕ) (of_rows : List Val → List Val) (before after : StoreSeen)
     (result : Result (Unit {0}) ScanError) : Type 0 where
   pub made : List Read
   pub left : List Read
@@ -130,7 +130,7 @@ AreTruths t slots f block keep table =
     (rows : List Val) × (slice_get table.blocks block ≡ Some rows) × (keep ≡ map (λ row. mean t slots row f) rows)
 
 -- a block that is filtered: the columns that the filter asks, its truth at each row, and how many rows it is true at
-pub record IsFiltered (slots : Slots) (f : Tree) (names : List Bytes) (block : ℕ) (store : Seen) (filtered : FilteredBlock) : Type 0 where
+pub record IsFiltered (slots : Slots) (f : Tree) (names : List Bytes) (block : ℕ) (store : StoreSeen) (filtered : FilteredBlock) : Type 0 where
   pub columns : AreColumnsOf store block names filtered.columns.items
   pub len : slice_get store.zones.lengths block ≡ Some (length filtered.keep.rows)
   pub boolean : is_bool_ty filtered.keep.ty ≡ true
@@ -143,12 +143,12 @@ AddsToldRows given block was now (Ok a) table = (rows : List Val) × (slice_get 
 AddsToldRows given block was now (Err e) table = Unit {0}
 
 -- how a scan stands at a block: it has come there, or has ended before
-abbrev pub StandsAt : Slots → Tree → Tree → ℕ → Seen → Seen → List Val → List ℕ → List ℕ → Result (Unit {0}) ScanError → Type 0
+abbrev pub StandsAt : Slots → Tree → Tree → ℕ → StoreSeen → StoreSeen → List Val → List ℕ → List ℕ → Result (Unit {0}) ScanError → Type 0
 StandsAt slots f p i before after rows keeps skips (Ok a) = IsScannedTo slots f p i before after rows keeps skips
 StandsAt slots f p i before after rows keeps skips (Err e) = IsScanOf slots f p before after (Err e)
 
 -- how a scan stands behind the last block, of which it found rows of this type
-abbrev pub EndsBlocks : Slots → Tree → Tree → Ty → Seen → Seen → Result Found ScanError → Type 0
+abbrev pub EndsBlocks : Slots → Tree → Tree → Ty → StoreSeen → StoreSeen → Result Found ScanError → Type 0
 EndsBlocks slots f p u before after (Ok found) =
     IsScannedTo slots f p (length before.zones.lengths) before after (seen_rows u found.rows.items) found.kept.items found.skipped.items
 EndsBlocks slots f p u before after (Err e) = IsScanOf slots f p before after (Err e)

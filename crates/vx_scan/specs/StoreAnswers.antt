@@ -12,7 +12,7 @@ abbrev pub new_store : Zones → List (List Column) → List ℕ → StoreState
 new_store z bs ns = record { zones = z; blocks = bs; listed = ns; calls = 0; reads = []; failed = None; faults = 0 }
 
 -- the answer is the store where the blocks are a table with these zones, else their refusal; want of memory may be answered at any time
-abbrev pub Answers : Zones → List (List Column) → List ℕ → Result StoreState TableError → Type 0
-Answers zones blocks listed (Ok store) = (store ≡ new_store zones blocks listed) × (table_refusal zones blocks ≡ None)
-Answers zones blocks listed (Err NoMemory) = Unit {0}
-Answers zones blocks listed (Err e) = table_refusal zones blocks ≡ Some e
+abbrev pub MakesStore : Zones → List (List Column) → List ℕ → Result StoreState TableError → Type 0
+MakesStore zones blocks listed (Ok store) = (store ≡ new_store zones blocks listed) × (table_refusal zones blocks ≡ None)
+MakesStore zones blocks listed (Err NoMemory) = Unit {0}
+MakesStore zones blocks listed (Err e) = table_refusal zones blocks ≡ Some e

@@ -3,8 +3,8 @@ use Rattle.std.specs.Prelude.{ℕ, List, Option, Some}
 use Rattle.vx_column.specs.Columns.{Column}
 use Rattle.vx_semantics.specs.Tables.{Zones}
 use Rattle.vx_io.specs.Counts.{is_nothing}
-use Rattle.vx_tables.specs.Blocks.{table_of}
-use Rattle.vx_scan.specs.Stores.{Read, Seen}
+use Rattle.vx_tables.specs.Blocks.{table_of_blocks}
+use Rattle.vx_scan.specs.Stores.{Read, StoreSeen}
 use Rattle.vx_scan.specs.declared.stores.ReadEntry.{ReadEntry}
 
 -- the read that an entry of the log stands for
@@ -23,6 +23,6 @@ pub record StoreState : Type 0 where
   pub faults : ℕ
 
 -- a store in memory as any store is seen: it tells the table of its columns, and counts no fault where no call is to fail
-abbrev pub store_seen : StoreState → Seen
+abbrev pub store_seen : StoreState → StoreSeen
 store_seen s =
-    record { zones = s.zones; held = Some (table_of s.zones s.blocks); log = s.reads; faults = s.faults; failed = s.failed; faultless = is_nothing s.listed }
+    record { zones = s.zones; held = Some (table_of_blocks s.zones s.blocks); log = s.reads; faults = s.faults; failed = s.failed; faultless = is_nothing s.listed }

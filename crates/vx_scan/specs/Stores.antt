@@ -18,7 +18,7 @@ Read = ℕ × Bytes
 
 -- a store as it is seen: its zones, its table where it tells it, its reads in order, its faults, the last read that failed, and whether it is
 -- known to count no fault
-pub record Seen : Type 0 where
+pub record StoreSeen : Type 0 where
   pub zones : Zones
   pub held : Option Table
   pub log : List Read
@@ -42,7 +42,7 @@ abbrev pub AreHeld : ℕ → Bytes → List Val → Table → Type 0
 AreHeld block name rows table = option_map (map (field_of name)) (slice_get table.blocks block) ≡ Some rows
 
 -- no call changes the zones and the table; faults never fall, and stay where the store is known to count none
-pub record IsSameStore (before after : Seen) : Type 0 where
+pub record IsSameStore (before after : StoreSeen) : Type 0 where
   pub zones : after.zones ≡ before.zones
   pub held : after.held ≡ before.held
   pub faultless : after.faultless ≡ before.faultless
@@ -50,14 +50,14 @@ pub record IsSameStore (before after : Seen) : Type 0 where
   pub quiet : before.faultless ≡ true → after.faults ≡ before.faults
 
 -- a column of a block: of its type and as long as the block, and where the table is told with its values there
-pub record IsColumnOf (store : Seen) (block : ℕ) (name : Bytes) (c : Column) : Type 0 where
+pub record IsColumnOf (store : StoreSeen) (block : ℕ) (name : Bytes) (c : Column) : Type 0 where
   pub ty : field_type name store.zones.columns ≡ Some c.ty
   pub len : slice_get store.zones.lengths block ≡ Some (length c.rows)
   pub rows : WhereTold store.held (AreHeld block name c.rows)
 
 -- what a read answers and leaves: the column, and the read is logged; or it failed, a fault was counted, and it is the last that failed; or there was
 -- no memory
-abbrev pub Reads : Seen → Seen → ℕ → Bytes → Result ColumnRef StoreError → Type 0
+abbrev pub Reads : StoreSeen → StoreSeen → ℕ → Bytes → Result ColumnRef StoreError → Type 0
 Reads before after block name (Ok c) = IsColumnOf before block name c × (after.log ≡ before.log ++ (block, name) ∷ []) × (after.failed ≡ before.failed)
 Reads before after block name (Err errors.Failed) =
     (one_more before.faults ≤ after.faults) × (after.log ≡ before.log) × (after.failed ≡ Some (block, name))

@@ -2,10 +2,10 @@
 ghost use Rattle.std.specs.Prelude.{◌≡◌, ◌-◌, ◌^◌, ◌<◌, true, false, cond, length, map, option_map, IfOk, IsErrOf, All};
 ghost use Rattle.vx_dtype.specs.TypeRules.{has_name, field_names};
 ghost use Rattle.vx_io.specs.Counts.{one_more, is_listed};
-ghost use Rattle.vx_tables.specs.Blocks.{block_view, table_of};
+ghost use Rattle.vx_tables.specs.Blocks.{block_view, table_of_blocks};
 ghost use Rattle.vx_scan.specs.Stores.{AgreesWith, IsSameStore, Reads};
 ghost use Rattle.vx_scan.specs.StoreViews.{entry_view, store_seen};
-ghost use Rattle.vx_scan.specs.StoreAnswers.{Answers};
+ghost use Rattle.vx_scan.specs.StoreAnswers.{MakesStore};
 
 use crate::errors::StoreError;
 use crate::stores::{ColumnStore, ReadEntry};
@@ -67,7 +67,7 @@ impl MemoryStore {
         fail: Vec<u64>,
     ) -> Result<MemoryStore, TableError>
         requires countable { All (λ n. n < 2 ^ 64 - 1) fail.items }
-        ensures { Answers zones (map block_view blocks.items) fail.items result }
+        ensures { MakesStore zones (map block_view blocks.items) fail.items result }
     {
         if !have_lengths(&zones, blocks.as_slice()) {
             return Err(TableError::WrongLength);
@@ -113,7 +113,7 @@ impl ColumnStore for MemoryStore {
 
     fn zones(&self) -> &ZoneMap
         ensures zones { result.now ≡ self.now.zones }
-        ensures agrees { AgreesWith self.now.zones (table_of self.now.zones self.now.blocks) }
+        ensures agrees { AgreesWith self.now.zones (table_of_blocks self.now.zones self.now.blocks) }
     {
         &self.zones
     }

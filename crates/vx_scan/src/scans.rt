@@ -5,7 +5,7 @@ ghost use Rattle.vx_dtype.specs.TypeViews.{type_view};
 ghost use Rattle.vx_column.specs.Columns.{raws_fit, values_fit, seen_rows};
 ghost use Rattle.vx_expr.specs.Trees.{Tree};
 ghost use Rattle.vx_wire.specs.Registries.{registered};
-ghost use Rattle.vx_scan.specs.Stores.{Seen, WhereTold, AgreesWith, IsSameStore};
+ghost use Rattle.vx_scan.specs.Stores.{StoreSeen, WhereTold, AgreesWith, IsSameStore};
 ghost use Rattle.vx_scan.specs.Scanning.{IsScan, IsScanOf};
 ghost use Rattle.vx_scan.specs.Runs.{IsScannedTo};
 ghost use Rattle.vx_scan.specs.Steps.{IsPreparedScan, StandsAt, EndsBlocks};
@@ -125,7 +125,7 @@ fn scan_next<S: ColumnStore>(
     requires fit { values_fit (type_view scan.now.projection.dtype) found.old.rows.items ≡ true }
     ensures same { IsSameStore (S.seen store.old) (S.seen store.new) }
     ensures fit { IfOk result (λ _. values_fit (type_view scan.now.projection.dtype) found.new.rows.items ≡ true) }
-    ensures stands { (start : Seen) (f p : Tree) → IsPreparedScan (S.seen store.old).zones slots.now f p scan.now →
+    ensures stands { (start : StoreSeen) (f p : Tree) → IsPreparedScan (S.seen store.old).zones slots.now f p scan.now →
         IsScannedTo slots.now f p block start (S.seen store.old) (seen_rows (type_view scan.now.projection.dtype) found.old.rows.items)
         found.old.kept.items found.old.skipped.items →
         StandsAt slots.now f p (block + 1) start (S.seen store.new) (seen_rows (type_view scan.now.projection.dtype) found.new.rows.items)

@@ -1,7 +1,7 @@
 // Where the columns of a scan come from.
 ghost use Rattle.std.specs.Prelude.{◌≡◌, ◌<◌, true, length};
 ghost use Rattle.vx_dtype.specs.TypeRules.{has_name, field_names};
-ghost use Rattle.vx_scan.specs.Stores.{Seen, WhereTold, AgreesWith, IsSameStore, Reads};
+ghost use Rattle.vx_scan.specs.Stores.{StoreSeen, WhereTold, AgreesWith, IsSameStore, Reads};
 
 use crate::errors::StoreError;
 use vx_column::ColumnRef;
@@ -19,7 +19,7 @@ pub struct ReadEntry {
 /// of its faults, which never falls; the last read that failed; and whether it is known to count no fault. A count of faults of 2^64 - 1 counts as
 /// risen.
 pub trait ColumnStore {
-    ghost seen: { Self → Seen };
+    ghost seen: { Self → StoreSeen };
 
     /// The statistics of the table, with its columns and the number of rows of each block.
     fn zones(&self) -> &ZoneMap

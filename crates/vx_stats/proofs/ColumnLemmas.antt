@@ -80,7 +80,7 @@ pub fields-alike : (f : Bytes) (fs : Fields) (t : Ty) (cs : List Column) → fie
 fields-alike f fs t [] e h = tt
 fields-alike f fs t (c ∷ cs) e h =
     let found : unwrap_or (field_type f (fields_of c.ty)) c.ty ≡ t =
-        ap (λ (gs : Fields). unwrap_or (field_type f gs) c.ty) h.0.1 ∙ ap (λ (o : Option Ty). unwrap_or o c.ty) e in (
+    ap (λ (gs : Fields). unwrap_or (field_type f gs) c.ty) h.0.1 ∙ ap (λ (o : Option Ty). unwrap_or o c.ty) e in (
       widened-with (unwrap_or (field_type f (fields_of c.ty)) c.ty) (nullability_of c.ty) ∙ ap (λ (u : Ty). with_nullability u Nullable) found,
       fields-alike f fs t cs e h.1,
     )

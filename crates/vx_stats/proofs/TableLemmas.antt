@@ -21,7 +21,7 @@ use Rattle.vx_zones.specs.Zoning.{are_shallow, broken_rule}
 use Rattle.vx_zones.specs.declared.errors.ZoneError.{ZoneError}
 use Rattle.vx_zones.specs.declared.errors.ZoneError.TheVariants as errors
 use Rattle.vx_zones.specs.ZoneAnswers as ZoneAnswers
-use Rattle.vx_tables.specs.Blocks.{block_view, block_long, blocks_long, block_typed, have_lengths, have_types, table_refusal, table_of, rows_of_columns, column_named}
+use Rattle.vx_tables.specs.Blocks.{block_view, block_long, blocks_long, block_typed, have_lengths, have_types, table_refusal, table_of_blocks, rows_of_columns, column_named}
 use Rattle.vx_tables.proofs.BlockLemmas.{table_lengths}
 use Rattle.vx_tables.proofs.MemberLemmas.{equal_numbers}
 use Rattle.vx_tables.proofs.NamedLemmas.{named_rows}
@@ -102,18 +102,18 @@ sound z h =
     record { names = first.0; shallow = second.0 }
 
 -- the built zones of a table, as they are made of its parts
-pub as-built : (z : Zones) (bs : List (List Column)) (fs : Fields) (ns : List ℕ) (stats : List ZoneStat) → have_lengths z bs ≡ true → fs ≡ z.columns → ns ≡ z.lengths → stats ≡ built_stats (table_of z bs)
-    → (record { columns = fs; lengths = ns; stats = stats }) ≡ built_zones (table_of z bs)
+pub as-built : (z : Zones) (bs : List (List Column)) (fs : Fields) (ns : List ℕ) (stats : List ZoneStat) → have_lengths z bs ≡ true → fs ≡ z.columns → ns ≡ z.lengths → stats ≡ built_stats (table_of_blocks z bs)
+    → (record { columns = fs; lengths = ns; stats = stats }) ≡ built_zones (table_of_blocks z bs)
 as-built z bs fs ns stats h a b c =
-    let lengths : ns ≡ map length (table_of z bs).blocks = b ∙ sym (table_lengths z.columns (length (field_names z.columns)) z.lengths bs h) in
+    let lengths : ns ≡ map length (table_of_blocks z bs).blocks = b ∙ sym (table_lengths z.columns (length (field_names z.columns)) z.lengths bs h) in
     λ i. record { columns = a i; lengths = lengths i; stats = c i }
 
 -- they break no rule
-pub unbroken : (z : Zones) (bs : List (List Column)) (fs : Fields) (ns : List ℕ) (stats : List ZoneStat) → have_lengths z bs ≡ true → broken_rule z ≡ None → fs ≡ z.columns → ns ≡ z.lengths → stats ≡ built_stats (table_of z bs)
+pub unbroken : (z : Zones) (bs : List (List Column)) (fs : Fields) (ns : List ℕ) (stats : List ZoneStat) → have_lengths z bs ≡ true → broken_rule z ≡ None → fs ≡ z.columns → ns ≡ z.lengths → stats ≡ built_stats (table_of_blocks z bs)
     → broken_rule (record { columns = fs; lengths = ns; stats = stats }) ≡ None
 unbroken z bs fs ns stats h r a b c =
     let s = sound z r in
-    ap broken_rule (as-built z bs fs ns stats h a b c) ∙ break_no_rule (table_of z bs) s.names s.shallow
+    ap broken_rule (as-built z bs fs ns stats h a b c) ∙ break_no_rule (table_of_blocks z bs) s.names s.shallow
 
 pub no-refusal : (z : Zones) (bs : List (List Column)) → have_lengths z bs ≡ true → have_types z bs ≡ true → table_refusal z bs ≡ None
 no-refusal z bs h k = rw (h, k) refl

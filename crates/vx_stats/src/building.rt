@@ -2,7 +2,7 @@
 ghost use Rattle.std.specs.Prelude.{◌≡◌, ◌<◌, true, length, map, IfOk};
 ghost use Rattle.std.specs.List.{AllByRecursion};
 ghost use Rattle.vx_zones.specs.ZoneViews.{stat_view};
-ghost use Rattle.vx_tables.specs.Blocks.{block_view, have_lengths, have_types, table_of};
+ghost use Rattle.vx_tables.specs.Blocks.{block_view, have_lengths, have_types, table_of_blocks};
 ghost use Rattle.vx_laws_stats.specs.BuiltStatistics.{built_stats};
 ghost use Rattle.vx_stats.specs.Building.{Answers};
 ghost use Rattle.vx_stats.specs.ColumnFacts.{column_at};
@@ -47,7 +47,7 @@ fn zones_with(
 ) -> Result<ZoneMap, StatsError>
     requires lengths { have_lengths zones.now (map block_view blocks.now) ≡ true }
     requires types { have_types zones.now (map block_view blocks.now) ≡ true }
-    requires stats { map stat_view stats.items ≡ built_stats (table_of zones.now (map block_view blocks.now)) }
+    requires stats { map stat_view stats.items ≡ built_stats (table_of_blocks zones.now (map block_view blocks.now)) }
     ensures { Answers zones.now (map block_view blocks.now) result }
 {
     let fields = columns_of(zones).clone()?;
@@ -68,7 +68,7 @@ fn zones_with(
 fn stats_of(alloc: Global, zones: &ZoneMap, blocks: &[Vec<ColumnRef>]) -> Mem<Vec<ZoneStat>>
     requires lengths { have_lengths zones.now (map block_view blocks.now) ≡ true }
     requires types { have_types zones.now (map block_view blocks.now) ≡ true }
-    ensures { IfOk result (λ stats. map stat_view stats.items ≡ built_stats (table_of zones.now (map block_view blocks.now))) }
+    ensures { IfOk result (λ stats. map stat_view stats.items ≡ built_stats (table_of_blocks zones.now (map block_view blocks.now))) }
 {
     let fields = columns_of(zones);
     let mut stats = Vec::new(alloc);

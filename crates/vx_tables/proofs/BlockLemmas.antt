@@ -10,7 +10,7 @@ use Rattle.vx_dtype.specs.StructTypes.{field_types}
 use Rattle.vx_dtype.specs.Structs.{field_of}
 use Rattle.vx_column.specs.Columns.{Column, zip_rows}
 use Rattle.vx_semantics.specs.Tables.{Zones}
-use Rattle.vx_tables.specs.Blocks.{block_long, blocks_long, is_type, block_typed, have_lengths, have_types, rows_of_columns, table_of, column_named}
+use Rattle.vx_tables.specs.Blocks.{block_long, blocks_long, is_type, block_typed, have_lengths, have_types, rows_of_columns, table_of_blocks, column_named}
 use Rattle.vx_tables.specs.Blocks.{block_view}
 use Rattle.std.specs.declared.vec.Vec.{Vec}
 use Rattle.std.specs.declared.alloc.Global.{Global}
@@ -97,7 +97,7 @@ table_lengths fs w (n ∷ ns) (cs ∷ bs) h =
 pub record HeldColumn (zones : Zones) (bs : List (List Column)) (i : ℕ) (f : Bytes) (c : Column) : Type 0 where
   pub typed : field_type f zones.columns ≡ Some c.ty
   pub counted : slice_get zones.lengths i ≡ Some (length c.rows)
-  pub rows : option_map (map (field_of f)) (slice_get (table_of zones bs).blocks i) ≡ Some c.rows
+  pub rows : option_map (map (field_of f)) (slice_get (table_of_blocks zones bs).blocks i) ≡ Some c.rows
 
 pub held : (zones : Zones) (bs : List (List Column)) (i : ℕ) (f : Bytes) (cs : List Column) (c : Column) → have_lengths zones bs ≡ true → have_types zones bs ≡ true → i < length zones.lengths → slice_get bs i ≡ Some cs → column_named f zones.columns cs ≡ Some c → HeldColumn zones bs i f c
 held zones bs i f cs c h k l e q =

@@ -67,8 +67,8 @@ abbrev pub rows_of_columns : Fields → ℕ → List Column → List Val
 rows_of_columns fs n cs = map struct_val (block_members fs n cs)
 
 -- the table of blocks of columns
-abbrev pub table_of : Zones → List (List Column) → Table
-table_of zones blocks = record { columns = zones.columns; blocks = zip_rows (rows_of_columns zones.columns) zones.lengths blocks }
+abbrev pub table_of_blocks : Zones → List (List Column) → Table
+table_of_blocks zones blocks = record { columns = zones.columns; blocks = zip_rows (rows_of_columns zones.columns) zones.lengths blocks }
 
 -- the column of the first field of this name
 abbrev pub column_named : Bytes → Fields → List Column → Option Column

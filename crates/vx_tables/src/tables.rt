@@ -7,7 +7,7 @@ ghost use Rattle.vx_dtype.specs.Structs.{field_of};
 ghost use Rattle.vx_column.specs.Columns.{rows_fit};
 ghost use Rattle.vx_zones.specs.Zoning.{broken_rule};
 ghost use Rattle.vx_tables.specs.Blocks.{block_view, block_long, blocks_long, is_type, block_typed, block_fits};
-ghost use Rattle.vx_tables.specs.Blocks.{have_lengths, have_types, table_of, column_named};
+ghost use Rattle.vx_tables.specs.Blocks.{have_lengths, have_types, table_of_blocks, column_named};
 
 use vx_column::ColumnRef;
 use vx_dtype::{FieldName, StructFields};
@@ -111,7 +111,7 @@ pub fn held_column<'a>(
     requires types { have_types zones.now (map block_view blocks.now) ≡ true }
     ensures dtype { field_type name.now zones.now.columns ≡ Some result.now.ty }
     ensures len { slice_get zones.now.lengths block ≡ Some (length result.now.rows) }
-    ensures rows { option_map (map (field_of name.now)) (slice_get (table_of zones.now (map block_view blocks.now)).blocks block) ≡ Some result.now.rows }
+    ensures rows { option_map (map (field_of name.now)) (slice_get (table_of_blocks zones.now (map block_view blocks.now)).blocks block) ≡ Some result.now.rows }
 {
     let columns = blocks[block as usize].as_slice();
     column_named(columns_of(zones), columns, name).unwrap()

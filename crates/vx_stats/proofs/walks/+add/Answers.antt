@@ -42,10 +42,13 @@ add_below-add_at-requires t c =
     let ty = type_view c.in-Some-field_by_index.dtype.now in
     let found = type-of-name fs c.loop-i.i f ty c.requires.distinct (sym c.in-Some.ensures) (sym c.in-Some-field_by_index.ensures) in
     let inner : c.as_slice.result.now ≡ map (field_column_of f) c.args.columns.now = c.as_slice.ensures.value ∙ c.in_ok-inner.ensures in
-    let d = depth-at c.loop-i.i fs ty (sym c.in-Some-field_by_index.ensures) in
-    (omega (arith, d, c.decreases),
-      (names-at fs c.loop-i.i ty c.requires.names (sym c.in-Some-field_by_index.ensures),
-        subst (AreOf ty) (sym inner) (fields-alike f fs ty c.args.columns.now found c.requires.structs)))
+    let d = depth-at c.loop-i.i fs ty (sym c.in-Some-field_by_index.ensures) in (
+      omega (arith, d, c.decreases),
+      (
+        names-at fs c.loop-i.i ty c.requires.names (sym c.in-Some-field_by_index.ensures),
+        subst (AreOf ty) (sym inner) (fields-alike f fs ty c.args.columns.now found c.requires.structs),
+      ),
+    )
 
 pub add_below-loop-i-preserved : goal.add_below-loop-i-preserved
 add_below-loop-i-preserved t c =
@@ -62,9 +65,9 @@ add_below-loop-i-preserved t c =
     let named : c.in_ok-clone.field-0 ≡ f = c.in_ok-clone.ensures.cases in
     let below : c.in_ok-below.below ≡ path ++ f ∷ [] = c.in_ok-below.ensures ∙ ap (λ (g : Bytes). path ++ g ∷ []) named in
     let inner : column_rows c.as_slice.result.now ≡ map (map (field_of f)) columns =
-        ap column_rows (c.as_slice.ensures.value ∙ c.in_ok-inner.ensures) ∙ field-rows f c.args.columns.now in
+    ap column_rows (c.as_slice.ensures.value ∙ c.in_ok-inner.ensures) ∙ field-rows f c.args.columns.now in
     let added : after ≡ now ++ walked_at (path ++ f ∷ []) ty (map (map (field_of f)) columns) =
-        c.in_ok-add_at.ensures ∙ (λ j. now ++ walked_at (below j) ty (inner j)) in
+    c.in_ok-add_at.ensures ∙ (λ j. now ++ walked_at (below j) ty (inner j)) in
     let here = fields_from-here i fs f ty (sym c.in-Some.ensures) (sym c.in-Some-field_by_index.ensures) in
     let left = c.loop-i.invariant ∙ ap (λ (gs : Fields). now ++ walked_below path gs columns) here in
     let more = one-field-more all now (walked_at (path ++ f ∷ []) ty (map (map (field_of f)) columns)) (walked_below path (fields_from (suc i) fs) columns) after left added in
