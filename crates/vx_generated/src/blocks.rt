@@ -2,7 +2,7 @@
 ghost use Rattle.std.specs.Prelude.{◌≡◌, ◌+◌, ◌/◌, ◌<◌, pos, Ok, map, option_map, IfOk};
 ghost use Rattle.vx_column.specs.Columns.{Column as ColumnData};
 ghost use Rattle.vx_column.specs.Answers.{Answers};
-ghost use Rattle.vx_scan.specs.StoreViews.{block_view};
+ghost use Rattle.vx_tables.specs.Blocks.{block_view};
 ghost use Rattle.vx_generated.specs.GeneratedBlocks.{column_in, columns_in, generated_blocks};
 ghost use Rattle.vx_generated.specs.GeneratedViews.{column_view, integers_of};
 

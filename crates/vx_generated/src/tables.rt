@@ -1,6 +1,6 @@
 // The generated table.
 ghost use Rattle.std.specs.Prelude.{◌≡◌, map, IfOk};
-ghost use Rattle.vx_scan.specs.StoreViews.{block_view};
+ghost use Rattle.vx_tables.specs.Blocks.{block_view};
 ghost use Rattle.vx_laws_generated.specs.GeneratedTable.{generated_zones, generated_filter, generated_projection};
 ghost use Rattle.vx_generated.specs.GeneratedBlocks.{generated_blocks};
 

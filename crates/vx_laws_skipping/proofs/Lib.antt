@@ -1,1 +1,1 @@
-mod Skipping
+mod ExactLemmas

@@ -8,7 +8,6 @@ use vx_partition::{
     PartitionedExpr, annotate_scope_access, descendent_annotations, immediate_scope_access,
     immediate_scope_accesses, partition,
 };
-use vx_prepare::prepare;
 
 /// `$.x > 10 and $.y > 10`.
 fn both(alloc: Global) -> Mem<ExprRef> {
@@ -105,16 +104,9 @@ fn count_annotated(alloc: Global) -> Mem<usize> {
     Ok(descendent_annotations(alloc, &above_ten(alloc, "x")?, &annotate)?.len())
 }
 
-/// How many columns `$.x > 10 and $.y > 10` asks, prepared.
-fn count_prepared(alloc: Global) -> Result<usize, Fail> {
-    let prepared = prepare(alloc, &both(alloc)?, &rows(alloc, "x", "y")?, &[])?;
-    Ok(prepared.columns().len())
-}
-
 #[test]
 fn ample(rt: HostRuntime) -> Result<(), Fail> {
     let alloc = rt.alloc();
     assert!(rt; count_annotated(alloc)? == 3);
-    assert!(rt; count_prepared(alloc)? == 2);
     Ok(())
 }

@@ -19,7 +19,7 @@ use Rattle.vx_wire.specs.Encodings.{is_default_kind}
 use Rattle.vx_wire.specs.declared.ExprEncoding.{ExprEncoding}
 use Rattle.vx_tables.specs.Blocks.{table_of_blocks, table_refusal, have_lengths, have_types}
 use Rattle.vx_scan.specs.Reports.{Report, report_view}
-use Rattle.vx_scan.specs.Scanning.{IsScan, IsReport, IsStopped}
+use Rattle.vx_scan.specs.Scanning.{IsScan, IsReport, IsScanBroken}
 use Rattle.vx_scan.specs.Stores.{Read, StoreSeen, IsSameStore}
 use Rattle.vx_scan.specs.StoreViews.{StoreState, store_seen}
 use Rattle.vx_scan.specs.Texts.{SpellBoth, AreRefused}
@@ -92,7 +92,7 @@ report_told a f p s r text same report told =
     )
 
 -- and of one that breaks
-broken_told : (cause : Cause) (a : RequestedScan) (f p : Tree) (s : StoreSeen) → IsSameStore (fresh a) s → IsStopped cause [] f p (fresh a) s
+broken_told : (cause : Cause) (a : RequestedScan) (f p : Tree) (s : StoreSeen) → IsSameStore (fresh a) s → IsScanBroken cause [] f p (fresh a) s
     → (scan_breaks_by cause a f p ≡ true) × (s ≡ broken_store a f p)
 broken_told cause a f p s same broken =
     (broken.first_breaks, store_after a (reads_to_break (scan_table a) a.zones [] f p) s same (broken.reads.grown ∙ broken.reads.told) broken.unfailed)
@@ -129,7 +129,7 @@ no_fault a refused = elim refused [ inl none ↦ none | inr later ↦ later.1 ]
 
 -- the scan of a filter and a projection that breaks ends so
 broken_scan : (cause : Cause) (ending : Ending) (a : RequestedScan) (f p : Tree) (s : StoreSeen) → SpellBoth is_default_kind a.filter a.projection f p
-    → IsSameStore (fresh a) s → IsStopped cause [] f p (fresh a) s
+    → IsSameStore (fresh a) s → IsScanBroken cause [] f p (fresh a) s
     → ((scan_breaks_by cause a f p ≡ true) × (s ≡ broken_store a f p) → EndsBy a f p ending s) → IsScanned a ending s
 broken_scan cause ending a f p s spelled same broken ends = record {
   filter = f;

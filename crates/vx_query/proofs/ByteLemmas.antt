@@ -5,7 +5,7 @@ use Rattle.vx_dtype.specs.Types.{Bytes, Ty, bool_ty, int_ty, text_ty, list_ty, s
 use Rattle.vx_expr.specs.Trees.{Tree, root, literal, get_item, binary, not_of, is_null_of, like, between, cast, list_contains, pack, merge, select, dynamic}
 use Rattle.vx_wire_bytes.specs.Fields.{IsShort, IsText}
 use Rattle.vx_wire_bytes.specs.TypeForms.{NamesAre, FieldNamesAre}
-use Rattle.vx_wire_bytes.specs.Wires.{Wire, node, Wires, no_wires, first, SpellsScan, IsSpellable, AreSpellable, HasShortParts, HaveShortParts}
+use Rattle.vx_wire_bytes.specs.Wires.{Wire, node, Wires, no_wires, first, Spells, IsSpellable, AreSpellable, HasShortParts, HaveShortParts}
 use Rattle.vx_wire_bytes.proofs.LengthLemmas.{texts_short}
 use Rattle.vx_wire.specs.Forms.{wire_of, Everywhere}
 use Rattle.vx_wire.specs.Metadata.{HasMetadata, IsSerializable, HasShortMetadata}
@@ -79,7 +79,7 @@ mutual
   all_parts_short (first w ws) h = (parts_short w h.0, all_parts_short ws h.1)
 
 -- an expression whose wire tree was written has bytes
-pub has_bytes : (e : Tree) (w : Wire) (bytes : Bytes) → w ≡ wire_of e → IsShallow e → Everywhere HasShortMetadata e → SpellsScan bytes w → HasBytes e
+pub has_bytes : (e : Tree) (w : Wire) (bytes : Bytes) → w ≡ wire_of e → IsShallow e → Everywhere HasShortMetadata e → Spells bytes w → HasBytes e
 has_bytes e w bytes is shallow short spelled =
     let parts : HasShortParts (wire_of e) = subst HasShortParts is (parts_short w spelled.spellable) in
     (shallow, λ long. elim long [ inl metadata ↦ metadata short | inr wires ↦ wires parts ])

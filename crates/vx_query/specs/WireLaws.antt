@@ -2,11 +2,11 @@
 use Rattle.std.specs.Prelude.{◌≡◌, Bool}
 use Rattle.vx_dtype.specs.Types.{Bytes}
 use Rattle.vx_expr.specs.Trees.{Tree}
-use Rattle.vx_wire_bytes.specs.Wires.{Wire, SpellsScan}
+use Rattle.vx_wire_bytes.specs.Wires.{Wire, Spells}
 use Rattle.vx_wire.specs.Building.{IsBuilt}
 use Rattle.vx_wire.specs.declared.encodings.ExprEncoding.{ExprEncoding}
 
 -- bytes spell one tree at most, and a tree builds one expression at most
 pub record WireLaws : Type 0 where
-  pub spells : (bytes : Bytes) (a b : Wire) → SpellsScan bytes a → SpellsScan bytes b → a ≡ b
+  pub spells : (bytes : Bytes) (a b : Wire) → Spells bytes a → Spells bytes b → a ≡ b
   pub builds : (holds : ExprEncoding → Bool) (wire : Wire) (a b : Tree) → IsBuilt holds wire a → IsBuilt holds wire b → a ≡ b

@@ -81,7 +81,7 @@ fn scan_store(
     let registry = ExprRegistry::default();
     match scan(alloc, &registry, filter, projection, &mut store) {
         Ok(report) => Ok(Scanned {
-            ending: Ending::Report(outcome_text(alloc, &report, &store)?),
+            ending: Ending::Report(text_of(alloc, &report, &store)?),
             store,
         }),
         Err(error) => unreported(error, store),
@@ -122,7 +122,7 @@ fn unreported(error: ScanError, store: MemoryStore) -> Result<Scanned, Refusal>
 }
 
 /// The text of the report of a scan of a store.
-fn outcome_text(alloc: Global, report: &ScanReport, store: &MemoryStore) -> Mem<String>
+fn text_of(alloc: Global, report: &ScanReport, store: &MemoryStore) -> Mem<String>
     requires { raws_fit (type_view report.now.dtype) report.now.rows ≡ true }
     ensures { IfOk result (λ text. string_bytes text ≡ report_text (map value_text (report_view report.now).rows) report.now.skipped
         (read_columns (table_of_blocks store.now.zones store.now.blocks) store.now.reads) (length store.now.reads)) }

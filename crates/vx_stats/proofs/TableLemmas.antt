@@ -122,7 +122,7 @@ never-broken : (o : Option ZoneError) (e : ZoneError) → o ≡ None → o ≡ S
 never-broken o e h k = let no : None ≡ Some e = sym h ∙ k in cc
 
 -- zones that break no rule are refused for want of memory alone
-pub only-memory : (z : Zones) (e : ZoneError) → ZoneAnswers.Answers z (Err e) → broken_rule z ≡ None → e ≡ errors.NoMemory
+pub only-memory : (z : Zones) (e : ZoneError) → ZoneAnswers.MakesZones z (Err e) → broken_rule z ≡ None → e ≡ errors.NoMemory
 only-memory z errors.NoMemory h k = refl
 only-memory z errors.DuplicateName h k = absurd (never-broken (broken_rule z) errors.DuplicateName k h)
 only-memory z errors.DeepType h k = absurd (never-broken (broken_rule z) errors.DeepType k h)

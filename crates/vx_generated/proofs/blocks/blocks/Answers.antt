@@ -1,6 +1,6 @@
 use Rattle.std.proofs.Common.{◌∙◌, ap, map, ◌∷◌, []}
 use Rattle.std.proofs.lemmas.List.{map-append}
-use Rattle.vx_scan.specs.StoreViews.{block_view}
+use Rattle.vx_tables.specs.Blocks.{block_view}
 use Rattle.vx_generated.specs.GeneratedBlocks.{columns_in}
 use Rattle.vx_generated.proofs.NumberLemmas.{more-from_zero}
 use Rattle.vx_generated.proofs.blocks.blocks.Goals as goal

@@ -1,6 +1,6 @@
 use Rattle.std.proofs.Common.{◌≡◌, map}
 use Rattle.std.specs.List.{range_with_len}
-use Rattle.vx_scan.specs.StoreViews.{block_view}
+use Rattle.vx_tables.specs.Blocks.{block_view}
 use Rattle.vx_generated.specs.GeneratedBlocks.{columns_in}
 use Rattle.vx_generated.proofs.blocks.blocks.Given as goal
 

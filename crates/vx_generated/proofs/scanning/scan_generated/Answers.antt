@@ -2,7 +2,8 @@ use Rattle.std.proofs.Common.{◌∙◌, ◌<◌, ◌^◌, sym, ap, subst, map, 
 use Rattle.vx_semantics.specs.Tables.{Zones}
 use Rattle.vx_wire.specs.Registries.{registered}
 use Rattle.vx_tables.specs.Blocks.{table_refusal}
-use Rattle.vx_scan.specs.StoreViews.{block_view, store_seen}
+use Rattle.vx_scan.specs.StoreViews.{store_seen}
+use Rattle.vx_tables.specs.Blocks.{block_view}
 use Rattle.vx_generated.specs.Writable.{IsWritable}
 use Rattle.vx_generated.proofs.SpelledLemmas.{filter-writable, projection-writable}
 use Rattle.vx_generated.proofs.TableLemmas.{blocks-agree}

@@ -1,4 +1,4 @@
-use Rattle.vx_laws_skipping.proofs.Skipping.{ruled_out_is_exact}
+use Rattle.vx_laws_skipping.proofs.ExactLemmas.{ruled_out_is_exact}
 use Rattle.vx_laws_skipping.proofs.skipping.ruled_out_is_exact.Goals as goal
 
 pub returns : goal.returns

@@ -1,4 +1,4 @@
-use Rattle.vx_laws_skipping.proofs.Skipping.{scans_skip_exactly, text_scans_skip_exactly}
+use Rattle.vx_laws_skipping.proofs.ExactLemmas.{scans_skip_exactly, text_scans_skip_exactly}
 use Rattle.vx_laws_skipping.proofs.skipping.scans_skip_exactly.Goals as goal
 
 pub returns-clause-exprs : goal.returns-clause-exprs
