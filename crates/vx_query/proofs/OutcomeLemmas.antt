@@ -9,10 +9,12 @@ use Rattle.vx_semantics.specs.Breaks.{by_sum, by_cast}
 use Rattle.vx_io.specs.Counts.{one_more}
 use Rattle.vx_io.specs.Ends.{TookUpTo}
 use Rattle.vx_scan.specs.Stores.{StoreSeen}
+use Rattle.vx_laws_generated.specs.GeneratedLine.{gen_line}
+use Rattle.vx_generated.specs.GeneratedBlocks.{generated_store}
 use Rattle.vx_request.specs.Requests.{most_bytes}
 use Rattle.vx_request.specs.declared.errors.RequestError.TheVariants as requests
 use Rattle.vx_query.specs.EndingViews.{ending_status, ending_text, EndsBy, IsAnswered}
-use Rattle.vx_query.specs.Running.{End, Form, Showing, shown_text, scan_form, explain_form, show_form, text_form, reads_request, shown_word, Outcome, out_of_memory, unread, refused, unscanned, broken, answered, explained, undecoded, unshown, shown, unnamed, unserialized, overlong, named, Writing, IsOutcome, IsTaken, IsPartTaken, IsWriting, IsRun, status_of, outcome_text, used_by}
+use Rattle.vx_query.specs.Running.{End, Form, Showing, shown_text, scan_form, explain_form, show_form, text_form, gen_form, reads_request, shown_word, Outcome, out_of_memory, unread, refused, unscanned, broken, answered, explained, undecoded, unshown, shown, unnamed, unserialized, overlong, named, summed, Writing, IsOutcome, IsTaken, IsPartTaken, IsWriting, IsRun, status_of, outcome_text, used_by}
 use Rattle.vx_query.specs.RefusalViews.{refusal_status, refusal_text, input_refusal, IsUnanswered, IsWordUnshown, IsQueryRefused}
 use Rattle.vx_query.specs.TextViews.{answer_status, answer_text, ExplainsInput, ShowsWord, AnswersQuery, IsAnsweredBy}
 use Rattle.vx_io.specs.declared.reading.InputError.{InputError}
@@ -187,3 +189,22 @@ run_ended form i i' o o' used status told text ending is by tells texts (writing
   written = subst (λ k. k) (λ j. IsWriting o o' ((texts ∙ sym by.3) j) ((tells ∙ sym by.2) j) status writing) written;
   held = by.4;
 }
+
+-- what is told of the scan of a generated table
+abbrev pub IsSummed : ℕ → Option StoreSeen → End → End → ℕ → Type 0
+IsSummed rows used o o' status =
+    (source : End) → (outcome : Outcome) × IsOutcome (Some (gen_form rows)) source source outcome × (used ≡ used_by outcome)
+    × ((writing : Writing) × IsWriting o o' (outcome_text outcome) (status_of outcome) status writing)
+
+-- a generated table that was scanned
+pub told_summed : (rows : ℕ) (seen : StoreSeen) (o o' : End) (status : ℕ) (text : Bytes) → text ≡ gen_line rows → seen ≡ generated_store rows
+    → (writing : Writing) × IsWriting o o' text 0 status writing → IsSummed rows (Some seen) o o' status
+told_summed rows seen o o' status text texts stores (writing, written) source =
+    (summed rows, (refl, refl), ap Some stores, (writing, subst (λ k. k) (λ j. IsWriting o o' (texts j) 0 status writing) written))
+
+-- and one for which there was no memory
+pub told_unsummed : (rows : ℕ) (used : Option StoreSeen) (o o' : End) (status told : ℕ) (text : Bytes) → used ≡ None → told ≡ refusal_status NoMemory
+    → text ≡ refusal_text NoMemory
+    → (writing : Writing) × IsWriting o o' text told status writing → IsSummed rows used o o' status
+told_unsummed rows used o o' status told text unused tells texts (writing, written) source =
+    (out_of_memory, inr (inr (rows, refl), refl), unused, (writing, subst (λ k. k) (λ j. IsWriting o o' (texts j) (tells j) status writing) written))
