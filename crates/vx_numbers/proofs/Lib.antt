@@ -4,3 +4,5 @@ pub mod ComparisonLemmas
 pub mod RangeLemmas
 pub mod MaskLemmas
 mod KeptNumbers
+pub mod BoundLemmas
+pub mod NullCounts

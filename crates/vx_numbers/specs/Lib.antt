@@ -2,3 +2,4 @@ pub mod Numbers
 pub mod Lanes
 pub mod NumbersEqual
 pub mod LaneViews
+pub mod Bounds

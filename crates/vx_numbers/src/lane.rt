@@ -1,12 +1,15 @@
 // Numbers of one width, and those of them that are null.
-ghost use Rattle.std.specs.Prelude.{◌≡◌, ℕ, ◌+◌, ◌*◌, ◌<◌, ◌≤◌, ◌^◌, true, Option, Some, None, [], ◌∷◌, ◌++◌, length, map, replicate, slice_index_or, is_some, cond, IfOk, Decides};
+ghost use Rattle.std.specs.Prelude.{◌≡◌, ℕ, ◌+◌, ◌*◌, ◌<◌, ◌≤◌, ◌^◌, true, Option, Some, None, [], ◌∷◌, ◌++◌, length, map, replicate, slice_index_or, is_some, is_none, cond, IfOk, Decides};
+ghost use Rattle.std.specs.List.{filter};
 ghost use Rattle.std.specs.Option.{option_map};
 ghost use Rattle.std.specs.Simd.Lanes.{zip2};
 ghost use Rattle.vx_words.specs.Truths.{hidden_if, kept_items};
 ghost use Rattle.vx_numbers.specs.Numbers.{all_in_range, fits_ptype, compared, null_test, on_both, total_in, if_in_range};
 ghost use Rattle.vx_numbers.specs.NumbersEqual.{number_eq};
+ghost use Rattle.vx_numbers.specs.Bounds.{least_number, greatest_number};
 ghost use Rattle.vx_numbers.specs.Lanes.{numbers_of, number_in, number_of, AreTidyNumbers};
 
+use crate::bounds::{known_bounds, value_bounds};
 use crate::kernels::{words, words_with};
 use crate::operators::Operator;
 use crate::totals::{Total, total_of};
@@ -15,7 +18,7 @@ use std::alloc::{AllocError, Global};
 use std::marker::Model;
 use std::rc::Rc;
 use vx_dtype::Mem;
-use vx_words::{PLACES, Truths, bit, both, push_bit, repeated_bit, without};
+use vx_words::{PLACES, Truths, bit, bit_count, both, push_bit, repeated_bit, without};
 
 /// Numbers of one width, null at some places. The values are shared by clones and by lists that differ in their nulls alone.
 #[derive(Debug, Drop)]
@@ -201,6 +204,35 @@ impl<T: Width> Lane<T> {
         Ok(Some(lane))
     }
 
+    /// The least and the greatest number; none where all are null.
+    pub(crate) fn bounds(&self) -> (Option<i128>, Option<i128>)
+        ensures least { result.0 ≡ least_number self.now }
+        ensures greatest { result.1 ≡ greatest_number self.now }
+    {
+        let (least, greatest) = self.own_bounds();
+        (wide(least), wide(greatest))
+    }
+
+    /// The least and the greatest number, in the type's own width; none where all are null.
+    fn own_bounds(&self) -> (Option<T>, Option<T>)
+        ensures least { option_map T.value result.0 ≡ least_number self.now }
+        ensures greatest { option_map T.value result.1 ≡ greatest_number self.now }
+    {
+        let (valid, values) = self.parts();
+        if self.null_count() == 0 {
+            return value_bounds(values);
+        }
+        known_bounds(valid, values)
+    }
+
+    /// At how many places there is no number.
+    pub(crate) fn null_count(&self) -> usize
+        ensures { result ≡ length (filter is_none self.now) }
+    {
+        let (valid, values) = self.parts();
+        values.len() - bit_count(valid)
+    }
+
     /// Whether two lists have the same numbers.
     pub(crate) fn same(&self, other: &Lane<T>) -> bool
         ensures { Decides result (self.now ≡ other.now) }
@@ -247,6 +279,16 @@ fn of_number<T: Width>(number: Option<i128>) -> Option<T>
 {
     match number {
         Some(number) => Some(T::of_number(number)),
+        None => None,
+    }
+}
+
+/// The number, or null.
+fn wide<T: Width>(number: Option<T>) -> Option<i128>
+    ensures { result ≡ option_map T.value number }
+{
+    match number {
+        Some(number) => Some(number.number()),
         None => None,
     }
 }

@@ -1,6 +1,7 @@
 //! Lists of integers of one type, kept in the type's own width beside words of validity.
 #![tactic(auto)]
 
+mod bounds;
 mod kernels;
 mod lane;
 mod numbers;

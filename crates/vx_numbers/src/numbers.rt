@@ -1,10 +1,12 @@
 // Lists of numbers of one integer type.
-ghost use Rattle.std.specs.Prelude.{◌≡◌, ℕ, ◌<◌, true, Option, Some, None, length, map, replicate, slice_index_or, IfOk, Decides};
+ghost use Rattle.std.specs.Prelude.{◌≡◌, ℕ, ◌<◌, true, Option, Some, None, length, map, replicate, slice_index_or, is_none, IfOk, Decides};
+ghost use Rattle.std.specs.List.{filter};
 ghost use Rattle.std.specs.Cmp.{partial_equiv_from_equiv};
 ghost use Rattle.std.specs.Option.{option_map};
 ghost use Rattle.std.specs.Simd.Lanes.{zip2};
 ghost use Rattle.vx_words.specs.Truths.{hidden_if, kept_items};
 ghost use Rattle.vx_numbers.specs.Numbers.{number_list, all_in_range, fits_ptype, compared, null_test, on_both, sums, differences, if_in_range};
+ghost use Rattle.vx_numbers.specs.Bounds.{least_number, greatest_number};
 ghost use Rattle.vx_numbers.specs.NumbersEqual.{numbers_eq, numbers_eq_equiv};
 ghost use Rattle.vx_dtype.specs.TypeRules.{same_ptype};
 ghost use Rattle.vx_numbers.specs.LaneViews.{list_of};
@@ -200,6 +202,39 @@ impl Numbers {
             Lanes::I16(lane) => lane.is_null(alloc),
             Lanes::I32(lane) => lane.is_null(alloc),
             Lanes::I64(lane) => lane.is_null(alloc),
+        }
+    }
+
+    /// The least and the greatest number; none where all are null.
+    pub fn bounds(&self) -> (Option<i128>, Option<i128>)
+        ensures least { result.0 ≡ least_number self.now.numbers }
+        ensures greatest { result.1 ≡ greatest_number self.now.numbers }
+    {
+        match &self.lanes {
+            Lanes::U8(lane) => lane.bounds(),
+            Lanes::U16(lane) => lane.bounds(),
+            Lanes::U32(lane) => lane.bounds(),
+            Lanes::U64(lane) => lane.bounds(),
+            Lanes::I8(lane) => lane.bounds(),
+            Lanes::I16(lane) => lane.bounds(),
+            Lanes::I32(lane) => lane.bounds(),
+            Lanes::I64(lane) => lane.bounds(),
+        }
+    }
+
+    /// At how many places there is no number.
+    pub fn null_count(&self) -> usize
+        ensures { result ≡ length (filter is_none self.now.numbers) }
+    {
+        match &self.lanes {
+            Lanes::U8(lane) => lane.null_count(),
+            Lanes::U16(lane) => lane.null_count(),
+            Lanes::U32(lane) => lane.null_count(),
+            Lanes::U64(lane) => lane.null_count(),
+            Lanes::I8(lane) => lane.null_count(),
+            Lanes::I16(lane) => lane.null_count(),
+            Lanes::I32(lane) => lane.null_count(),
+            Lanes::I64(lane) => lane.null_count(),
         }
     }
 

@@ -38,7 +38,7 @@ pub(crate) fn next_bit(words: &[u64], from: usize) -> Option<usize>
 }
 
 /// How many bits are set, where these can be counted.
-pub(crate) fn bit_count(words: &[u64]) -> usize
+pub fn bit_count(words: &[u64]) -> usize
     requires { count_by (bit_of words.now) (range_with_len 0 (64 * length words.now)) < 2 ^ 64 }
     ensures { result ≡ count_by (bit_of words.now) (range_with_len 0 (64 * length words.now)) }
 {

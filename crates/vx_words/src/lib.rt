@@ -5,6 +5,6 @@ mod bits;
 mod logic;
 mod truths;
 
-pub use bits::{PLACES, bit, both, push_bit, repeated_bit, without};
+pub use bits::{PLACES, bit, bit_count, both, push_bit, repeated_bit, without};
 pub use logic::{and_words, not_words, or_words};
 pub use truths::Truths;
