@@ -19,8 +19,9 @@ use Rattle.vx_numbers.specs.Numbers.{NumberList, number_list, fits_ptype, all_in
 use Rattle.vx_column.specs.declared.errors.ColumnError.{ColumnError}
 use Rattle.vx_column.specs.Answers.{no_faults, unless_faulty}
 use Rattle.vx_column.specs.Columns.{Column, column, rows_fit, seen}
-use Rattle.vx_column.specs.Cells.{numbers_vals, numbers_fit, AreNumbersOf}
-use Rattle.vx_column.specs.Totals.{number_val, number_fits, has_null, stray_null}
+use Rattle.vx_column.specs.Cells.{numbers_fit, AreNumbersOf}
+use Rattle.vx_column.specs.PlainValues.{number_val, numbers_vals}
+use Rattle.vx_column.specs.Totals.{number_fits, has_null, stray_null}
 use Rattle.vx_column.proofs.FitLemmas.{both_of, of_both}
 use Rattle.vx_column.proofs.RowLemmas.{map_repeated}
 use Rattle.vx_column.proofs.CellLemmas.{rows_fit_repeated}

@@ -20,8 +20,9 @@ use Rattle.vx_words.specs.Truths.{vals_of}
 use Rattle.vx_numbers.specs.Numbers.{NumberList, compared}
 use Rattle.vx_column.specs.RawParts.{truth_fits}
 use Rattle.vx_column.specs.Columns.{zip_rows}
-use Rattle.vx_column.specs.Cells.{numbers_vals, numbers_fit, truths_fit, AreNumbersOf, AreTruthsOf}
-use Rattle.vx_column.specs.Totals.{number_val, number_fits}
+use Rattle.vx_column.specs.Cells.{numbers_fit, truths_fit, AreNumbersOf, AreTruthsOf}
+use Rattle.vx_column.specs.PlainValues.{number_val, numbers_vals}
+use Rattle.vx_column.specs.Totals.{number_fits}
 use Rattle.vx_column.proofs.FitLemmas.{both_of, of_both}
 use Rattle.vx_column.proofs.OrderLemmas.{nullable_left, nullable_right}
 use Rattle.vx_column.proofs.NumberLemmas.{same_int_ty}

@@ -20,9 +20,10 @@ use Rattle.vx_numbers.specs.Numbers.{NumberList, number_list, fits_ptype, all_in
 use Rattle.vx_column.specs.RawParts.{raw_number}
 use Rattle.vx_column.specs.Columns.{Column, column, row_at, rows_fit, raws_fit, raw_rows, values_fit, seen, seen_rows, zip_rows, kept_rows, masked}
 use Rattle.vx_column.specs.Answers.{optional_raw}
-use Rattle.vx_column.specs.Cells.{numbers_vals, numbers_fit, truths_fit, AreNumbersOf, AreTruthsOf, kept_column}
+use Rattle.vx_column.specs.Cells.{numbers_fit, truths_fit, AreNumbersOf, AreTruthsOf, kept_column}
+use Rattle.vx_column.specs.PlainValues.{number_val, numbers_vals}
 use Rattle.vx_column.specs.StructColumns.{StandsAt}
-use Rattle.vx_column.specs.Totals.{number_val, number_fits}
+use Rattle.vx_column.specs.Totals.{number_fits}
 use Rattle.vx_column.proofs.FitLemmas.{both_of, of_both, same_ptype_self}
 use Rattle.vx_column.proofs.TruthLemmas.{is_true_of}
 

@@ -15,8 +15,9 @@ use Rattle.vx_column.specs.declared.sums.Total.TheVariants.{Sum, Difference}
 use Rattle.vx_column.specs.declared.errors.ColumnError.{ColumnError}
 use Rattle.vx_column.specs.Answers.{no_faults, unless_faulty}
 use Rattle.vx_column.specs.Columns.{Column, column, zip_rows}
-use Rattle.vx_column.specs.Cells.{numbers_vals, numbers_fit, AreNumbersOf}
-use Rattle.vx_column.specs.Totals.{total3, totals, number_val, number_fits}
+use Rattle.vx_column.specs.Cells.{numbers_fit, AreNumbersOf}
+use Rattle.vx_column.specs.PlainValues.{number_val, numbers_vals}
+use Rattle.vx_column.specs.Totals.{total3, totals, number_fits}
 use Rattle.vx_column.proofs.FitLemmas.{both_of, of_both}
 use Rattle.vx_column.proofs.OrderLemmas.{nullable_left, nullable_right}
 use Rattle.vx_column.proofs.NumberLemmas.{numbers_are, number_rows_fit}

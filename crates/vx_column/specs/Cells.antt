@@ -19,7 +19,8 @@ use Rattle.vx_column.specs.declared.cells.Cells.TheVariants.{Constant, Rows, Tru
 use Rattle.vx_column.specs.Columns.{Column, column, row_at, rows_fit, values_fit, seen, seen_rows, kept_rows, masked, zip_rows}
 use Rattle.vx_column.specs.ColumnEqual.{val_feed}
 use Rattle.vx_column.specs.RawParts.{truth_fits}
-use Rattle.vx_column.specs.Totals.{number_val, number_fits}
+use Rattle.vx_column.specs.Totals.{number_fits}
+use Rattle.vx_column.specs.PlainValues.{numbers_vals}
 use Rattle.vx_words.specs.Truths.{vals_of}
 use Rattle.vx_numbers.specs.Numbers.{NumberList}
 use Rattle.vx_column.specs.StructColumns.{column_types, all_have_rows, struct_row}
@@ -27,10 +28,6 @@ use Rattle.vx_column.specs.StructColumns.{column_types, all_have_rows, struct_ro
 -- the structs of the columns' values at each of this many rows
 abbrev pub structs_of : List Bytes → List Column → ℕ → List Val
 structs_of fs cs n = map (struct_row fs cs None) (range_with_len 0 n)
-
--- the values that numbers of an integer type stand for
-abbrev pub numbers_vals : NumberList → List Val
-numbers_vals ns = map (number_val ns.ptype) ns.numbers
 
 -- the rows of a type that the parts hold
 abbrev pub cell_rows : Ty → Cells → List Val

@@ -1,4 +1,5 @@
 pub mod Columns
+pub mod PlainValues
 pub mod ValCodes
 pub mod RawParts
 pub mod Answers
@@ -16,3 +17,4 @@ pub mod Splits
 pub mod Connectives
 pub mod Lookups
 pub use Rattle.vx_words.specs.Words
+pub use Rattle.vx_numbers.specs.Numbers

@@ -1,12 +1,9 @@
 -- For the checker: no public clause cites this. Patterns of LIKE as the code keeps them, in parts, and how far they go.
-use Rattle.std.specs.Prelude.{◌≡◌, ◌<◌, ◌≤◌, ⊤, ℕ, ◌==◌, Bool, true, false, cond, List, [], ◌∷◌, ◌++◌, map, length, Option, Some, None}
+use Rattle.std.specs.Prelude.{◌≡◌, ◌<◌, ◌≤◌, ⊤, ℕ, ◌==◌, Bool, true, false, cond, List, [], ◌∷◌, ◌++◌, map, length}
 use Rattle.std.specs.Str.{chars}
 use Rattle.std.specs.String.{string_bytes}
 use Rattle.vx_dtype.specs.Like.{Wildcard, any_run, any_one, just, wildcards, matches, some_suffix, folded}
-use Rattle.vx_dtype.specs.Values.{Val, null_val, text_val}
 use Rattle.vx_dtype.specs.Types.{Bytes}
-use Rattle.vx_dtype.specs.declared.Nullability.{Nullability}
-use Rattle.vx_dtype.specs.TypeRules.{is_nullable}
 use Rattle.vx_column.specs.declared.patterns.Meaning.{Meaning}
 use Rattle.vx_column.specs.declared.patterns.Meaning.TheVariants as meaning
 use Rattle.vx_column.specs.declared.patterns.Needle.{Needle}
@@ -98,13 +95,3 @@ IsReach parts text Matched = matches (map part_view parts) (chars text) ≡ true
 IsReach parts text (Run needle behind rest) = IsRunFound parts behind.now needle.now text rest.now
 IsReach parts text TextEnds = some_suffix (matches (map part_view parts)) (chars text) ≡ false
 IsReach parts text Differs = matches (map part_view parts) (chars text) ≡ false
-
--- the value at a row that a text stands for
-abbrev pub text_or_null : Option Bytes → Val
-text_or_null None = null_val
-text_or_null (Some s) = text_val s
-
--- whether a text type of this nullability has the text, or the null where there is none
-abbrev pub text_or_null_fits : Nullability → Option Bytes → Bool
-text_or_null_fits n None = is_nullable n
-text_or_null_fits n (Some s) = true

@@ -1,9 +1,9 @@
--- For the checker: no public clause cites this. Sums and differences by one name, and the values of numbers.
+-- For the checker: no public clause cites this. Sums and differences by one name, and which numbers are of a type.
 use Rattle.std.specs.Prelude.{ℤ, Bool, true, false, not, ◌&&◌, List, [], ◌∷◌, Option, Some, None}
 use Rattle.vx_dtype.specs.declared.Nullability.{Nullability}
 use Rattle.vx_dtype.specs.declared.PType.{PType}
 use Rattle.vx_dtype.specs.TypeRules.{is_nullable}
-use Rattle.vx_dtype.specs.Values.{Val, null_val, int_val}
+use Rattle.vx_dtype.specs.Values.{Val}
 use Rattle.vx_dtype.specs.Fits.{in_range}
 use Rattle.vx_dtype.specs.Sums.{add3, sub3}
 use Rattle.vx_numbers.specs.Numbers.{sums, differences}
@@ -19,11 +19,6 @@ total3 Difference = sub3
 abbrev pub totals : Total → List (Option ℤ) → List (Option ℤ) → List (Option ℤ)
 totals Sum = sums
 totals Difference = differences
-
--- the value of an integer type that a number stands for, and null where there is none
-abbrev pub number_val : PType → Option ℤ → Val
-number_val p None = null_val
-number_val p (Some i) = int_val p i
 
 -- whether an integer type of this nullability has the number, or the null where there is none
 abbrev pub number_fits : PType → Nullability → Option ℤ → Bool

@@ -11,7 +11,7 @@ ghost use Rattle.vx_dtype.specs.RawViews.{raw_view};
 ghost use Rattle.vx_column.specs.declared.errors.ColumnError.TheVariants.{BadCast};
 ghost use Rattle.vx_column.specs.Columns.{column, seen};
 ghost use Rattle.vx_column.specs.RawParts.{raw_cast};
-ghost use Rattle.vx_column.specs.Cells.{numbers_vals};
+ghost use Rattle.vx_column.specs.PlainValues.{numbers_vals};
 ghost use Rattle.vx_column.specs.Totals.{stray_null};
 ghost use Rattle.vx_column.specs.Answers.{Answers, unless_faulty, GivesUnlessFaulty};
 

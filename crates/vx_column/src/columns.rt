@@ -10,7 +10,8 @@ ghost use Rattle.vx_column.specs.Answers.{Answers, column_of_raws};
 ghost use Rattle.vx_dtype.specs.TypeRules.{no_name_twice, field_names, fields_of, with_nullability};
 ghost use Rattle.vx_dtype.specs.TypeViews.{type_view};
 ghost use Rattle.vx_column.specs.Columns.{Column, column, row_at, rows_fit, values_fit, seen, seen_rows, masked, zip_rows};
-ghost use Rattle.vx_column.specs.Cells.{cell_rows, numbers_vals, structs_of, AreFieldsOf, AreValuesOf, AreNumbersOf, ArePartsOf, AreTruthsOf, masks_apart};
+ghost use Rattle.vx_column.specs.Cells.{cell_rows, structs_of, AreFieldsOf, AreValuesOf, AreNumbersOf, ArePartsOf, AreTruthsOf, masks_apart};
+ghost use Rattle.vx_column.specs.PlainValues.{numbers_vals};
 ghost use Rattle.vx_words.specs.Truths.{vals_of};
 
 use crate::cells::{Cells, is_hidden, numbers_in, truths_in};

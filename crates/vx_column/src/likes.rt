@@ -11,7 +11,7 @@ ghost use Rattle.vx_words.specs.Truths.{vals_of};
 ghost use Rattle.vx_column.specs.Cells.{truths_fit};
 ghost use Rattle.vx_column.specs.Columns.{seen, zip_rows};
 ghost use Rattle.vx_column.specs.RawParts.{truth_fits};
-ghost use Rattle.vx_column.specs.Patterns.{text_or_null, text_or_null_fits};
+ghost use Rattle.vx_column.specs.PlainValues.{text_or_null, text_or_null_fits};
 ghost use Rattle.vx_column.specs.LastPatterns.{IsPatternFor, IsLastIfAny};
 
 use crate::columns::ColumnRef;

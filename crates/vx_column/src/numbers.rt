@@ -8,10 +8,11 @@ ghost use Rattle.vx_dtype.specs.Types.{int_ty};
 ghost use Rattle.vx_dtype.specs.TypeRules.{is_int_ty, nullability_of};
 ghost use Rattle.vx_dtype.specs.Fits.{fits};
 ghost use Rattle.vx_dtype.specs.RawViews.{raw_view};
-ghost use Rattle.vx_column.specs.Cells.{numbers_vals, AreNumbersOf};
+ghost use Rattle.vx_column.specs.Cells.{AreNumbersOf};
+ghost use Rattle.vx_column.specs.PlainValues.{number_val, numbers_vals};
 ghost use Rattle.vx_column.specs.Columns.{seen, values_fit};
 ghost use Rattle.vx_column.specs.RawParts.{raw_number};
-ghost use Rattle.vx_column.specs.Totals.{number_val, number_fits};
+ghost use Rattle.vx_column.specs.Totals.{number_fits};
 ghost use Rattle.vx_numbers.specs.Numbers.{number_list};
 
 use crate::cells::Cells;
@@ -56,6 +57,18 @@ pub(crate) fn numbers_of_values(alloc: Global, ptype: PType, values: &[ScalarVal
         numbers.push(number_of(value))?;
     }
     Numbers::from_options(alloc, ptype, numbers.as_slice())
+}
+
+impl ColumnRef {
+    /// The numbers at the rows of a column of an integer type, in order and of that type, null where a row is. They are those that the column
+    /// keeps, but for a column that is kept as one value: then they are made, a number for each row.
+    pub fn numbers(&self, alloc: Global) -> Mem<Rc<Numbers>>
+        requires { is_int_ty self.now.ty ≡ true }
+        ensures rows { IfOk result (λ ns. numbers_vals ns.value ≡ self.now.rows) }
+        ensures types { IfOk result (λ ns. self.now.ty ≡ int_ty ns.value.ptype (nullability_of self.now.ty)) }
+    {
+        numbers_of(alloc, self)
+    }
 }
 
 /// The numbers at the rows of a column of an integer type.

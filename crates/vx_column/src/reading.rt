@@ -12,9 +12,8 @@ ghost use Rattle.vx_dtype.specs.TypeRules.{is_bool_ty, is_int_ty, is_text_ty, nu
 ghost use Rattle.vx_column.specs.Columns.{AppendsRows, column, row_at, values_fit, seen, seen_rows};
 ghost use Rattle.vx_column.specs.StructColumns.{StandsAt};
 ghost use Rattle.vx_column.specs.Cells.{keeps_values, masks_apart, truths_fit};
-ghost use Rattle.vx_column.specs.Patterns.{text_or_null, text_or_null_fits};
+ghost use Rattle.vx_column.specs.PlainValues.{number_val, text_or_null, text_or_null_fits};
 ghost use Rattle.vx_column.specs.RowValues.{shown};
-ghost use Rattle.vx_column.specs.Totals.{number_val};
 ghost use Rattle.vx_words.specs.Truths.{vals_of};
 ghost use Rattle.vx_words.specs.Words.{truth_val};
 
@@ -92,8 +91,8 @@ impl ColumnRef {
         }
     }
 
-    /// The text at a row of a column of texts, and none of null.
-    pub(crate) fn text_at(&self, i: usize) -> Option<&str>
+    /// The text at a row of a column of texts, counted from 0; none where the row is null.
+    pub fn text_at(&self, i: usize) -> Option<&str>
         requires text { is_text_ty self.now.ty ≡ true }
         requires row { i < length self.now.rows }
         ensures value { text_or_null (option_copied result) ≡ row_at self.now i }
@@ -115,8 +114,8 @@ impl ColumnRef {
         }
     }
 
-    /// The truth at a row of a column of truths, and none of null.
-    pub(crate) fn truth_at(&self, i: usize) -> Option<bool>
+    /// The truth at a row of a column of truths, counted from 0; none where the row is null.
+    pub fn truth_at(&self, i: usize) -> Option<bool>
         requires truths { is_bool_ty self.now.ty ≡ true }
         requires row { i < length self.now.rows }
         ensures { truth_val result ≡ row_at self.now i }

@@ -8,7 +8,8 @@ use Rattle.vx_dtype.specs.RawViews.{raw_view}
 use Rattle.vx_words.specs.Truths.{vals_of}
 use Rattle.vx_numbers.specs.Numbers.{NumberList, compared, fits_ptype}
 use Rattle.vx_column.specs.Columns.{Column, column, seen}
-use Rattle.vx_column.specs.Cells.{cell_rows, numbers_vals, AreNumbersOf, ArePartsOf}
+use Rattle.vx_column.specs.Cells.{cell_rows, AreNumbersOf, ArePartsOf}
+use Rattle.vx_column.specs.PlainValues.{numbers_vals}
 use Rattle.vx_column.proofs.StructLemmas.{if_ok_map}
 use Rattle.vx_column.proofs.CellLemmas.{plain_kept, alike_kept, constant_length}
 use Rattle.vx_column.proofs.NumberLemmas.{in_range_fit, length_of_rows}

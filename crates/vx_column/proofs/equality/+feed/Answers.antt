@@ -15,7 +15,8 @@ use Rattle.vx_column.proofs.SameLemmas.{kept_fed, struct_fed, fields_fed_more, f
 use Rattle.vx_words.specs.Truths.{is_true, vals_of}
 use Rattle.vx_column.proofs.TruthLemmas.{truth_stands}
 use Rattle.vx_numbers.specs.Numbers.{NumberList}
-use Rattle.vx_column.specs.Cells.{AreNumbersOf, numbers_vals}
+use Rattle.vx_column.specs.Cells.{AreNumbersOf}
+use Rattle.vx_column.specs.PlainValues.{numbers_vals}
 use Rattle.vx_column.proofs.NumberLemmas.{number_stands}
 use Rattle.vx_column.proofs.MaskedLemmas.{masked_length, masked_truths, masked_nullable, masked_null, masked_own}
 use Rattle.vx_column.proofs.equality.+feed.Goals as goal

@@ -17,7 +17,8 @@ use Rattle.vx_column.proofs.SameLemmas.{has_kept, has_struct, no_null, struct_pa
 use Rattle.vx_words.specs.Truths.{is_true, vals_of}
 use Rattle.vx_column.proofs.TruthLemmas.{truth_stands}
 use Rattle.vx_numbers.specs.Numbers.{NumberList}
-use Rattle.vx_column.specs.Cells.{AreNumbersOf, numbers_vals}
+use Rattle.vx_column.specs.Cells.{AreNumbersOf}
+use Rattle.vx_column.specs.PlainValues.{numbers_vals}
 use Rattle.vx_column.proofs.NumberLemmas.{number_stands}
 use Rattle.vx_column.proofs.MaskedLemmas.{masked_length, masked_truths, masked_null, masked_own}
 use Rattle.vx_column.proofs.SameMasked.{value_within, has_null, has_within, has_no_null}

@@ -17,7 +17,7 @@ use Rattle.vx_column.proofs.StructLemmas.{if_ok_map}
 use Rattle.vx_column.proofs.CellLemmas.{none_null}
 use Rattle.vx_column.proofs.TruthLemmas.{nulls_of_truths}
 use Rattle.vx_numbers.specs.Numbers.{NumberList, null_test}
-use Rattle.vx_column.specs.Cells.{numbers_vals}
+use Rattle.vx_column.specs.PlainValues.{numbers_vals}
 use Rattle.vx_column.proofs.NumberLemmas.{null_tests_are_truths, null_tests_of}
 use Rattle.vx_column.proofs.MaskedLemmas.{nulls_hidden, hidden_are_truths}
 use Rattle.vx_column.proofs.logic.is_null.Goals as goal

@@ -17,7 +17,8 @@ use Rattle.vx_column.proofs.TruthLemmas.{true_count_of, kept_truths_of, kept_tru
 use Rattle.vx_column.proofs.MaskedLemmas.{masked_length, masked_truths}
 use Rattle.vx_column.proofs.MaskedParts.{kept_number, kept_masked_column}
 use Rattle.vx_numbers.specs.Numbers.{NumberList, number_list}
-use Rattle.vx_column.specs.Cells.{AreNumbersOf, numbers_vals}
+use Rattle.vx_column.specs.Cells.{AreNumbersOf}
+use Rattle.vx_column.specs.PlainValues.{numbers_vals}
 use Rattle.vx_column.proofs.NumberLemmas.{kept_numbers_of, kept_numbers_column}
 use Rattle.vx_column.proofs.masks.+kept.Goals as goal
 

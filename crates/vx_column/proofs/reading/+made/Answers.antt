@@ -12,7 +12,8 @@ use Rattle.vx_column.proofs.StructLemmas.{all_rows_at, all_zip_more, if_ok_map}
 use Rattle.vx_column.proofs.CellLemmas.{deepest, deepest_lt, size_le-deepest, structs_length, values_row, values_fit_at, clone_stands, struct_stands_at}
 use Rattle.vx_words.specs.Truths.{vals_of}
 use Rattle.vx_column.proofs.TruthLemmas.{truth_stands}
-use Rattle.vx_column.specs.Cells.{AreNumbersOf, numbers_vals}
+use Rattle.vx_column.specs.Cells.{AreNumbersOf}
+use Rattle.vx_column.specs.PlainValues.{numbers_vals}
 use Rattle.vx_column.proofs.NumberLemmas.{number_stands}
 use Rattle.vx_numbers.specs.Numbers.{NumberList}
 use Rattle.vx_column.specs.Sizes.{size_masked}

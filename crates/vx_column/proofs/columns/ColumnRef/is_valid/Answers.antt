@@ -9,7 +9,7 @@ use Rattle.vx_column.specs.Cells.{cell_rows, structs_of, AreMaskedOf, ArePartsOf
 use Rattle.vx_words.specs.Truths.{vals_of}
 use Rattle.vx_column.proofs.CellLemmas.{constant_row, structs_row, valid_kept}
 use Rattle.vx_numbers.specs.Numbers.{NumberList}
-use Rattle.vx_column.specs.Cells.{numbers_vals}
+use Rattle.vx_column.specs.PlainValues.{numbers_vals}
 use Rattle.vx_column.proofs.NumberLemmas.{number_valid}
 use Rattle.vx_column.proofs.MaskedLemmas.{masked_truths, masked_valid, never_null, row_fits}
 use Rattle.vx_column.proofs.FitLemmas.{rows_fit_seen}

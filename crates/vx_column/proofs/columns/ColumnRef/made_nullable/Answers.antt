@@ -10,7 +10,8 @@ use Rattle.vx_column.specs.Cells.{cell_rows, ArePartsOf, AreTruthsOf, AreValuesO
 use Rattle.vx_column.proofs.FitLemmas.{names_with_nullability, fits_nullable}
 use Rattle.vx_column.proofs.CellLemmas.{nullable_constant}
 use Rattle.vx_column.proofs.TruthLemmas.{truths_made_nullable}
-use Rattle.vx_column.specs.Cells.{AreNumbersOf, numbers_vals}
+use Rattle.vx_column.specs.Cells.{AreNumbersOf}
+use Rattle.vx_column.specs.PlainValues.{numbers_vals}
 use Rattle.vx_numbers.specs.Numbers.{NumberList}
 use Rattle.vx_column.proofs.NumberLemmas.{numbers_made_nullable}
 use Rattle.vx_column.proofs.NullLemmas.{apart_of}

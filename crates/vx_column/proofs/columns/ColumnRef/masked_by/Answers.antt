@@ -6,7 +6,7 @@ use Rattle.vx_dtype.specs.TypeViews.{type_view}
 use Rattle.vx_words.specs.Truths.{vals_of, hidden_if}
 use Rattle.vx_numbers.specs.Numbers.{number_list}
 use Rattle.vx_column.specs.Columns.{Column, column}
-use Rattle.vx_column.specs.Cells.{numbers_vals}
+use Rattle.vx_column.specs.PlainValues.{numbers_vals}
 use Rattle.vx_column.proofs.FitLemmas.{nullability_with}
 use Rattle.vx_column.proofs.StructLemmas.{if_ok_map}
 use Rattle.vx_column.proofs.NumberLemmas.{masked_numbers_of, masked_rows}

@@ -6,7 +6,8 @@ use Rattle.vx_column.specs.Cells.{cell_rows, AreMaskedOf, ArePartsOf, AreTruthsO
 use Rattle.vx_column.proofs.CellLemmas.{values_row, values_fit_at}
 use Rattle.vx_words.specs.Truths.{vals_of}
 use Rattle.vx_column.proofs.TruthLemmas.{truth_stands}
-use Rattle.vx_column.specs.Cells.{AreNumbersOf, numbers_vals}
+use Rattle.vx_column.specs.Cells.{AreNumbersOf}
+use Rattle.vx_column.specs.PlainValues.{numbers_vals}
 use Rattle.vx_column.proofs.NumberLemmas.{number_stands}
 use Rattle.vx_numbers.specs.Numbers.{NumberList}
 use Rattle.vx_column.proofs.MaskedLemmas.{masked_truths, masked_length, masked_null, masked_own, inner_fits, inner_seen}

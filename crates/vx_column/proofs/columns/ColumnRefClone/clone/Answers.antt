@@ -1,7 +1,8 @@
 use Rattle.std.proofs.Common.{◌≡◌, ap, sym, ◌∙◌}
 use Rattle.vx_dtype.specs.TypeViews.{type_view}
 use Rattle.vx_column.specs.Columns.{Column, column}
-use Rattle.vx_column.specs.Cells.{cell_rows, numbers_vals}
+use Rattle.vx_column.specs.Cells.{cell_rows}
+use Rattle.vx_column.specs.PlainValues.{numbers_vals}
 use Rattle.vx_column.proofs.columns.ColumnRefClone.clone.Goals as goal
 
 pub returns-in_ok-clone-in-Numbers : goal.returns-in_ok-clone-in-Numbers

@@ -3,7 +3,7 @@ use Rattle.vx_dtype.specs.TypeRules.{nullability_of}
 use Rattle.vx_dtype.specs.Like.{like3}
 use Rattle.vx_words.specs.Words.{truth_val}
 use Rattle.vx_column.specs.Columns.{row_at}
-use Rattle.vx_column.specs.Patterns.{text_or_null_fits}
+use Rattle.vx_column.specs.PlainValues.{text_or_null_fits}
 use Rattle.vx_column.proofs.TruthLemmas.{truths_fit_more, zip_truths_step}
 use Rattle.vx_column.proofs.likes.Matching.truths.Goals as goal
 
