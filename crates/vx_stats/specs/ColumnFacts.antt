@@ -8,8 +8,7 @@ use Rattle.vx_dtype.specs.Types.{Bytes, Ty, bool_ty, Fields}
 use Rattle.vx_dtype.specs.TypeRules.{with_nullability, nullability_of, widened, fields_of, field_type}
 use Rattle.vx_dtype.specs.StructTypes.{is_struct_ty}
 use Rattle.vx_dtype.specs.Structs.{field_of}
-use Rattle.vx_dtype.specs.declared.PType.{PType}
-use Rattle.vx_dtype.specs.Values.{Raw, raw_bool, raw_int, raw_text, Val, null_val, bool_val, int_val, text_val}
+use Rattle.vx_dtype.specs.Values.{Val}
 use Rattle.vx_dtype.specs.Fits.{fits}
 use Rattle.vx_dtype.specs.RawViews.{raw_view}
 use Rattle.vx_column.specs.Columns.{Column, column}
@@ -48,25 +47,3 @@ pub record AreBounds (c : Column) (bounds : ScalarValue × ScalarValue) : Type 0
   pub greatest : raw_view bounds.1 ≡ raw_of (greatest_of c.rows)
   pub least_fits : fits (raw_view bounds.0) (with_nullability c.ty Nullable) ≡ true
   pub greatest_fits : fits (raw_view bounds.1) (with_nullability c.ty Nullable) ≡ true
-
--- the truth, the number of an integer type and the text that a value stands for; null for another value
-abbrev pub truth_in : Raw → Val
-truth_in (raw_bool b) = bool_val b
-truth_in _ = null_val
-
-abbrev pub number_in : PType → Raw → Val
-number_in p (raw_int i) = int_val p i
-number_in p _ = null_val
-
-abbrev pub text_in : Raw → Val
-text_in (raw_text s) = text_val s
-text_in _ = null_val
-
-abbrev pub truth_seen : ScalarValue → Val
-truth_seen x = truth_in (raw_view x)
-
-abbrev pub number_seen : PType → ScalarValue → Val
-number_seen p x = number_in p (raw_view x)
-
-abbrev pub text_seen : ScalarValue → Val
-text_seen x = text_in (raw_view x)

@@ -111,6 +111,10 @@ fn null_count(alloc: Global, column: &ColumnRef) -> Mem<Scalar>
 fn nulls_in(alloc: Global, column: &ColumnRef) -> Mem<usize>
     ensures { IfOk result (λ count. count ≡ null_count column.now.rows) }
 {
+    if column.dtype().is_primitive() {
+        let numbers = column.numbers(alloc)?;
+        return Ok(numbers.null_count());
+    }
     let nulls = is_null(alloc, column)?;
     Ok(nulls.true_count())
 }
