@@ -10,6 +10,7 @@ use vx_eval::{ExprEval, Scope};
 use vx_expr::ExprRef;
 use vx_partition::{annotate_scope_access, partition};
 use vx_prune::checked_pruning_expr;
+use vx_text::write_query;
 use vx_transform::{simplify, simplify_typed};
 use vx_traversal::{NodeExt, ReferenceCollector, Transformed, Walk};
 
@@ -116,6 +117,9 @@ fn print_texts(rt: &HostRuntime, expr: &ExprRef, equal: ExprRef) -> Result<()> {
     let start = Instant::now(rt)?;
     let _text = expr.compact(rt.alloc())?;
     print_since(rt, "compact", &start)?;
+    let start = Instant::now(rt)?;
+    let _query = write_query(rt.alloc(), expr)?;
+    print_since(rt, "write_query", &start)?;
     let start = Instant::now(rt)?;
     if *expr != equal {
         bail!("unequal");

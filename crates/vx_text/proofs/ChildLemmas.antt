@@ -1,33 +1,17 @@
 -- The children of a node, by their places.
-use Rattle.std.proofs.Common.{◌≡◌, ap, ◌∙◌, ℕ, zero, suc, ◌+◌, ◌≤◌, ◌<◌, List, ◌∷◌, drop, Some, arith}
+use Rattle.std.proofs.Common.{◌≡◌, ap, ◌∙◌, ℕ, zero, suc, ◌+◌, ◌<◌, arith, List, [], ◌∷◌, drop, take, Some}
 use Rattle.std.specs.List.{slice_get}
 use Rattle.std.proofs.lemmas.List.{drop_more}
-use Rattle.std.proofs.lemmas.Option.{same_Some, none-some, slice_get_within, get_or_from_slice_get}
-use Rattle.vx_expr.specs.Trees.{Tree, root, literal, get_item, binary, not_of, is_null_of, like, between, cast, list_contains, pack, merge, select, dynamic, Trees, no_trees, tree, listed, children_of}
-use Rattle.vx_expr.specs.Heights.{height, highest}
-
-lower_in : (es : Trees) (i : ℕ) (c : Tree) → slice_get (listed es) i ≡ Some c → height c ≤ highest es
-lower_in no_trees i c at = absurd (none-some c at)
-lower_in (tree e es) zero c at = let same : height e ≡ height c = ap height (same_Some e c at) in omega (arith, same)
-lower_in (tree e es) (suc i) c at = omega (arith, lower_in es i c at)
-
--- a child is lower than its node
-pub child_lower : (e c : Tree) (i : ℕ) → slice_get (children_of e) i ≡ Some c → height c < height e
-child_lower root c i at = absurd (none-some c at)
-child_lower (literal s) c i at = absurd (none-some c at)
-child_lower (get_item f e) c i at = omega (arith, lower_in (tree e no_trees) i c at)
-child_lower (binary l op r) c i at = omega (arith, lower_in (tree l (tree r no_trees)) i c at)
-child_lower (not_of e) c i at = omega (arith, lower_in (tree e no_trees) i c at)
-child_lower (is_null_of e) c i at = omega (arith, lower_in (tree e no_trees) i c at)
-child_lower (like e p negated fold_case) c i at = omega (arith, lower_in (tree e (tree p no_trees)) i c at)
-child_lower (between e lower upper options) c i at = omega (arith, lower_in (tree e (tree lower (tree upper no_trees))) i c at)
-child_lower (cast e t) c i at = omega (arith, lower_in (tree e no_trees) i c at)
-child_lower (list_contains l v) c i at = omega (arith, lower_in (tree l (tree v no_trees)) i c at)
-child_lower (pack names es n) c i at = omega (arith, lower_in es i c at)
-child_lower (merge es n) c i at = omega (arith, lower_in es i c at)
-child_lower (select s e) c i at = omega (arith, lower_in (tree e no_trees) i c at)
-child_lower (dynamic e op k t default) c i at = omega (arith, lower_in (tree e no_trees) i c at)
+use Rattle.std.proofs.lemmas.Option.{slice_get_within, get_or_from_slice_get, none-some}
+use Rattle.vx_expr.specs.Trees.{Tree}
 
 -- the children from a place on are the one there and those behind it
 pub left_step : (cs : List Tree) (i : ℕ) (c : Tree) → slice_get cs i ≡ Some c → drop i cs ≡ c ∷ drop (i + 1) cs
 left_step cs i c at = drop_more cs i c (slice_get_within cs i c at) ∙ ap (λ d. d ∷ drop (i + 1) cs) (get_or_from_slice_get cs i c c at)
+
+-- a child among the first ones
+pub among_first : (n : ℕ) (cs : List Tree) (i : ℕ) (c : Tree) → i < n → slice_get cs i ≡ Some c → slice_get (take n cs) i ≡ Some c
+among_first zero cs i c within at = absurd (omega (arith, within))
+among_first (suc n) [] i c within at = absurd (none-some c at)
+among_first (suc n) (d ∷ cs) zero c within at = at
+among_first (suc n) (d ∷ cs) (suc i) c within at = among_first n cs i c (omega (arith, within)) at

@@ -1,10 +1,11 @@
 // Whether an expression has a text.
-ghost use Rattle.std.specs.Prelude.{◌≡◌};
-ghost use Rattle.vx_expr.specs.Trees.{trees_of, children_of};
-ghost use Rattle.vx_text.specs.Writing.{is_writable, all_writable};
+ghost use Rattle.std.specs.Prelude.{◌≡◌, IfOk};
+ghost use Rattle.vx_text.specs.Writing.{is_writable};
 ghost use Rattle.vx_text.specs.WritingParts.{is_dynamic};
 
-use vx_expr::{Expr, ExprRef, VortexExpr};
+use std::alloc::Global;
+use vx_dtype::Mem;
+use vx_expr::{Expr, ExprRef};
 
 /// Whether the node is a dynamic comparison.
 fn is_dynamic(expr: &ExprRef) -> bool
@@ -14,23 +15,14 @@ fn is_dynamic(expr: &ExprRef) -> bool
 }
 
 /// Whether an expression has a text: no dynamic comparison stands in it.
-#[cycle(is_writable)]
-#[tactic(auto, using(crate::proofs::WritableLemmas::writable_split))]
-pub(crate) fn is_writable(expr: &ExprRef) -> bool
-    ensures { result ≡ is_writable expr.now }
+pub(crate) fn is_writable(alloc: Global, expr: &ExprRef) -> Mem<bool>
+    ensures { IfOk result (λ writable. writable ≡ is_writable expr.now) }
 {
-    !is_dynamic(expr) && children_writable(expr)
-}
-
-/// Whether each child of a node has a text.
-#[cycle(is_writable)]
-fn children_writable(expr: &ExprRef) -> bool
-    ensures { result ≡ all_writable (trees_of (children_of expr.now)) }
-{
-    for i in 0..expr.children_count() {
-        if !is_writable(expr.child_at(i)) {
-            return false;
+    let nodes = expr.post_order(alloc)?;
+    for &node in nodes.as_slice() {
+        if is_dynamic(node) {
+            return Ok(false);
         }
     }
-    true
+    Ok(true)
 }

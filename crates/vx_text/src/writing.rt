@@ -1,23 +1,19 @@
-// Writing an expression as a text.
-ghost use Rattle.std.specs.Prelude.{◌≡◌, Some, [], ◌++◌, codes, IfOk};
+// Writing an expression as a text, by a list of the nodes that are left to write, so that a deep expression needs no call for each level.
+ghost use Rattle.std.specs.Prelude.{◌≡◌, ◌<◌, Some, [], ◌∷◌, ◌++◌, length, IfOk};
 ghost use Rattle.std.specs.Fmt.{WritesOnOk};
 ghost use Rattle.std.specs.String.{string_bytes};
 ghost use Rattle.std.specs.Result.{result_map_both};
-ghost use Rattle.vx_dtype.specs.TypeViews.{type_view};
-ghost use Rattle.vx_expr.specs.Trees.{trees_of, children_of};
-ghost use Rattle.vx_expr.specs.Nodes.{binary_tree, item_tree, not_tree, select_tree};
-ghost use Rattle.vx_text.specs.Writing.{choice_text, like_word, between_word, pack_word, merge_word, query_text, listed_texts, named_texts, IsWritten};
-ghost use Rattle.vx_text.specs.WritingParts.{call_text, cast_text, pack_text};
+ghost use Rattle.vx_dtype.specs.Texts.{separator_at};
+ghost use Rattle.vx_text.specs.Writing.{choice_text, like_word, between_word, pack_word, merge_word, query_text, IsWritten};
+ghost use Rattle.vx_text.specs.WritingParts.{before_text, closing_text, opening_text, part_of, parts_of, written_children, Began};
 
 use crate::constants::{write_literal, write_type};
 use crate::errors::TextError;
 use crate::writable::is_writable;
-use std::alloc::Global;
+use std::alloc::{AllocError, Global};
 use std::fmt;
-use vx_dtype::{BetweenOptions, DType, FieldName, FieldNames, Nullability, StrictComparison};
-use vx_expr::{
-    BinaryExpr, Expr, ExprRef, FieldSelection, GetItemExpr, NotExpr, SelectExpr, VortexExpr,
-};
+use vx_dtype::{BetweenOptions, Nullability, StrictComparison};
+use vx_expr::{Expr, ExprRef, FieldSelection, VortexExpr};
 use vx_tokens::{Name, Names};
 
 /// The text of an expression, which is read as the same expression where it isn't too long.
@@ -26,22 +22,32 @@ use vx_tokens::{Name, Names};
 pub fn write_query(alloc: Global, expr: &ExprRef) -> Result<String, TextError>
     ensures { IsWritten expr.now (result_map_both string_bytes (λ e. e) result) }
 {
-    if !is_writable(expr) {
+    if !is_writable(alloc, expr)? {
         return Err(TextError::NotWritable);
     }
-    Ok(format!(in alloc; "{}", Written(expr))?)
+    Ok(format!(in alloc; "{}", Written { alloc, expr })?)
 }
 
-/// An expression that prints as its text.
+/// An expression that prints as its text, and the allocator for the list of what is left to write.
 #[derive(Clone, Copy)]
-struct Written<'a>(&'a ExprRef);
+struct Written<'a> {
+    alloc: Global,
+    expr: &'a ExprRef,
+}
 
 impl<'a> fmt::Display for Written<'a> {
-    ghost output = { λ written. Some (query_text written.0.now) };
+    ghost output = { λ written. Some (query_text written.expr.now) };
 
     fn fmt<W: fmt::Write>(&self, f: &mut fmt::Formatter<W>) -> fmt::Result {
-        write_expr(self.0, f)
+        write_expr(self.alloc, self.expr, f)
     }
+}
+
+/// What is left to write of a node: its text from before the child at this place on.
+#[derive(Clone, Copy)]
+struct Part<'a> {
+    expr: &'a ExprRef,
+    next: usize,
 }
 
 /// The word of a match.
@@ -89,10 +95,7 @@ fn merge_word(nullability: Nullability) -> &'static str
 }
 
 /// Writes a choice of fields: `{a, b}`, or `~{a, b}`.
-pub(crate) fn write_choice<W: fmt::Write>(
-    selection: &FieldSelection,
-    f: &mut fmt::Formatter<W>,
-) -> fmt::Result
+fn write_choice<W: fmt::Write>(selection: &FieldSelection, f: &mut fmt::Formatter<W>) -> fmt::Result
     ensures { WritesOnOk W.write_str_gives f.old result (choice_text selection.now) f.new }
 {
     match selection {
@@ -102,151 +105,139 @@ pub(crate) fn write_choice<W: fmt::Write>(
 }
 
 /// Writes the text of an expression; nothing for a dynamic comparison.
-#[cycle(write)]
-#[tactic(auto, unfolding(crate::specs::Writing::query_text), using(vx_expr::proofs::TreeLemmas::trees_of_listed))]
-fn write_expr<W: fmt::Write>(expr: &ExprRef, f: &mut fmt::Formatter<W>) -> fmt::Result
+fn write_expr<W: fmt::Write>(
+    alloc: Global,
+    expr: &ExprRef,
+    f: &mut fmt::Formatter<W>,
+) -> fmt::Result
     ensures { WritesOnOk W.write_str_gives f.old result (query_text expr.now) f.new }
+{
+    let mut left = Vec::new(alloc);
+    write_node(expr, &mut left, f)?;
+    while let Some(part) = left.pop() {
+        write_part(part, &mut left, f)?;
+    }
+    Ok(())
+}
+
+/// Writes a part as far as its first child, and adds what is left of it to what is left to write.
+fn write_part<'a, W: fmt::Write>(
+    part: Part<'a>,
+    left: &mut Vec<Part<'a>>,
+    f: &mut fmt::Formatter<W>,
+) -> fmt::Result
+    ensures { IfOk result (λ _. Began W.write_str_gives f.old f.new (parts_of left.old.items) (parts_of left.new.items) (part_of part.entry)) }
+{
+    let Part { expr, next } = part;
+    if next >= written_count(expr) {
+        return write_closing(expr, f);
+    }
+    write_before(expr, next, f)?;
+    let rest = Part {
+        expr,
+        next: next + 1,
+    };
+    add_part(left, rest)?;
+    write_node(expr.child_at(next), left, f)
+}
+
+/// Writes the text of a node before its children, and adds what stands behind it to what is left to write.
+fn write_node<'a, W: fmt::Write>(
+    expr: &'a ExprRef,
+    left: &mut Vec<Part<'a>>,
+    f: &mut fmt::Formatter<W>,
+) -> fmt::Result
+    ensures text { WritesOnOk W.write_str_gives f.old result (opening_text expr.now) f.new }
+    ensures left { IfOk result (λ _. parts_of left.new.items ≡ parts_of left.old.items ++ (expr.now, 0) ∷ []) }
+{
+    write_opening(expr, f)?;
+    add_part(left, Part { expr, next: 0 })?;
+    Ok(())
+}
+
+/// Adds a part to what is left to write.
+fn add_part<'a>(left: &mut Vec<Part<'a>>, part: Part<'a>) -> Result<(), AllocError>
+    ensures { IfOk result (λ _. parts_of left.new.items ≡ parts_of left.old.items ++ part_of part.entry ∷ []) }
+{
+    left.push(part)?;
+    Ok(())
+}
+
+/// How many children of a node stand in its text.
+#[tactic(auto, using(crate::proofs::WritingLemmas::number_written))]
+fn written_count(expr: &ExprRef) -> usize
+    ensures { result ≡ length (written_children expr.now) }
+{
+    match expr.expr() {
+        Expr::Dynamic(_) => 0,
+        Expr::Pack(node) => node.names().len().min(expr.children_count()),
+        _ => expr.children_count(),
+    }
+}
+
+/// Writes the text of a node before its first child.
+fn write_opening<W: fmt::Write>(expr: &ExprRef, f: &mut fmt::Formatter<W>) -> fmt::Result
+    ensures { WritesOnOk W.write_str_gives f.old result (opening_text expr.now) f.new }
 {
     match expr.expr() {
         Expr::Root(_) => f.write_str("$"),
         Expr::Literal(node) => write_literal(node.value(), f),
-        Expr::GetItem(node) => write_item(node, f),
-        Expr::Binary(node) => write_binary(node, f),
-        Expr::Not(node) => write_not(node, f),
-        Expr::IsNull(_) => write_call("is_null", expr, f),
+        Expr::Binary(_) => f.write_str("("),
+        Expr::Not(_) => f.write_str("(not "),
+        Expr::IsNull(_) => f.write_str("is_null("),
         Expr::Like(node) => {
             let word = like_word(node.negated(), node.case_insensitive());
-            write_call(word, expr, f)
+            write!(f, "{word}(")
         }
-        Expr::Between(node) => write_call(between_word(node.options()), expr, f),
-        Expr::Cast(node) => write_cast(expr, node.target(), f),
-        Expr::ListContains(_) => write_call("contains", expr, f),
-        Expr::Pack(node) => write_pack(pack_word(node.nullability()), node.names(), expr, f),
-        Expr::Merge(node) => write_call(merge_word(node.nullability()), expr, f),
-        Expr::Select(node) => write_select(node, f),
-        Expr::Dynamic(_) => Ok(()),
+        Expr::Between(node) => write!(f, "{}(", between_word(node.options())),
+        Expr::Cast(_) => f.write_str("cast("),
+        Expr::ListContains(_) => f.write_str("contains("),
+        Expr::Pack(node) => write!(f, "{}(", pack_word(node.nullability())),
+        Expr::Merge(node) => write!(f, "{}(", merge_word(node.nullability())),
+        Expr::GetItem(_) | Expr::Select(_) | Expr::Dynamic(_) => Ok(()),
     }
 }
 
-/// Writes `struct.field`.
-#[cycle(write)]
-#[tactic(auto, unfolding(crate::specs::Writing::query_text))]
-fn write_item<W: fmt::Write>(node: &GetItemExpr, f: &mut fmt::Formatter<W>) -> fmt::Result
-    ensures { WritesOnOk W.write_str_gives f.old result (query_text (item_tree node.now)) f.new }
+/// Writes what stands right before the child at this place: an operator, or a separator and a name.
+fn write_before<W: fmt::Write>(expr: &ExprRef, i: usize, f: &mut fmt::Formatter<W>) -> fmt::Result
+    requires { i < length (written_children expr.now) }
+    ensures { WritesOnOk W.write_str_gives f.old result (before_text expr.now i) f.new }
 {
-    write_expr(node.child(), f)?;
-    write!(f, ".{}", Name(node.field().as_str()))
-}
-
-/// Writes `(left operator right)`.
-#[cycle(write)]
-#[tactic(auto, unfolding(crate::specs::Writing::query_text))]
-fn write_binary<W: fmt::Write>(node: &BinaryExpr, f: &mut fmt::Formatter<W>) -> fmt::Result
-    ensures { WritesOnOk W.write_str_gives f.old result (query_text (binary_tree node.now)) f.new }
-{
-    f.write_str("(")?;
-    write_expr(node.lhs(), f)?;
-    write!(f, " {} ", node.op())?;
-    write_expr(node.rhs(), f)?;
-    f.write_str(")")
-}
-
-/// Writes `(not operand)`.
-#[cycle(write)]
-#[tactic(auto, unfolding(crate::specs::Writing::query_text))]
-fn write_not<W: fmt::Write>(node: &NotExpr, f: &mut fmt::Formatter<W>) -> fmt::Result
-    ensures { WritesOnOk W.write_str_gives f.old result (query_text (not_tree node.now)) f.new }
-{
-    f.write_str("(not ")?;
-    write_expr(node.child(), f)?;
-    f.write_str(")")
-}
-
-/// Writes `struct{name, name}`, or `struct~{name, name}`.
-#[cycle(write)]
-#[tactic(auto, unfolding(crate::specs::Writing::query_text))]
-fn write_select<W: fmt::Write>(node: &SelectExpr, f: &mut fmt::Formatter<W>) -> fmt::Result
-    ensures { WritesOnOk W.write_str_gives f.old result (query_text (select_tree node.now)) f.new }
-{
-    write_expr(node.child(), f)?;
-    write_choice(node.selection(), f)
-}
-
-/// Writes `word(child, child)`, the call of an expression's children.
-#[cycle(write)]
-fn write_call<W: fmt::Write>(word: &str, expr: &ExprRef, f: &mut fmt::Formatter<W>) -> fmt::Result
-    ensures { WritesOnOk W.write_str_gives f.old result (call_text word.now (children_of expr.now)) f.new }
-{
-    f.write_str(word)?;
-    f.write_str("(")?;
-    write_children(expr, f)?;
-    f.write_str(")")
-}
-
-/// Writes `cast(child, type)`.
-#[cycle(write)]
-fn write_cast<W: fmt::Write>(
-    expr: &ExprRef,
-    target: &DType,
-    f: &mut fmt::Formatter<W>,
-) -> fmt::Result
-    ensures { WritesOnOk W.write_str_gives f.old result (cast_text (children_of expr.now) (type_view target.now)) f.new }
-{
-    f.write_str("cast(")?;
-    write_children(expr, f)?;
-    f.write_str(", ")?;
-    write_type(target, f)?;
-    f.write_str(")")
-}
-
-/// Writes `word(name: child, name: child)`.
-#[cycle(write)]
-fn write_pack<W: fmt::Write>(
-    word: &str,
-    names: &FieldNames,
-    expr: &ExprRef,
-    f: &mut fmt::Formatter<W>,
-) -> fmt::Result
-    ensures { WritesOnOk W.write_str_gives f.old result (pack_text word.now names.now (children_of expr.now)) f.new }
-{
-    f.write_str(word)?;
-    f.write_str("(")?;
-    write_named_children(names.as_slice(), expr, f)?;
-    f.write_str(")")
-}
-
-/// Writes the children of an expression with `, ` between any two.
-#[cycle(write)]
-#[tactic(auto, unfolding(crate::specs::Writing::query_text))]
-fn write_children<W: fmt::Write>(expr: &ExprRef, f: &mut fmt::Formatter<W>) -> fmt::Result
-    ensures { WritesOnOk W.write_str_gives f.old result (listed_texts [] (trees_of (children_of expr.now))) f.new }
-{
-    let mut separator = "";
-    for i in 0..expr.children_count() {
-        f.write_str(separator)?;
-        write_expr(expr.child_at(i), f)?;
-        separator = ", ";
+    match expr.expr() {
+        Expr::Binary(node) => {
+            if i == 0 {
+                return Ok(());
+            }
+            write!(f, " {} ", node.op())
+        }
+        Expr::Pack(node) => {
+            let name = &node.names().as_slice()[i];
+            write!(f, "{}{}: ", separator(i), Name(name.as_str()))
+        }
+        _ => f.write_str(separator(i)),
     }
-    Ok(())
 }
 
-/// Writes the children of an expression, each behind its name, with `, ` between any two, as far as there are names.
-#[cycle(write)]
-#[tactic(auto, unfolding(crate::specs::Writing::query_text))]
-fn write_named_children<W: fmt::Write>(
-    names: &[FieldName],
-    expr: &ExprRef,
-    f: &mut fmt::Formatter<W>,
-) -> fmt::Result
-    ensures { WritesOnOk W.write_str_gives f.old result (named_texts [] names.now (trees_of (children_of expr.now))) f.new }
+/// What stands before the part at this place: nothing before the first, `, ` before the others.
+fn separator(i: usize) -> &'static str
+    ensures { result.now ≡ separator_at i }
 {
-    let mut separator = "";
-    for i in 0..expr.children_count().min(names.len()) {
-        f.write_str(separator)?;
-        write!(f, "{}", Name(names[i].as_str()))?;
-        f.write_str(": ")?;
-        write_expr(expr.child_at(i), f)?;
-        separator = ", ";
+    if i == 0 { "" } else { ", " }
+}
+
+/// Writes the text of a node behind its last child.
+fn write_closing<W: fmt::Write>(expr: &ExprRef, f: &mut fmt::Formatter<W>) -> fmt::Result
+    ensures { WritesOnOk W.write_str_gives f.old result (closing_text expr.now) f.new }
+{
+    match expr.expr() {
+        Expr::Root(_) | Expr::Literal(_) | Expr::Dynamic(_) => Ok(()),
+        Expr::GetItem(node) => write!(f, ".{}", Name(node.field().as_str())),
+        Expr::Cast(node) => {
+            f.write_str(", ")?;
+            write_type(node.target(), f)?;
+            f.write_str(")")
+        }
+        Expr::Select(node) => write_choice(node.selection(), f),
+        _ => f.write_str(")"),
     }
-    Ok(())
 }
