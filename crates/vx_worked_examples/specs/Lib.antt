@@ -4,3 +4,4 @@ pub mod Kinds
 pub mod PassSamples
 pub mod Agreeing
 pub mod Built
+pub mod Top

@@ -16,5 +16,6 @@ pub mod rule_examples;
 pub mod scan_examples;
 pub mod simplification_examples;
 pub mod strict_typing_examples;
+pub mod top_examples;
 pub mod tree_examples;
 pub mod type_examples;

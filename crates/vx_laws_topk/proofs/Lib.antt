@@ -1,0 +1,5 @@
+pub mod KeyOrder
+pub mod Inserting
+pub mod Firsts
+pub mod Slotless
+pub mod Finding

@@ -1,0 +1,2 @@
+pub mod TopRows
+pub mod TopLaws
