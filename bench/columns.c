@@ -1,8 +1,8 @@
-// The kernels that bench/columns.py times beside those of columns, as plain loops over the layout that columns aim at: numbers in a list
+// The kernels that bench/columns.py and bench/stats.py time beside those of columns, as plain loops over the layout that columns aim at: numbers in a list
 // of their own width, truths as two lists of words, the bits of validity and those of the values.
 //
 // columns KERNEL ROWS TIMES prints the kernel's name and nanoseconds for each call, a line each, and then how many rows the answer has, or
-// has true: as the program vx_bench does, over the same rows.
+// has true, or the sum of the statistics: as the program vx_bench does, over the same rows.
 #include <inttypes.h>
 #include <stdint.h>
 #include <stdio.h>
@@ -144,6 +144,36 @@ KERNEL struct truths and_kleene(struct truths l, struct truths r, size_t rows) {
     return made;
 }
 
+// How many blocks the table has whose statistics are built.
+#define BLOCKS 1000
+
+struct statistics {
+    int64_t least;
+    int64_t greatest;
+    size_t nulls;
+};
+
+// The least and the greatest number and the count of nulls of each block, of as many rows each. The bits of validity of all rows stand in one
+// list of words, of those of a block in words of its own.
+KERNEL struct statistics *build_stats(const int64_t *numbers, const uint64_t *valid, size_t rows) {
+    struct statistics *made = taken(BLOCKS * sizeof(struct statistics));
+    size_t words = words_for(rows);
+    for (size_t b = 0; b < BLOCKS; b++) {
+        const int64_t *block = numbers + b * rows;
+        int64_t least = INT64_MAX, greatest = INT64_MIN;
+        for (size_t i = 0; i < rows; i++) {
+            least = block[i] < least ? block[i] : least;
+            greatest = block[i] > greatest ? block[i] : greatest;
+        }
+        size_t known = 0;
+        for (size_t k = 0; k < words; k++) {
+            known += (size_t)__builtin_popcountll(valid[b * words + k]);
+        }
+        made[b] = (struct statistics){least, greatest, rows - known};
+    }
+    return made;
+}
+
 static uint64_t now(void) {
     struct timespec at;
     clock_gettime(CLOCK_MONOTONIC, &at);
@@ -209,6 +239,35 @@ static size_t time_and_kleene(size_t rows, int times) {
     return answer;
 }
 
+// Bits of validity for as many blocks, of so many rows each, none of which is null.
+static uint64_t *all_valid(size_t rows) {
+    size_t words = words_for(rows);
+    uint64_t *valid = taken(BLOCKS * words * sizeof(uint64_t));
+    for (size_t k = 0; k < BLOCKS * words; k++) {
+        size_t from = k % words * PLACES, places = rows - from < PLACES ? rows - from : PLACES;
+        valid[k] = places == PLACES ? UINT64_MAX : (UINT64_C(1) << places) - 1;
+    }
+    return valid;
+}
+
+// The answer is the sum of the statistics.
+static size_t time_build_stats(size_t rows, int times) {
+    int64_t *given = numbers(rows);
+    uint64_t *valid = all_valid(rows / BLOCKS);
+    size_t answer = 0;
+    for (int i = 0; i < times; i++) {
+        uint64_t start = now();
+        struct statistics *made = build_stats(given, valid, rows / BLOCKS);
+        print_since("build_stats", start);
+        answer = 0;
+        for (size_t b = 0; b < BLOCKS; b++) {
+            answer += (size_t)made[b].least + (size_t)made[b].greatest + made[b].nulls;
+        }
+        free(made);
+    }
+    return answer;
+}
+
 int main(int count, char **words) {
     if (count != 4) {
         return 2;
@@ -223,6 +282,8 @@ int main(int count, char **words) {
         answer = time_filter(rows, times);
     } else if (!strcmp(kernel, "and_kleene")) {
         answer = time_and_kleene(rows, times);
+    } else if (!strcmp(kernel, "build_stats")) {
+        answer = time_build_stats(rows, times);
     } else {
         answer = time_words(kernel, rows, times);
     }

@@ -24,18 +24,18 @@ fn truth(place: usize) -> Option<bool> {
     }
 }
 
-/// So many numbers.
-fn number_values(alloc: Global, rows: usize) -> Mem<Vec<Option<i128>>> {
+/// So many numbers: those from a place on.
+fn number_values(alloc: Global, rows: usize, from: usize) -> Mem<Vec<Option<i128>>> {
     let mut values = Vec::with_capacity(alloc, rows)?;
     for i in 0..rows {
-        values.push(Some(number(i)))?;
+        values.push(Some(number(from.wrapping_add(i))))?;
     }
     Ok(values)
 }
 
-/// So many numbers of i64, without nulls.
-pub(crate) fn numbers(alloc: Global, rows: usize) -> Result<ColumnRef> {
-    let values = number_values(alloc, rows)?;
+/// So many numbers of i64, without nulls: those from a place on.
+pub(crate) fn numbers(alloc: Global, rows: usize, from: usize) -> Result<ColumnRef> {
+    let values = number_values(alloc, rows, from)?;
     match ColumnRef::primitive(alloc, PType::I64, values, NonNullable) {
         Ok(column) => Ok(column),
         Err(_) => bail!("no numbers"),
@@ -68,7 +68,7 @@ fn names(alloc: Global) -> Mem<FieldNames> {
 
 /// The two fields: so many numbers and so many truths.
 fn fields(alloc: Global, rows: usize) -> Result<Vec<ColumnRef>> {
-    Ok(vec![in alloc; numbers(alloc, rows)?, truths(alloc, rows, 0)?]?)
+    Ok(vec![in alloc; numbers(alloc, rows, 0)?, truths(alloc, rows, 0)?]?)
 }
 
 /// So many structs of a number and a truth.

@@ -1,4 +1,5 @@
-// Times of the kernels of columns and of words of bits, and their answers kept.
+// Times of the kernels of columns and of words of bits, and of the building of statistics, and the kernels' answers kept.
+use crate::statistics;
 use crate::timing::print_since;
 use crate::types::is_truth;
 use crate::word_lists::{Logic, Sides};
@@ -42,6 +43,7 @@ fn time(rt: &HostRuntime, kernel: &str, rows: usize, times: usize) -> Result<()>
         "and_words" => time_words(rt, kernel, Logic::And, rows, times),
         "or_words" => time_words(rt, kernel, Logic::Or, rows, times),
         "not_words" => time_words(rt, kernel, Logic::Not, rows, times),
+        "build_stats" => statistics::time(rt, kernel, rows, times),
         _ => time_columns(rt, kernel, rows, times),
     }
 }

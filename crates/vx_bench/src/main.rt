@@ -1,7 +1,8 @@
 //! Times calls of the library. `vx_bench evaluate|prune|rewrite|scan REQUEST` times calls over the table of a request, beside the calls on
 //! columns that they need: it prints a name and nanoseconds for each call, a line each, some rounds in turn. `vx_bench kernel 'KERNEL ROWS
 //! TIMES'` times a kernel of columns or of words of bits: it prints the kernel's name and nanoseconds for each call, a line each, and then
-//! how many rows the answer has, or has true. With `keep` the answers of so many calls are kept to the end, so that the memory that they
+//! how many rows the answer has, or has true. The kernel `build_stats` is the building of the statistics of a table of so many rows, and its
+//! answer the sum of the statistics. With `keep` the answers of so many calls are kept to the end, so that the memory that they
 //! take can be measured. `vx_bench reads REQUEST` times nothing: it prints how the scan of a request ends, and the reads of its store.
 //! `vx_bench deep 'left|right LINKS'` times calls over a chain of so many links of `and`.
 #![tactic(auto)]
@@ -16,6 +17,7 @@ mod pruning;
 mod reads;
 mod rewriting;
 mod scanning;
+mod statistics;
 mod timing;
 mod types;
 mod word_lists;

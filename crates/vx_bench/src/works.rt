@@ -35,7 +35,7 @@ impl Work {
             "numbers" => Ok(Work::Numbers(rows)),
             "truths" => Ok(Work::Truths(rows)),
             "constant" => Ok(Work::Constant(rows)),
-            "compare" => Ok(Work::Compare(numbers(alloc, rows)?)),
+            "compare" => Ok(Work::Compare(numbers(alloc, rows, 0)?)),
             "and_kleene" => Work::conjunction(alloc, rows),
             "filter" => Work::filter(alloc, rows),
             "field" => Ok(Work::Field(structs(alloc, rows)?)),
@@ -55,7 +55,7 @@ impl Work {
 
     /// The filter of so many numbers.
     fn filter(alloc: Global, rows: usize) -> Result<Work> {
-        let column = numbers(alloc, rows)?;
+        let column = numbers(alloc, rows, 0)?;
         let keep = truths(alloc, rows, rows)?;
         Ok(Work::Filter(column, keep))
     }
@@ -83,7 +83,7 @@ impl Work {
     /// What the kernel answers.
     pub(crate) fn answer(&self, alloc: Global) -> Result<ColumnRef> {
         match self {
-            Work::Numbers(rows) => numbers(alloc, *rows),
+            Work::Numbers(rows) => numbers(alloc, *rows, 0),
             Work::Truths(rows) => truths(alloc, *rows, 0),
             Work::Constant(rows) => rows_of(alloc, Number(50), *rows),
             Work::Compare(column) => compared(alloc, column, Gt, Number(50)),

@@ -18,6 +18,7 @@ enum OnList {
     Numbers,
     Copy,
     IsNull,
+    Bounds,
     Filter,
     CompareWith,
     Cast,
@@ -65,6 +66,7 @@ fn answer_to(alloc: Global, row: &Value) -> Mem<String> {
         "numbers" => on_list(alloc, row, OnList::Numbers),
         "copy" => on_list(alloc, row, OnList::Copy),
         "is_null" => on_list(alloc, row, OnList::IsNull),
+        "bounds" => on_list(alloc, row, OnList::Bounds),
         "filter" => on_list(alloc, row, OnList::Filter),
         "compare_with" => on_list(alloc, row, OnList::CompareWith),
         "cast" => on_list(alloc, row, OnList::Cast),
@@ -93,9 +95,26 @@ fn on_list(alloc: Global, row: &Value, call: OnList) -> Mem<String> {
         OnList::Numbers => numbers_text(alloc, &list),
         OnList::Copy => numbers_text(alloc, &list.clone()?),
         OnList::IsNull => truths_text(alloc, &list.is_null(alloc)?),
+        OnList::Bounds => bounds_text(alloc, &list),
         OnList::Filter => kept(alloc, &list, list_in(row, "keep")),
         OnList::CompareWith => comparisons_with(alloc, &list, number_in(row, "number")),
         OnList::Cast => casts(alloc, &list),
+    }
+}
+
+/// The least number and the greatest, each or `null`, and at how many places there is none.
+fn bounds_text(alloc: Global, list: &Numbers) -> Mem<String> {
+    let (least, greatest) = list.bounds();
+    let least = number_text(alloc, least)?;
+    let greatest = number_text(alloc, greatest)?;
+    Ok(format!(in alloc; "{least} {greatest} {}", list.null_count())?)
+}
+
+/// A number, or `null`.
+fn number_text(alloc: Global, number: Option<i128>) -> Mem<String> {
+    match number {
+        Some(number) => Ok(format!(in alloc; "{number}")?),
+        None => Ok(String::from_str(alloc, "null")?),
     }
 }
 

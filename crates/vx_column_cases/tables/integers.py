@@ -106,6 +106,14 @@ def tested_for_null(argument):
     return {"call": "is_null", "list": argument, "want": letters(number is None for number in numbers_of(argument))}
 
 
+def bounds(argument):
+    """The answer is the least number, the greatest, and at how many places there is none."""
+    numbers = numbers_of(argument)
+    known = [number for number in numbers if number is not None]
+    least, greatest = (min(known), max(known)) if known else ("null", "null")
+    return {"call": "bounds", "list": argument, "want": "%s %s %d" % (least, greatest, len(numbers) - len(known))}
+
+
 def filtered(argument, keeps):
     return {"call": "filter", "list": argument, "keep": keeps, "want": text(argument["type"], kept(numbers_of(argument), keeps))}
 
@@ -157,6 +165,8 @@ def at_length(name, length):
         copied(ls),
         same(ls),
         tested_for_null(ls),
+        bounds(ls),
+        bounds(of(name, known(name, length))),
         filtered(ls, keep(length)),
         filtered(of(name, known(name, length)), keep(length)),
         made(of(name, left(name, length), keep(length))),
@@ -180,6 +190,8 @@ def of_bounds(name):
     return [
         made(of(name, [least, greatest])),
         compare(*three),
+        *[bounds(argument) for argument in (*three, low, high)],
+        *[bounds(of(name, [first, *[between] * 64, last])) for between in (7, None) for first, last in ((least, greatest), (greatest, least))],
         add(of(name, [greatest, None]), of(name, [None, greatest])),
         *[equal(l, r) for l, r in ((low, high), (bare, high), (high, bare))],
         compare(high, high),
@@ -225,7 +237,7 @@ def beside_null(name):
     rows = [compare(ls, rs), compare_with(ls, None), compare_with(nulls, 7), add(ls, rs), sub(ls, rs), {"call": "add_equals", **of_no_number, "want": "true"}]
     for length in NULLS:
         alone = of(name, [None] * length)
-        rows += [made(alone), tested_for_null(alone), copied(alone), filtered(alone, [True] * length), filtered(alone, [None] * length)]
+        rows += [made(alone), tested_for_null(alone), bounds(alone), copied(alone), filtered(alone, [True] * length), filtered(alone, [None] * length)]
         rows += [add(alone, alone), sub(alone, alone)]
     return rows + [cast(of(name, [None] * 65))]
 
@@ -265,7 +277,7 @@ def of_calls(*calls):
     return [row for row in ALL if row["call"] in calls]
 
 
-NUMBERS = of_calls("numbers", "copy", "repeated", "is_null", "filter")
+NUMBERS = of_calls("numbers", "copy", "repeated", "is_null", "bounds", "filter")
 TOTALS = of_calls("add", "sub", "add_equals", "cast")
 # A comparison is asked by all six operators.
 COMPARISONS = of_calls("compare", "compare_with", "equal", "same")
