@@ -136,6 +136,9 @@ def bounds(least, greatest):
     return [(["x"], "min", [least]), (["x"], "max", [greatest])]
 
 
+LYING = request(X32, [[[5]]], binary(X, "=", lit("i32", 5)), X, bounds(9, 1))
+LATE = binary(binary(X, "<", lit("i8", 5)), "and", NEXT_POSITIVE)
+
 # bounds of a block whose one value is 5, and what a scan for 5 tells by them
 BOUNDS = [
     ("null bounds", bounds(None, None), FIVE),
@@ -183,8 +186,7 @@ ROWS = [
     ("a kind that isn't registered", bytes_of(node("dynamic")), "error: UnknownExpr filter", 4),
     ("three operands", bytes_of(node("binary", b"\3", ROOT, ROOT, ROOT)), "error: WrongChildren filter", 4),
     ("the filter before the projection", request(X32, TWO, X, b"\0"), "error: BadWire projection", 4),
-    ("lying statistics", request(X32, [[[5]]], binary(X, "=", lit("i32", 5)), X, [(["x"], "min", [9]), (["x"], "max", [1])]),
-     "rows 0 / skipped 0 / columns - / reads 0", 0),
+    ("lying statistics", LYING, NO_FIVE, 0),
     *(("one value with " + name, request(X32, [[[5]]], binary(X, "=", lit("i32", 5)), X, stats), told, 0) for name, stats, told in BOUNDS),
     ("a catalog", realistic(), REALISTIC.replace("\n", " / "), 0),
     ("254 nested selects", nested(254), WHOLE.replace("\n", " / "), 0),
@@ -220,6 +222,24 @@ WORDS = [
     ("a cut request", ["scan"], b"{", "error: BadJson", 3),
     ("a list", ["scan"], b"[]", "error: BadRequest top", 3),
     ("16,777,217 spaces", ["scan"], b" " * LONG, "error: InputTooLong", 3),
+    ("lying statistics that are replaced", ["scan", "built"], LYING, FIVE, 0),
+    ("a catalog by the statistics that it has", ["scan", "built"], realistic(),
+     REALISTIC.replace("skipped 0 4", "skipped 0 4 5").replace("reads 22", "reads 19").replace("\n", " / "), 0),
+    ("blocks without statistics", ["scan", "built"], request(X32, [[[1, 10]], [[11]]], ABOVE_TEN, X), 'rows 1 / 11 / skipped 0 / columns "x" / reads 1', 0),
+    ("blocks without nulls", ["scan", "built"], request([("x", "i32?")], [[[1, 2]], [[None, 3]]], node("is_null", b"", X), X),
+     'rows 1 / null / skipped 0 / columns "x" / reads 1', 0),
+    ("a sum in a block that nothing rules out", ["scan"], request(X8, [[[127]]], LATE, X), "error: Overflow", 5),
+    ("a sum in a block that its own bounds rule out", ["scan", "built"], request(X8, [[[127]]], LATE, X), NO_FIVE, 0),
+    ("a sum in a block that they don't", ["scan", "built"], request(X8, [[[127]]], NEXT_POSITIVE, X), "error: Overflow", 5),
+    ("statistics that are replaced, of a path to no column", ["scan", "built"], request(X32, TWO, X, X, [(["z"], "min", [0, 0])]),
+     "error: BadTable BadStatPath", 3),
+    ("statistics that are replaced, of a text", ["scan", "built"], request(X32, TWO, X, X, [(["x"], "max", ["10", 0])]), "error: BadTable WrongStatType", 3),
+    ("a filter of numbers by built statistics", ["scan", "built"], bytes_of(X), "error: FilterNotBool", 4),
+    ("a cut request by built statistics", ["scan", "built"], b"{", "error: BadJson", 3),
+    ("the word built alone", ["built"], b"", "error: Usage", 2),
+    ("the word built twice", ["scan", "built", "built"], b"", "error: Usage", 2),
+    ("the word built first", ["built", "scan"], b"", "error: Usage", 2),
+    ("an explanation by built statistics", ["explain", "built"], b"", "error: Usage", 2),
     ("an explanation", ["explain"], BELOW,
      'filter ($.x > 10i32) / pruning ($.x_max <= 10i32) / required "x_max" / parts root: $.x.x_0 {x: pack(x_0: ($.x > 10i32))}'
      " / projection $.x / parts root: $.x.x_0 {x: pack(x_0: $.x)}", 0),

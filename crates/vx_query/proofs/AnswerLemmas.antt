@@ -31,13 +31,12 @@ use Rattle.vx_request.specs.Requests.{RequestedScan, request_of}
 use Rattle.vx_request.specs.RequestViews.{RequestAnswers, scan_view}
 use Rattle.vx_request.specs.declared.errors.RequestError.{RequestError}
 use Rattle.vx_request.specs.declared.errors.RequestError.TheVariants as requests
-use Rattle.vx_query.specs.EndingViews.{EndsBy, IsAnswered, IsScanned, IsUnreported}
+use Rattle.vx_query.specs.EndingViews.{EndsBy, IsScanned, IsUnreported}
 use Rattle.vx_query.specs.Running.{scan_table, scan_reads, scan_report, scan_breaks, scan_breaks_by, store_with, scanned_store, broken_store}
-use Rattle.vx_query.specs.RefusalViews.{IsUnanswered, IsUnscanned, request_refusal}
+use Rattle.vx_query.specs.RefusalViews.{IsUnanswered, request_refusal}
 use Rattle.vx_query.specs.declared.endings.Ending.{Ending}
 use Rattle.vx_query.specs.declared.endings.Ending.TheVariants.{Report as Told, Overflow, BadCast}
 use Rattle.vx_query.specs.declared.refusals.Refusal.{Refusal}
-use Rattle.vx_query.specs.declared.refusals.Refusal.TheVariants.{NoMemory, ReadFault, InputTooLong, BadJson, BadRequest, BadHex, BadTable, BadHexText, Scan, Query, NotSerializable, LongPart}
 use Rattle.vx_query.proofs.CellLemmas.{and_left, and_right}
 
 -- reports of equal parts are equal
@@ -180,32 +179,6 @@ if_err_then P Q (Err e) f h = f e h
 pub if_err : {T : Type 0} (P : Refusal → Type 0) (r : Refusal) (result : Result T Refusal) → IsErrAnd result (λ x. x ≡ r) → P r → IfErr result P
 if_err P r (Ok x) h k = absurd h
 if_err P r (Err x) h k = subst P (sym h) k
-
--- an input that holds a scan whose expressions are typed is answered by how it ends
-pub answered_by : (input : Bytes) (s : RequestedScan) (ending : Ending) (seen : StoreSeen) → request_of input ≡ Ok s → IsScanned s ending seen
-    → IsAnswered input ending seen
-answered_by input s ending seen found scanned = record {
-  asked = s;
-  filter = scanned.filter;
-  projection = scanned.projection;
-  holds = record { asked = found; spelled = scanned.spelled; ty = scanned.ty; typed = scanned.typed };
-  ends = scanned.ends;
-}
-
--- an input that holds a scan whose expressions are refused is answered so
-pub unscanned_by : (input : Bytes) (s : RequestedScan) (r : Refusal) → request_of input ≡ Ok s → IsUnscanned s r → IsUnanswered input r
-unscanned_by input s NoMemory found none = tt
-unscanned_by input s ReadFault found none = absurd none
-unscanned_by input s InputTooLong found none = absurd none
-unscanned_by input s BadJson found none = absurd none
-unscanned_by input s (BadRequest place) found none = absurd none
-unscanned_by input s (BadHex side) found none = absurd none
-unscanned_by input s (BadTable refusal) found none = absurd none
-unscanned_by input s BadHexText found none = absurd none
-unscanned_by input s (Query e) found none = absurd none
-unscanned_by input s NotSerializable found none = absurd none
-unscanned_by input s LongPart found none = absurd none
-unscanned_by input s (Scan e) found refused = record { asked = s; held = found; refused = refused }
 
 -- an input whose request is refused is answered by the refusal
 pub refused_by : (input : Bytes) (e : RequestError) → RequestAnswers scan_view (request_of input) (Err e) → IsUnanswered input (request_refusal e)

@@ -27,7 +27,7 @@ zones_same : (z x : Zones) (o : Option ZoneError) → zones_by z o ≡ Ok x → 
 zones_same z x None h = cc h
 zones_same z x (Some e) h = absurd (cc h)
 
-found_ok : {A : Type 0} (o : Option A) (e : RequestError) (x : A) → ok_or o e ≡ Ok x → o ≡ Some x
+pub found_ok : {A : Type 0} (o : Option A) (e : RequestError) (x : A) → ok_or o e ≡ Ok x → o ≡ Some x
 found_ok None e x h = absurd (cc h)
 found_ok (Some y) e x h = let same : y ≡ x = cc h in ap Some same
 

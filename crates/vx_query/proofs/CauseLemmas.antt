@@ -3,6 +3,7 @@ use Rattle.std.proofs.Common.{◌≡◌, ◌∙◌, sym, ap, refl, subst, ℕ, �
 use Rattle.std.specs.List.{list_any}
 use Rattle.std.proofs.lemmas.Bool.{leb-true}
 use Rattle.std.proofs.lemmas.List.{take_all}
+use Rattle.std.proofs.lemmas.Option.{same_Some}
 use Rattle.vx_dtype.specs.Types.{Bytes, Ty}
 use Rattle.vx_expr.specs.Trees.{Tree}
 use Rattle.vx_semantics.specs.Breaks.{Cause}
@@ -21,40 +22,56 @@ use Rattle.vx_request.specs.declared.errors.RequestError.{RequestError}
 use Rattle.vx_request.specs.declared.errors.RequestError.TheVariants.{InputTooLong}
 use Rattle.vx_query.specs.Reports.{report_text}
 use Rattle.vx_query.specs.Refusals.{request_refusal_name, scan_refusal_name, break_name, refusal_line}
-use Rattle.vx_query.specs.Running.{End, Form, HoldsScan, HoldsRefused, scan_table, scan_reads, scan_phases, scan_breaks, scan_breaks_by, scan_report, scanned_store, broken_store, scan_form, explain_form, reads_request, IsTaken, IsRun}
+use Rattle.vx_query.specs.Running.{End, Form, Statistics, HoldsScan, HoldsRefused, scan_by, scan_table, scan_reads, scan_phases, scan_breaks, scan_breaks_by, scan_report, scanned_store, broken_store, scan_form, explain_form, reads_request, asked_statistics, IsTaken, IsRun}
 use Rattle.vx_query.specs.Exclusions.{IsSameScan}
 use Rattle.vx_query.specs.WireLaws.{WireLaws}
 use Rattle.vx_query.specs.Causes.{HasRisen, IsReported, IsUnasked, IsUnscanned, IsStopped, IsExplained, HasBroken, TellsScan, told_breaks, told_breaks_by, whole_report}
 use Rattle.vx_query.specs.Exactly.{Tells, RunsWell, EndsWith, taken_of}
 use Rattle.vx_query.proofs.RefusalLemmas.{one_err, not_err, one_scan, one_held_refusal, held_unrefused}
 use Rattle.vx_query.proofs.LineLemmas.{one_request, one_scan_error, one_cause, told_name}
-use Rattle.vx_query.proofs.FormLemmas.{broken_reads, broken_scans}
+use Rattle.vx_query.proofs.FormLemmas.{broken_reads}
 use Rattle.vx_query.proofs.RequestEnds.{RequestEnd, cut_off, without_memory, not_read, no_request, no_scan, breaks, reports, explains, request_end}
 
 -- whether a form is that of scans, where there is one
 abbrev is_scan : Option Form → Bool
-is_scan (Some scan_form) = true
+is_scan (Some (scan_form chosen)) = true
 is_scan _ = false
 
-no_explain : ¬ (Some scan_form ≡ Some explain_form)
-no_explain same = true≢false (ap is_scan same)
+no_explain : (chosen : Statistics) → ¬ (Some (scan_form chosen) ≡ Some explain_form)
+no_explain chosen same = true≢false (ap is_scan same)
+
+-- the statistics of a run are those that its arguments tell
+same_statistics : (chosen own : Statistics) → Some (scan_form chosen) ≡ Some (scan_form own) → own ≡ chosen
+same_statistics chosen own same = same_Some _ _ (sym (ap asked_statistics same))
 
 -- ---- what each status means
 
 -- the report that status 0 means
-pub reported : (i i' o o' : End) (used : Option StoreSeen) → IsRun (Some scan_form) i i' o o' used 0 → IsReported i i' o o' used
-reported i i' o o' used run = by (request_end (Some scan_form) i i' o o' used 0 refl run)
+pub reported : (chosen : Statistics) (i i' o o' : End) (used : Option StoreSeen) → IsRun (Some (scan_form chosen)) i i' o o' used 0
+    → IsReported chosen i i' o o' used
+reported chosen i i' o o' used run = by (request_end (Some (scan_form chosen)) i i' o o' used 0 refl run)
   where
-    by : RequestEnd (Some scan_form) i i' o o' used 0 → IsReported i i' o o' used
+    by : RequestEnd (Some (scan_form chosen)) i i' o o' used 0 → IsReported chosen i i' o o' used
     by (cut_off s risen) = absurd (omega (arith, s))
     by (without_memory s held) = absurd (omega (arith, s))
     by (not_read s risen held) = absurd (omega (arith, s))
     by (no_request input e s taken why written held) = absurd (omega (arith, s))
     by (no_scan input e s taken why written held) = absurd (omega (arith, s))
-    by (breaks cause input a f p s scans taken asks broken written held) = absurd (omega (arith, s))
-    by (reports input a f p s scans taken asks unbroken written held) =
-        record { input = input; asked = a; filter = f; projection = p; taken = taken; asks = asks; unbroken = unbroken; written = written; held = held }
-    by (explains input a f p s other taken asks written held) = absurd (no_explain other)
+    by (breaks own cause input a f p s scans taken asks broken written held) = absurd (omega (arith, s))
+    by (reports own input a f p s scans taken asks unbroken written held) =
+        let told : IsReported own i i' o o' used = record {
+          input = input;
+          asked = a;
+          filter = f;
+          projection = p;
+          taken = taken;
+          asks = asks;
+          unbroken = unbroken;
+          written = written;
+          held = held;
+        } in
+        subst (λ x. IsReported x i i' o o' used) (same_statistics chosen own scans) told
+    by (explains input a f p s other taken asks written held) = absurd (no_explain chosen other)
 
 -- the explanation that it means
 pub was_explained : (i i' o o' : End) (used : Option StoreSeen) → IsRun (Some explain_form) i i' o o' used 0 → IsExplained i i' o o' used
@@ -66,8 +83,8 @@ was_explained i i' o o' used run = by (request_end (Some explain_form) i i' o o'
     by (not_read s risen held) = absurd (omega (arith, s))
     by (no_request input e s taken why written held) = absurd (omega (arith, s))
     by (no_scan input e s taken why written held) = absurd (omega (arith, s))
-    by (breaks cause input a f p s scans taken asks broken written held) = absurd (omega (arith, s))
-    by (reports input a f p s scans taken asks unbroken written held) = absurd (no_explain (sym scans))
+    by (breaks own cause input a f p s scans taken asks broken written held) = absurd (omega (arith, s))
+    by (reports own input a f p s scans taken asks unbroken written held) = absurd (no_explain own (sym scans))
     by (explains input a f p s other taken asks written held) =
         record { input = input; asked = a; filter = f; projection = p; taken = taken; asks = asks; written = written; unheld = held }
 
@@ -83,8 +100,8 @@ unasked form i i' o o' used reads run = by (request_end form i i' o o' used 3 re
     by (no_request input e s taken why written held) =
         record { input = input; refusal = e; taken = taken; cause = why; written = written; unheld = held }
     by (no_scan input e s taken why written held) = absurd (omega (arith, s))
-    by (breaks cause input a f p s scans taken asks broken written held) = absurd (omega (arith, s))
-    by (reports input a f p s scans taken asks unbroken written held) = absurd (omega (arith, s))
+    by (breaks own cause input a f p s scans taken asks broken written held) = absurd (omega (arith, s))
+    by (reports own input a f p s scans taken asks unbroken written held) = absurd (omega (arith, s))
     by (explains input a f p s other taken asks written held) = absurd (omega (arith, s))
 
 -- a scan whose expressions are refused
@@ -99,21 +116,23 @@ unspelled form i i' o o' used reads run = by (request_end form i i' o o' used 4 
     by (no_request input e s taken why written held) = absurd (omega (arith, s))
     by (no_scan input e s taken why written held) =
         record { input = input; refusal = e; taken = taken; cause = why; written = written; unheld = held }
-    by (breaks cause input a f p s scans taken asks broken written held) = absurd (omega (arith, s))
-    by (reports input a f p s scans taken asks unbroken written held) = absurd (omega (arith, s))
+    by (breaks own cause input a f p s scans taken asks broken written held) = absurd (omega (arith, s))
+    by (reports own input a f p s scans taken asks unbroken written held) = absurd (omega (arith, s))
     by (explains input a f p s other taken asks written held) = absurd (omega (arith, s))
 
 -- a scan that broke
-pub stopped : (form : Option Form) (i i' o o' : End) (used : Option StoreSeen) → IsRun form i i' o o' used 5 → IsStopped i i' o o' used
+pub stopped : (form : Option Form) (i i' o o' : End) (used : Option StoreSeen) → IsRun form i i' o o' used 5 → IsStopped form i i' o o' used
 stopped form i i' o o' used run = by (request_end form i i' o o' used 5 (broken_reads form i i' o o' used run) run)
   where
-    by : RequestEnd form i i' o o' used 5 → IsStopped i i' o o' used
+    by : RequestEnd form i i' o o' used 5 → IsStopped form i i' o o' used
     by (cut_off s risen) = absurd (omega (arith, s))
     by (without_memory s held) = absurd (omega (arith, s))
     by (not_read s risen held) = absurd (omega (arith, s))
     by (no_request input e s taken why written held) = absurd (omega (arith, s))
     by (no_scan input e s taken why written held) = absurd (omega (arith, s))
-    by (breaks cause input a f p s scans taken asks broken written held) = record {
+    by (breaks own cause input a f p s scans taken asks broken written held) = record {
+      statistics = own;
+      scans = scans;
       input = input;
       asked = a;
       filter = f;
@@ -125,7 +144,7 @@ stopped form i i' o o' used run = by (request_end form i i' o o' used 5 (broken_
       written = written;
       held = held;
     }
-    by (reports input a f p s scans taken asks unbroken written held) = absurd (omega (arith, s))
+    by (reports own input a f p s scans taken asks unbroken written held) = absurd (omega (arith, s))
     by (explains input a f p s other taken asks written held) = absurd (omega (arith, s))
 
 -- ---- what a line tells
@@ -159,14 +178,15 @@ told_break cause form i i' o o' used tells =
     one_cause found.cause cause
     (told_name o.bytes o'.bytes tells.before (break_name cause) (break_name found.cause) tells.stood tells.written found.written) in
     record {
-      scans = broken_scans form i i' o o' used tells.run;
+      statistics = found.statistics;
+      scans = found.scans;
       input = found.input;
       asked = found.asked;
       filter = found.filter;
       projection = found.projection;
       taken = found.taken;
       asks = found.asks;
-      breaks = subst (λ c. scan_breaks_by c found.asked found.filter found.projection ≡ true) same found.breaks;
+      breaks = subst (λ c. scan_breaks_by c (scan_by found.statistics found.asked) found.filter found.projection ≡ true) same found.breaks;
     }
 
 -- ---- what is taken of an input
@@ -237,32 +257,35 @@ pub breaks_by_one : (cause : Cause) (a : RequestedScan) (f p : Tree) → scan_br
 breaks_by_one cause a f p h = some_breaks cause (row_type a.zones.columns) [] (scan_phases a f p) h
 
 -- the scan that is told breaks as the same one does
-told_breaking : {i : End} (told : TellsScan i) (a : RequestedScan) (f p : Tree) (b : Bool) → IsSameScan a f p told.asked told.filter told.projection
-    → scan_breaks a f p ≡ b
-    → told_breaks told ≡ b
-told_breaking told a f p b same h = sym (λ j. scan_breaks (same.asked j) (same.filter j) (same.projection j)) ∙ h
+told_breaking : {i : End} (chosen own : Statistics) (told : TellsScan i) (a : RequestedScan) (f p : Tree) (b : Bool) → own ≡ chosen
+    → IsSameScan a f p told.asked told.filter told.projection → scan_breaks (scan_by own a) f p ≡ b
+    → told_breaks chosen told ≡ b
+told_breaking chosen own told a f p b is same h = sym (λ j. scan_breaks (scan_by (is j) (same.asked j)) (same.filter j) (same.projection j)) ∙ h
 
 -- ---- runs over a source whose bytes are told
 
 -- where no phase of the scan that is told breaks, its report is written
-pub completed : WireLaws → (i i' o o' : End) (used : Option StoreSeen) (status : ℕ) (told : TellsScan i) → told_breaks told ≡ false
-    → RunsWell (Some scan_form) i i' o o' used status → ¬ (HasRisen i i')
-    → EndsWith 0 (scan_report told.asked told.filter told.projection) o o' status
-completed laws i i' o o' used status told unbroken well still = by (request_end (Some scan_form) i i' o o' used status refl well.run)
+pub completed : WireLaws → (chosen : Statistics) (i i' o o' : End) (used : Option StoreSeen) (status : ℕ) (told : TellsScan i) → told_breaks chosen told ≡ false
+    → RunsWell (Some (scan_form chosen)) i i' o o' used status → ¬ (HasRisen i i')
+    → EndsWith 0 (scan_report (scan_by chosen told.asked) told.filter told.projection) o o' status
+completed laws chosen i i' o o' used status told unbroken well still = by (request_end (Some (scan_form chosen)) i i' o o' used status refl well.run)
   where
-    by : RequestEnd (Some scan_form) i i' o o' used status → EndsWith 0 (scan_report told.asked told.filter told.projection) o o' status
+    by : RequestEnd (Some (scan_form chosen)) i i' o o' used status
+        → EndsWith 0 (scan_report (scan_by chosen told.asked) told.filter told.projection) o o' status
     by (cut_off s risen) = absurd (well.quiet risen)
     by (without_memory s held) = absurd (well.memory s)
     by (not_read s risen held) = absurd (still risen)
     by (no_request input e s taken why written held) = absurd (told_unrefused i i' input e told taken.bytes why)
     by (no_scan input e s taken why written held) = absurd (told_spelled laws i i' input e told taken.bytes why)
-    by (breaks cause input a f p s scans taken asks broken written held) =
+    by (breaks own cause input a f p s scans taken asks broken written held) =
         let same = told_scan laws i i' input a f p told taken.bytes asks in
-        absurd (true≢false (sym (told_breaking told a f p true same (breaks_by_one cause a f p broken)) ∙ unbroken))
-    by (reports input a f p s scans taken asks own written held) =
+        let breaking = breaks_by_one cause (scan_by own a) f p broken in
+        absurd (true≢false (sym (told_breaking chosen own told a f p true (same_statistics chosen own scans) same breaking) ∙ unbroken))
+    by (reports own input a f p s scans taken asks quiet written held) =
         let same = told_scan laws i i' input a f p told taken.bytes asks in
-        (s, subst (Added o.bytes o'.bytes) (λ j. scan_report (same.asked j) (same.filter j) (same.projection j)) written)
-    by (explains input a f p s other taken asks written held) = absurd (no_explain other)
+        let is = same_statistics chosen own scans in
+        (s, subst (Added o.bytes o'.bytes) (λ j. scan_report (scan_by (is j) (same.asked j)) (same.filter j) (same.projection j)) written)
+    by (explains input a f p s other taken asks written held) = absurd (no_explain chosen other)
 
 -- where the bytes that are told hold a scan, its explanation is written
 pub explained_whole : WireLaws → (i i' o o' : End) (used : Option StoreSeen) (status : ℕ) (told : TellsScan i)
@@ -276,8 +299,8 @@ explained_whole laws i i' o o' used status told well still = by (request_end (So
     by (not_read s risen held) = absurd (still risen)
     by (no_request input e s taken why written held) = absurd (told_unrefused i i' input e told taken.bytes why)
     by (no_scan input e s taken why written held) = absurd (told_spelled laws i i' input e told taken.bytes why)
-    by (breaks cause input a f p s scans taken asks broken written held) = absurd (no_explain (sym scans))
-    by (reports input a f p s scans taken asks own written held) = absurd (no_explain (sym scans))
+    by (breaks own cause input a f p s scans taken asks broken written held) = absurd (no_explain own (sym scans))
+    by (reports own input a f p s scans taken asks unbroken written held) = absurd (no_explain own (sym scans))
     by (explains input a f p s other taken asks written held) =
         let same = told_scan laws i i' input a f p told taken.bytes asks in
         (s, subst (Added o.bytes o'.bytes) (λ j. explain_text (same.asked j).zones (same.filter j) (same.projection j)) written)
@@ -299,8 +322,8 @@ says_why e form i i' o o' used status all reads told refuses well still = by (re
         let same : g ≡ e = one_err (request_of input) g e why (refused_all input taken) in
         (s, subst (λ x. Added o.bytes o'.bytes (refusal_line (request_refusal_name x))) same written)
     by (no_scan input g s taken why written held) = absurd (not_err (request_of input) why.asked e why.held (refused_all input taken))
-    by (breaks cause input a f p s scans taken asks broken written held) = absurd (not_err (request_of input) a e asks.asked (refused_all input taken))
-    by (reports input a f p s scans taken asks unbroken written held) = absurd (not_err (request_of input) a e asks.asked (refused_all input taken))
+    by (breaks own cause input a f p s scans taken asks broken written held) = absurd (not_err (request_of input) a e asks.asked (refused_all input taken))
+    by (reports own input a f p s scans taken asks unbroken written held) = absurd (not_err (request_of input) a e asks.asked (refused_all input taken))
     by (explains input a f p s other taken asks written held) = absurd (not_err (request_of input) a e asks.asked (refused_all input taken))
 
 -- where it holds a scan whose expressions are refused
@@ -322,45 +345,49 @@ says_refusal laws e form i i' o o' used status all reads told refuses well still
     by (no_scan input g s taken why written held) =
         let same : g ≡ e = one_held_refusal laws input g e why (refused_all input taken) in
         (s, subst (λ x. Added o.bytes o'.bytes (refusal_line (scan_refusal_name x))) same written)
-    by (breaks cause input a f p s scans taken asks broken written held) = absurd (held_unrefused laws input a f p e asks (refused_all input taken))
-    by (reports input a f p s scans taken asks unbroken written held) = absurd (held_unrefused laws input a f p e asks (refused_all input taken))
+    by (breaks own cause input a f p s scans taken asks broken written held) = absurd (held_unrefused laws input a f p e asks (refused_all input taken))
+    by (reports own input a f p s scans taken asks unbroken written held) = absurd (held_unrefused laws input a f p e asks (refused_all input taken))
     by (explains input a f p s other taken asks written held) = absurd (held_unrefused laws input a f p e asks (refused_all input taken))
 
 -- the run of a scan that breaks says why, and holds its store
-abbrev pub SaysBreak : {i : End} → TellsScan i → End → End → Option StoreSeen → ℕ → Type 0
-SaysBreak told o o' used status =
-    ((cause : Cause) × (told_breaks_by cause told ≡ true) × EndsWith 5 (refusal_line (break_name cause)) o o' status)
-    × (used ≡ Some (broken_store told.asked told.filter told.projection))
+abbrev pub SaysBreak : {i : End} → Statistics → TellsScan i → End → End → Option StoreSeen → ℕ → Type 0
+SaysBreak chosen told o o' used status =
+    ((cause : Cause) × (told_breaks_by cause chosen told ≡ true) × EndsWith 5 (refusal_line (break_name cause)) o o' status)
+    × (used ≡ Some (broken_store (scan_by chosen told.asked) told.filter told.projection))
 
 -- where a phase of the scan that is told breaks
-pub says_break : WireLaws → (i i' o o' : End) (used : Option StoreSeen) (status : ℕ) (told : TellsScan i) → told_breaks told ≡ true
-    → RunsWell (Some scan_form) i i' o o' used status → ¬ (HasRisen i i') → SaysBreak told o o' used status
-says_break laws i i' o o' used status told breaking well still = by (request_end (Some scan_form) i i' o o' used status refl well.run)
+pub says_break : WireLaws → (chosen : Statistics) (i i' o o' : End) (used : Option StoreSeen) (status : ℕ) (told : TellsScan i) → told_breaks chosen told ≡ true
+    → RunsWell (Some (scan_form chosen)) i i' o o' used status → ¬ (HasRisen i i') → SaysBreak chosen told o o' used status
+says_break laws chosen i i' o o' used status told breaking well still = by (request_end (Some (scan_form chosen)) i i' o o' used status refl well.run)
   where
-    by : RequestEnd (Some scan_form) i i' o o' used status → SaysBreak told o o' used status
+    by : RequestEnd (Some (scan_form chosen)) i i' o o' used status → SaysBreak chosen told o o' used status
     by (cut_off s risen) = absurd (well.quiet risen)
     by (without_memory s held) = absurd (well.memory s)
     by (not_read s risen held) = absurd (still risen)
     by (no_request input e s taken why written held) = absurd (told_unrefused i i' input e told taken.bytes why)
     by (no_scan input e s taken why written held) = absurd (told_spelled laws i i' input e told taken.bytes why)
-    by (breaks cause input a f p s scans taken asks broken written held) =
+    by (breaks own cause input a f p s scans taken asks broken written held) =
         let same = told_scan laws i i' input a f p told taken.bytes asks in
-        let by_cause : told_breaks_by cause told ≡ true =
-        sym (λ j. scan_breaks_by cause (same.asked j) (same.filter j) (same.projection j)) ∙ broken in
-        ((cause, by_cause, (s, written)), held ∙ (λ j. Some (broken_store (same.asked j) (same.filter j) (same.projection j))))
-    by (reports input a f p s scans taken asks unbroken written held) =
-        let own = told_breaking told a f p false (told_scan laws i i' input a f p told taken.bytes asks) unbroken in
-        absurd (true≢false (sym breaking ∙ own))
-    by (explains input a f p s other taken asks written held) = absurd (no_explain other)
+        let is = same_statistics chosen own scans in
+        let by_cause : told_breaks_by cause chosen told ≡ true =
+        sym (λ j. scan_breaks_by cause (scan_by (is j) (same.asked j)) (same.filter j) (same.projection j)) ∙ broken in
+        ((cause, by_cause, (s, written)), held ∙ (λ j. Some (broken_store (scan_by (is j) (same.asked j)) (same.filter j) (same.projection j))))
+    by (reports own input a f p s scans taken asks unbroken written held) =
+        let same = told_scan laws i i' input a f p told taken.bytes asks in
+        let quiet = told_breaking chosen own told a f p false (same_statistics chosen own scans) same unbroken in
+        absurd (true≢false (sym breaking ∙ quiet))
+    by (explains input a f p s other taken asks written held) = absurd (no_explain chosen other)
 
 -- the scan that a run reports is the one that the source's bytes ask, and so is the one that is explained
-pub reported_as_told : WireLaws → (i i' o o' : End) (used : Option StoreSeen) (told : TellsScan i) → IsRun (Some scan_form) i i' o o' used 0
-    → Added o.bytes o'.bytes (scan_report told.asked told.filter told.projection) × (used ≡ Some (scanned_store told.asked told.filter told.projection))
-reported_as_told laws i i' o o' used told run =
-    let found = reported i i' o o' used run in
+pub reported_as_told : WireLaws → (chosen : Statistics) (i i' o o' : End) (used : Option StoreSeen) (told : TellsScan i)
+    → IsRun (Some (scan_form chosen)) i i' o o' used 0
+    → Added o.bytes o'.bytes (scan_report (scan_by chosen told.asked) told.filter told.projection)
+    × (used ≡ Some (scanned_store (scan_by chosen told.asked) told.filter told.projection))
+reported_as_told laws chosen i i' o o' used told run =
+    let found = reported chosen i i' o o' used run in
     let same = told_scan laws i i' found.input found.asked found.filter found.projection told found.taken.bytes found.asks in (
-      subst (Added o.bytes o'.bytes) (λ j. scan_report (same.asked j) (same.filter j) (same.projection j)) found.written,
-      found.held ∙ (λ j. Some (scanned_store (same.asked j) (same.filter j) (same.projection j))),
+      subst (Added o.bytes o'.bytes) (λ j. scan_report (scan_by chosen (same.asked j)) (same.filter j) (same.projection j)) found.written,
+      found.held ∙ (λ j. Some (scanned_store (scan_by chosen (same.asked j)) (same.filter j) (same.projection j))),
     )
 
 pub explained_as_told : WireLaws → (i i' o o' : End) (used : Option StoreSeen) (told : TellsScan i) → IsRun (Some explain_form) i i' o o' used 0

@@ -32,7 +32,7 @@ and_right false b h = absurd (true≢false (sym h))
 pub both_true : (a b : Bool) → a ≡ true → b ≡ true → a && b ≡ true
 both_true a b h g = rw (h, g)
 
-not_found : {X : Type 0} (x : X) → None ≡ Some x → ⊥
+pub not_found : {X : Type 0} (x : X) → None ≡ Some x → ⊥
 not_found x e = true≢false (sym (ap is_some e))
 
 -- what a step gave, it gave of what was found before it
@@ -62,7 +62,7 @@ where_is true true t xs c h = let e : column t (raw_rows t xs) ≡ c = cc h in (
 where_is true false t xs c h = absurd (not_found c h)
 where_is false names t xs c h = absurd (not_found c h)
 
-as_where : (fit names : Bool) (c : Column) → result_ok (unless fit WrongValue (unless names DuplicateField (Ok c))) ≡ cond fit (cond names (Some c) None) None
+pub as_where : (fit names : Bool) (c : Column) → result_ok (unless fit WrongValue (unless names DuplicateField (Ok c))) ≡ cond fit (cond names (Some c) None) None
 as_where true true c = refl
 as_where true false c = refl
 as_where false names c = refl

@@ -1,10 +1,9 @@
 -- What the status of a run tells of faults and of want of memory, and what help, words and queries that are refused leave.
-use Rattle.std.proofs.Common.{◌≡◌, ◌∙◌, sym, ap, refl, subst, ℕ, ◌+◌, ◌-◌, ◌^◌, ◌<◌, ◌≤◌, min, true, false, codes, Option, Some, None, inl, inr, arith, true≢false}
+use Rattle.std.proofs.Common.{◌≡◌, sym, ap, refl, ℕ, ◌-◌, ◌^◌, ◌<◌, false, codes, Option, Some, None, inl, inr, arith, true≢false}
 use Rattle.vx_dtype.specs.Types.{Bytes}
 use Rattle.vx_scan.specs.Stores.{StoreSeen}
-use Rattle.vx_io.specs.Counts.{one_more}
 use Rattle.vx_query.specs.Refusals.{text_refusal_name}
-use Rattle.vx_query.specs.Running.{End, Form, scan_form, explain_form, show_form, text_form, gen_form, help_form, version_form, help_text, version_text, reads_request, shown_word, asked_query, asked_rows, Outcome, misused, helped, versioned, out_of_memory, unread, refused, unscanned, broken, answered, explained, undecoded, unshown, shown, unnamed, unserialized, overlong, named, summed, Writing, whole, cut, IsOutcome, IsWriting, IsRun, status_of, outcome_text, used_by}
+use Rattle.vx_query.specs.Running.{End, Form, scan_form, explain_form, show_form, text_form, gen_form, help_form, version_form, help_text, version_text, reads_request, shown_word, asked_rows, asked_statistics, Outcome, misused, helped, versioned, out_of_memory, unread, refused, unscanned, broken, answered, explained, undecoded, unshown, shown, unnamed, unserialized, overlong, named, summed, Writing, whole, cut, IsOutcome, IsWriting, IsRun, status_of, outcome_text, used_by}
 use Rattle.vx_query.specs.Causes.{HasRisen, IsCut, IsUnread, IsWithoutMemory, IsTold, IsUndigited, IsUnshown, IsUnnamed}
 use Rattle.vx_query.proofs.FormLemmas.{scans_hold, others_take_nothing}
 use Rattle.vx_query.proofs.RequestEnds.{not_none}
@@ -27,8 +26,8 @@ source_unread form i i' o o' used run = by run.outcome run.writing run.comes run
     by unread whole comes written held = record { reads = comes.0; part = comes.1.0; risen = comes.1.1; written = written.1.0; unheld = held }
     by (refused input e) whole comes written held = absurd (omega (arith, written.0))
     by (unscanned input e) whole comes written held = absurd (omega (arith, written.0))
-    by (broken cause input a f p) whole comes written held = absurd (omega (arith, written.0))
-    by (answered input a f p) whole comes written held = absurd (omega (arith, written.0))
+    by (broken chosen cause input a f p) whole comes written held = absurd (omega (arith, written.0))
+    by (answered chosen input a f p) whole comes written held = absurd (omega (arith, written.0))
     by (explained input a f p) whole comes written held = absurd (omega (arith, written.0))
     by undecoded whole comes written held = absurd (omega (arith, written.0))
     by (unshown e) whole comes written held = absurd (omega (arith, written.0))
@@ -53,8 +52,8 @@ sink_cut form i i' o o' used run = by run.outcome run.writing run.comes run.writ
     by unread whole comes written held = absurd (omega (arith, written.0))
     by (refused input e) whole comes written held = absurd (omega (arith, written.0))
     by (unscanned input e) whole comes written held = absurd (omega (arith, written.0))
-    by (broken cause input a f p) whole comes written held = absurd (omega (arith, written.0))
-    by (answered input a f p) whole comes written held = absurd (omega (arith, written.0))
+    by (broken chosen cause input a f p) whole comes written held = absurd (omega (arith, written.0))
+    by (answered chosen input a f p) whole comes written held = absurd (omega (arith, written.0))
     by (explained input a f p) whole comes written held = absurd (omega (arith, written.0))
     by undecoded whole comes written held = absurd (omega (arith, written.0))
     by (unshown e) whole comes written held = absurd (omega (arith, written.0))
@@ -79,8 +78,8 @@ without_any form i i' o o' used run = by run.outcome run.writing run.comes run.w
     by unread whole comes written held = absurd (omega (arith, written.0))
     by (refused input e) whole comes written held = absurd (omega (arith, written.0))
     by (unscanned input e) whole comes written held = absurd (omega (arith, written.0))
-    by (broken cause input a f p) whole comes written held = absurd (omega (arith, written.0))
-    by (answered input a f p) whole comes written held = absurd (omega (arith, written.0))
+    by (broken chosen cause input a f p) whole comes written held = absurd (omega (arith, written.0))
+    by (answered chosen input a f p) whole comes written held = absurd (omega (arith, written.0))
     by (explained input a f p) whole comes written held = absurd (omega (arith, written.0))
     by undecoded whole comes written held = absurd (omega (arith, written.0))
     by (unshown e) whole comes written held = absurd (omega (arith, written.0))
@@ -116,8 +115,8 @@ risen_unread form i i' o o' used status below risen quiet run = by run.outcome r
     by unread whole comes written = written.0
     by (refused input e) whole comes written = unrisen comes.1.0.quiet
     by (unscanned input e) whole comes written = unrisen comes.1.0.quiet
-    by (broken cause input a f p) whole comes written = unrisen comes.1.0.quiet
-    by (answered input a f p) whole comes written = unrisen comes.1.0.quiet
+    by (broken chosen cause input a f p) whole comes written = unrisen comes.1.0.quiet
+    by (answered chosen input a f p) whole comes written = unrisen comes.1.0.quiet
     by (explained input a f p) whole comes written = unrisen comes.1.0.quiet
     by undecoded whole comes written = kept comes.1
     by (unshown e) whole comes written = kept comes.1
@@ -159,8 +158,8 @@ help_told i i' o o' used status run quiet = by run.outcome run.writing run.comes
     by unread whole comes written held = absurd (true≢false (sym comes.0))
     by (refused input e) whole comes written held = absurd (true≢false (sym comes.0))
     by (unscanned input e) whole comes written held = absurd (true≢false (sym comes.0))
-    by (broken cause input a f p) whole comes written held = absurd (true≢false (sym (ap reads_request comes.0)))
-    by (answered input a f p) whole comes written held = absurd (true≢false (sym (ap reads_request comes.0)))
+    by (broken chosen cause input a f p) whole comes written held = absurd (true≢false (sym (ap reads_request comes.0)))
+    by (answered chosen input a f p) whole comes written held = absurd (true≢false (sym (ap reads_request comes.0)))
     by (explained input a f p) whole comes written held = absurd (true≢false (sym (ap reads_request comes.0)))
     by undecoded whole comes written held = absurd (not_none (sym comes.0.1))
     by (unshown e) whole comes written held = absurd (not_none (sym comes.0.1))
@@ -192,8 +191,8 @@ version_told i i' o o' used status run quiet = by run.outcome run.writing run.co
     by unread whole comes written held = absurd (true≢false (sym comes.0))
     by (refused input e) whole comes written held = absurd (true≢false (sym comes.0))
     by (unscanned input e) whole comes written held = absurd (true≢false (sym comes.0))
-    by (broken cause input a f p) whole comes written held = absurd (true≢false (sym (ap reads_request comes.0)))
-    by (answered input a f p) whole comes written held = absurd (true≢false (sym (ap reads_request comes.0)))
+    by (broken chosen cause input a f p) whole comes written held = absurd (true≢false (sym (ap reads_request comes.0)))
+    by (answered chosen input a f p) whole comes written held = absurd (true≢false (sym (ap reads_request comes.0)))
     by (explained input a f p) whole comes written held = absurd (true≢false (sym (ap reads_request comes.0)))
     by undecoded whole comes written held = absurd (not_none (sym comes.0.1))
     by (unshown e) whole comes written held = absurd (not_none (sym comes.0.1))
@@ -209,7 +208,7 @@ version_told i i' o o' used status run quiet = by run.outcome run.writing run.co
 -- a form with a word takes nothing and holds nothing
 word_reads_none : (form : Option Form) (word : Bytes) → shown_word form ≡ Some word → reads_request form ≡ false
 word_reads_none None word shows = refl
-word_reads_none (Some scan_form) word shows = absurd (not_none (sym shows))
+word_reads_none (Some (scan_form chosen)) word shows = absurd (not_none (sym shows))
 word_reads_none (Some explain_form) word shows = absurd (not_none (sym shows))
 word_reads_none (Some (show_form showing other)) word shows = refl
 word_reads_none (Some (text_form other)) word shows = refl
@@ -217,12 +216,19 @@ word_reads_none (Some (gen_form rows)) word shows = absurd (not_none (sym shows)
 word_reads_none (Some help_form) word shows = refl
 word_reads_none (Some version_form) word shows = refl
 
-word_holds_none : (form : Option Form) (word : Bytes) → shown_word form ≡ Some word → ¬ (form ≡ Some scan_form)
-word_holds_none form word shows same = not_none (sym shows ∙ ap shown_word same)
+word_scans_none : (form : Option Form) (word : Bytes) → shown_word form ≡ Some word → asked_statistics form ≡ None
+word_scans_none None word shows = refl
+word_scans_none (Some (scan_form chosen)) word shows = absurd (not_none (sym shows))
+word_scans_none (Some explain_form) word shows = refl
+word_scans_none (Some (show_form showing other)) word shows = refl
+word_scans_none (Some (text_form other)) word shows = refl
+word_scans_none (Some (gen_form rows)) word shows = refl
+word_scans_none (Some help_form) word shows = refl
+word_scans_none (Some version_form) word shows = refl
 
 word_asks_none : (form : Option Form) (word : Bytes) → shown_word form ≡ Some word → asked_rows form ≡ None
 word_asks_none None word shows = refl
-word_asks_none (Some scan_form) word shows = refl
+word_asks_none (Some (scan_form chosen)) word shows = refl
 word_asks_none (Some explain_form) word shows = refl
 word_asks_none (Some (show_form showing other)) word shows = refl
 word_asks_none (Some (text_form other)) word shows = refl
@@ -241,7 +247,7 @@ no_digits_told form word i i' o o' used shows run = by (words.word_end form word
       cause = none;
       written = written;
       untaken = others_take_nothing form i i' o o' used 3 (word_reads_none form word shows) run;
-      unheld = scans_hold form i i' o o' used 3 (word_holds_none form word shows) (word_asks_none form word shows) run;
+      unheld = scans_hold form i i' o o' used 3 (word_scans_none form word shows) (word_asks_none form word shows) run;
     }
     by (words.no_expression e s why written) = absurd (omega (arith, s))
     by (words.told showing e s is spells untaken written held) = absurd (omega (arith, s))
@@ -259,12 +265,9 @@ refused_word_told form word i i' o o' used shows run = by (words.word_end form w
       cause = why;
       written = written;
       untaken = others_take_nothing form i i' o o' used 4 (word_reads_none form word shows) run;
-      unheld = scans_hold form i i' o o' used 4 (word_holds_none form word shows) (word_asks_none form word shows) run;
+      unheld = scans_hold form i i' o o' used 4 (word_scans_none form word shows) (word_asks_none form word shows) run;
     }
     by (words.told showing e s is spells untaken written held) = absurd (omega (arith, s))
-
-asks_no_scan : (query : Bytes) → ¬ (Some (text_form query) ≡ Some scan_form)
-asks_no_scan query same = not_none (ap asked_query same)
 
 pub refused_query_told : (query : Bytes) (i i' o o' : End) (used : Option StoreSeen) → IsRun (Some (text_form query)) i i' o o' used 4
     → IsUnnamed query i i' o o' used
@@ -274,7 +277,7 @@ refused_query_told query i i' o o' used run = by (queries.query_end query i i' o
     untaken = others_take_nothing (Some (text_form query)) i i' o o' used 4 refl run
 
     unheld : used ≡ None
-    unheld = scans_hold (Some (text_form query)) i i' o o' used 4 (asks_no_scan query) refl run
+    unheld = scans_hold (Some (text_form query)) i i' o o' used 4 refl refl run
 
     by : queries.QueryEnd query i i' o o' used 4 → IsUnnamed query i i' o o' used
     by (queries.cut_off s risen) = absurd (omega (arith, s))

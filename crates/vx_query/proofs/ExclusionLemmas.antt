@@ -1,5 +1,5 @@
 -- Of one input, of one word and of one query at most one thing is told.
-use Rattle.std.proofs.Common.{◌≡◌, ◌∙◌, sym, ap, subst, None, Ok, Err, inl, inr}
+use Rattle.std.proofs.Common.{◌≡◌, ◌∙◌, sym, subst, inl, inr}
 use Rattle.vx_dtype.specs.Types.{Bytes}
 use Rattle.vx_expr.specs.Trees.{Tree}
 use Rattle.vx_text.specs.Reading.{reading_of}

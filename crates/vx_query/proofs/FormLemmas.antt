@@ -1,7 +1,7 @@
 -- What the status of a run tells of the form of its arguments: none, which forms break, hold stores and take nothing; and of faults.
 use Rattle.std.proofs.Common.{◌≡◌, ◌∙◌, sym, ap, refl, ℕ, true, false, Option, Some, None, inl, inr, arith, true≢false}
 use Rattle.vx_scan.specs.Stores.{StoreSeen}
-use Rattle.vx_query.specs.Running.{End, Form, scan_form, explain_form, reads_request, asked_rows, Outcome, misused, helped, versioned, out_of_memory, unread, refused, unscanned, broken, answered, explained, undecoded, unshown, shown, unnamed, unserialized, overlong, named, summed, Writing, whole, cut, IsOutcome, IsWriting, IsRun, status_of, outcome_text, used_by}
+use Rattle.vx_query.specs.Running.{End, Form, Statistics, scan_form, explain_form, reads_request, asked_rows, asked_statistics, Outcome, misused, helped, versioned, out_of_memory, unread, refused, unscanned, broken, answered, explained, undecoded, unshown, shown, unnamed, unserialized, overlong, named, summed, Writing, whole, cut, IsOutcome, IsWriting, IsRun, status_of, outcome_text, used_by}
 use Rattle.vx_query.specs.Causes.{HasRisen, IsMisuse}
 use Rattle.vx_query.proofs.RequestEnds.{not_none}
 
@@ -19,8 +19,8 @@ unformed form i i' o o' used run = by run.outcome run.writing run.comes run.writ
     by unread whole comes written = absurd (omega (arith, written.0))
     by (refused input e) whole comes written = absurd (omega (arith, written.0))
     by (unscanned input e) whole comes written = absurd (omega (arith, written.0))
-    by (broken cause input a f p) whole comes written = absurd (omega (arith, written.0))
-    by (answered input a f p) whole comes written = absurd (omega (arith, written.0))
+    by (broken chosen cause input a f p) whole comes written = absurd (omega (arith, written.0))
+    by (answered chosen input a f p) whole comes written = absurd (omega (arith, written.0))
     by (explained input a f p) whole comes written = absurd (omega (arith, written.0))
     by undecoded whole comes written = absurd (omega (arith, written.0))
     by (unshown e) whole comes written = absurd (omega (arith, written.0))
@@ -53,8 +53,8 @@ misuses i i' o o' used status run quiet = by run.outcome run.writing run.comes r
     by unread whole comes written held = absurd (true≢false (sym comes.0))
     by (refused input e) whole comes written held = absurd (true≢false (sym comes.0))
     by (unscanned input e) whole comes written held = absurd (true≢false (sym comes.0))
-    by (broken cause input a f p) whole comes written held = absurd (not_none (sym comes.0))
-    by (answered input a f p) whole comes written held = absurd (not_none (sym comes.0))
+    by (broken chosen cause input a f p) whole comes written held = absurd (not_none (sym comes.0))
+    by (answered chosen input a f p) whole comes written held = absurd (not_none (sym comes.0))
     by (explained input a f p) whole comes written held = absurd (not_none (sym comes.0))
     by undecoded whole comes written held = absurd (not_none (sym comes.0.1))
     by (unshown e) whole comes written held = absurd (not_none (sym comes.0.1))
@@ -67,12 +67,13 @@ misuses i i' o o' used status run quiet = by run.outcome run.writing run.comes r
 
 -- ---- which forms break, hold stores and take nothing
 
-pub broken_scans : (form : Option Form) (i i' o o' : End) (used : Option StoreSeen) → IsRun form i i' o o' used 5 → form ≡ Some scan_form
+pub broken_scans : (form : Option Form) (i i' o o' : End) (used : Option StoreSeen) → IsRun form i i' o o' used 5
+    → (s : Statistics) × (form ≡ Some (scan_form s))
 broken_scans form i i' o o' used run = by run.outcome run.writing run.comes run.written
   where
     by : (outcome : Outcome) (writing : Writing) → IsOutcome form i i' outcome
         → IsWriting o o' (outcome_text outcome) (status_of outcome) 5 writing
-        → form ≡ Some scan_form
+        → (s : Statistics) × (form ≡ Some (scan_form s))
     by outcome cut comes written = absurd (omega (arith, written.0))
     by misused whole comes written = absurd (omega (arith, written.0))
     by helped whole comes written = absurd (omega (arith, written.0))
@@ -81,8 +82,8 @@ broken_scans form i i' o o' used run = by run.outcome run.writing run.comes run.
     by unread whole comes written = absurd (omega (arith, written.0))
     by (refused input e) whole comes written = absurd (omega (arith, written.0))
     by (unscanned input e) whole comes written = absurd (omega (arith, written.0))
-    by (broken cause input a f p) whole comes written = comes.0
-    by (answered input a f p) whole comes written = absurd (omega (arith, written.0))
+    by (broken chosen cause input a f p) whole comes written = (chosen, comes.0)
+    by (answered chosen input a f p) whole comes written = absurd (omega (arith, written.0))
     by (explained input a f p) whole comes written = absurd (omega (arith, written.0))
     by undecoded whole comes written = absurd (omega (arith, written.0))
     by (unshown e) whole comes written = absurd (omega (arith, written.0))
@@ -94,11 +95,11 @@ broken_scans form i i' o o' used run = by run.outcome run.writing run.comes run.
     by (summed rows) whole comes written = absurd (omega (arith, written.0))
 
 pub broken_reads : (form : Option Form) (i i' o o' : End) (used : Option StoreSeen) → IsRun form i i' o o' used 5 → reads_request form ≡ true
-broken_reads form i i' o o' used run = ap reads_request (broken_scans form i i' o o' used run)
+broken_reads form i i' o o' used run = ap reads_request (broken_scans form i i' o o' used run).1
 
-pub scans_hold : (form : Option Form) (i i' o o' : End) (used : Option StoreSeen) (status : ℕ) → ¬ (form ≡ Some scan_form) → asked_rows form ≡ None
+pub scans_hold : (form : Option Form) (i i' o o' : End) (used : Option StoreSeen) (status : ℕ) → asked_statistics form ≡ None → asked_rows form ≡ None
     → IsRun form i i' o o' used status → used ≡ None
-scans_hold form i i' o o' used status other none run = by run.outcome run.comes run.held
+scans_hold form i i' o o' used status no_scan none run = by run.outcome run.comes run.held
   where
     by : (outcome : Outcome) → IsOutcome form i i' outcome → used ≡ used_by outcome → used ≡ None
     by misused comes held = held
@@ -108,8 +109,8 @@ scans_hold form i i' o o' used status other none run = by run.outcome run.comes 
     by unread comes held = held
     by (refused input e) comes held = held
     by (unscanned input e) comes held = held
-    by (broken cause input a f p) comes held = absurd (other comes.0)
-    by (answered input a f p) comes held = absurd (other comes.0)
+    by (broken chosen cause input a f p) comes held = absurd (not_none (sym (ap asked_statistics comes.0) ∙ no_scan))
+    by (answered chosen input a f p) comes held = absurd (not_none (sym (ap asked_statistics comes.0) ∙ no_scan))
     by (explained input a f p) comes held = held
     by undecoded comes held = held
     by (unshown e) comes held = held
@@ -135,8 +136,8 @@ others_take_nothing form i i' o o' used status none run = by run.outcome run.com
     by unread comes = absurd (true≢false (sym comes.0 ∙ none))
     by (refused input e) comes = absurd (true≢false (sym comes.0 ∙ none))
     by (unscanned input e) comes = absurd (true≢false (sym comes.0 ∙ none))
-    by (broken cause input a f p) comes = absurd (differs (Some scan_form) refl comes.0)
-    by (answered input a f p) comes = absurd (differs (Some scan_form) refl comes.0)
+    by (broken chosen cause input a f p) comes = absurd (differs (Some (scan_form chosen)) refl comes.0)
+    by (answered chosen input a f p) comes = absurd (differs (Some (scan_form chosen)) refl comes.0)
     by (explained input a f p) comes = absurd (differs (Some explain_form) refl comes.0)
     by undecoded comes = comes.1
     by (unshown e) comes = comes.1

@@ -1,5 +1,5 @@
 -- How a run ends whose arguments ask the scan of a generated table, and what it leaves.
-use Rattle.std.proofs.Common.{◌≡◌, ◌∙◌, sym, ap, refl, subst, ℕ, ◌+◌, ◌/◌, true, [], map, length, Option, Some, None, inl, inr, true≢false}
+use Rattle.std.proofs.Common.{◌≡◌, ◌∙◌, sym, ap, refl, subst, ℕ, true, [], map, length, Option, Some, None, true≢false}
 use Rattle.std.specs.List.{flat_map, list_all}
 use Rattle.std.proofs.lemmas.List.{length-map}
 use Rattle.std.proofs.lemmas.Option.{same_Some}
@@ -17,10 +17,9 @@ use Rattle.vx_request.specs.Requests.{RequestedScan}
 use Rattle.vx_laws_generated.specs.GeneratedTable.{block_numbers, block_length, generated_block, generated_table, generated_zones, generated_filter, generated_projection}
 use Rattle.vx_laws_generated.specs.GeneratedLine.{gen_line}
 use Rattle.vx_generated.specs.GeneratedBlocks.{generated_blocks, generated_reads, generated_store}
-use Rattle.vx_query.specs.Running.{End, Form, scan_form, explain_form, show_form, text_form, gen_form, help_form, version_form, asked_rows, Outcome, misused, helped, versioned, out_of_memory, unread, refused, unscanned, broken, answered, explained, undecoded, unshown, shown, unnamed, unserialized, overlong, named, summed, Writing, whole, cut, IsOutcome, IsWriting, IsRun, status_of, outcome_text, used_by}
-use Rattle.vx_query.specs.Causes.{HasRisen}
+use Rattle.vx_query.specs.Running.{End, Form, scan_form, explain_form, show_form, gen_form, help_form, version_form, asked_rows, Outcome, misused, helped, versioned, out_of_memory, unread, refused, unscanned, broken, answered, explained, undecoded, unshown, shown, unnamed, unserialized, overlong, named, summed, Writing, whole, cut, IsOutcome, IsWriting, IsRun, status_of, outcome_text, used_by}
 use Rattle.vx_query.specs.Exactly.{RunsWell, EndsWith}
-use Rattle.vx_query.specs.GeneratedCauses.{IsSummed, GeneratedEnd, with_line, cut_off, without_memory, HasGeneratedReads}
+use Rattle.vx_query.specs.GeneratedCauses.{GeneratedEnd, with_line, cut_off, without_memory, HasGeneratedReads}
 use Rattle.vx_query.proofs.FormLemmas.{others_take_nothing}
 use Rattle.vx_query.proofs.ReadLemmas.{blocks_among}
 use Rattle.vx_query.proofs.RequestEnds.{not_none}
@@ -48,8 +47,8 @@ generated_end rows i i' o o' used status run =
     by unread whole comes written held untaken = absurd (true≢false (sym comes.0))
     by (refused input e) whole comes written held untaken = absurd (true≢false (sym comes.0))
     by (unscanned input e) whole comes written held untaken = absurd (true≢false (sym comes.0))
-    by (broken cause input a f p) whole comes written held untaken = absurd (asks_other rows (Some scan_form) refl comes.0)
-    by (answered input a f p) whole comes written held untaken = absurd (asks_other rows (Some scan_form) refl comes.0)
+    by (broken chosen cause input a f p) whole comes written held untaken = absurd (asks_other rows (Some (scan_form chosen)) refl comes.0)
+    by (answered chosen input a f p) whole comes written held untaken = absurd (asks_other rows (Some (scan_form chosen)) refl comes.0)
     by (explained input a f p) whole comes written held untaken = absurd (asks_other rows (Some explain_form) refl comes.0)
     by undecoded whole comes written held untaken = absurd (not_none (sym comes.0.1))
     by (unshown e) whole comes written held untaken = absurd (not_none (sym comes.0.1))
@@ -104,8 +103,8 @@ store_of rows i i' o o' store status run = by run.outcome run.comes run.held
     by unread comes held = absurd (not_none held)
     by (refused input e) comes held = absurd (not_none held)
     by (unscanned input e) comes held = absurd (not_none held)
-    by (broken cause input a f p) comes held = absurd (asks_other rows (Some scan_form) refl comes.0)
-    by (answered input a f p) comes held = absurd (asks_other rows (Some scan_form) refl comes.0)
+    by (broken chosen cause input a f p) comes held = absurd (asks_other rows (Some (scan_form chosen)) refl comes.0)
+    by (answered chosen input a f p) comes held = absurd (asks_other rows (Some (scan_form chosen)) refl comes.0)
     by (explained input a f p) comes held = absurd (not_none held)
     by undecoded comes held = absurd (not_none held)
     by (unshown e) comes held = absurd (not_none held)

@@ -1,6 +1,11 @@
 mod CellLemmas
 pub mod BlockAgreementLemmas
 mod AnswerLemmas
+mod StatisticsLemmas
+mod AnsweredLemmas
+mod SoundScans
+mod CellFits
+mod HonestLemmas
 mod OutcomeLemmas
 mod RefusalLemmas
 mod LineLemmas
@@ -12,7 +17,6 @@ mod CauseLemmas
 mod RequestCauseLemmas
 mod ExpressionCauseLemmas
 mod WordLemmas
-mod NameLemmas
 mod ReadLemmas
 mod EndLemmas
 mod ExclusionLemmas

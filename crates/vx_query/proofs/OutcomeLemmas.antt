@@ -14,7 +14,7 @@ use Rattle.vx_generated.specs.GeneratedBlocks.{generated_store}
 use Rattle.vx_request.specs.Requests.{most_bytes}
 use Rattle.vx_request.specs.declared.errors.RequestError.TheVariants as requests
 use Rattle.vx_query.specs.EndingViews.{ending_status, ending_text, EndsBy, IsAnswered}
-use Rattle.vx_query.specs.Running.{End, Form, Showing, shown_text, scan_form, explain_form, show_form, text_form, gen_form, reads_request, shown_word, Outcome, out_of_memory, unread, refused, unscanned, broken, answered, explained, undecoded, unshown, shown, unnamed, unserialized, overlong, named, summed, Writing, IsOutcome, IsTaken, IsPartTaken, IsWriting, IsRun, status_of, outcome_text, used_by}
+use Rattle.vx_query.specs.Running.{End, Form, Showing, Statistics, shown_text, scan_form, explain_form, show_form, text_form, gen_form, reads_request, shown_word, scan_by, Outcome, out_of_memory, unread, refused, unscanned, broken, answered, explained, undecoded, unshown, shown, unnamed, unserialized, overlong, named, summed, Writing, IsOutcome, IsTaken, IsPartTaken, IsWriting, IsRun, status_of, outcome_text, used_by}
 use Rattle.vx_query.specs.RefusalViews.{refusal_status, refusal_text, input_refusal, IsUnanswered, IsWordUnshown, IsQueryRefused}
 use Rattle.vx_query.specs.TextViews.{answer_status, answer_text, ExplainsInput, ShowsWord, AnswersQuery, IsAnsweredBy}
 use Rattle.vx_io.specs.declared.reading.InputError.{InputError}
@@ -136,21 +136,21 @@ taken_as before after bytes input e took within quiet = record {
   quiet = quiet;
 }
 
--- an outcome that an ending stands for
-abbrev pub IsEnded : End → End → Ending → Option StoreSeen → Type 0
-IsEnded before after ending used =
-    (o : Outcome) × IsOutcome (Some scan_form) before after o × (status_of o ≡ ending_status ending) × (outcome_text o ≡ ending_text ending)
+-- an outcome that an ending stands for, of a scan by these statistics
+abbrev pub IsEnded : Statistics → End → End → Ending → Option StoreSeen → Type 0
+IsEnded chosen before after ending used =
+    (o : Outcome) × IsOutcome (Some (scan_form chosen)) before after o × (status_of o ≡ ending_status ending) × (outcome_text o ≡ ending_text ending)
     × (used ≡ used_by o)
 
 -- an input that holds a scan
-pub told_taken : (before after : End) (input : Bytes) (ending : Ending) (seen : StoreSeen) → IsTaken before after input → IsAnswered input ending seen
-    → IsEnded before after ending (Some seen)
-told_taken before after input ending seen taken found = by ending found.ends
+pub told_taken : (chosen : Statistics) (before after : End) (input : Bytes) (ending : Ending) (seen : StoreSeen) → IsTaken before after input
+    → IsAnswered chosen input ending seen → IsEnded chosen before after ending (Some seen)
+told_taken chosen before after input ending seen taken found = by ending found.ends
   where
-    by : (e : Ending) → EndsBy found.asked found.filter found.projection e seen → IsEnded before after e (Some seen)
-    by (Report text) ends = (answered input found.asked found.filter found.projection, (refl, (taken, (found.holds, ends.0))), refl, sym ends.1, ap Some ends.2)
-    by Overflow ends = (broken by_sum input found.asked found.filter found.projection, (refl, (taken, (found.holds, ends.0))), refl, refl, ap Some ends.1)
-    by BadCast ends = (broken by_cast input found.asked found.filter found.projection, (refl, (taken, (found.holds, ends.0))), refl, refl, ap Some ends.1)
+    by : (e : Ending) → EndsBy (scan_by chosen found.asked) found.filter found.projection e seen → IsEnded chosen before after e (Some seen)
+    by (Report text) ends = (answered chosen input found.asked found.filter found.projection, (refl, (taken, (found.holds, ends.0))), refl, sym ends.1, ap Some ends.2)
+    by Overflow ends = (broken chosen by_sum input found.asked found.filter found.projection, (refl, (taken, (found.holds, ends.0))), refl, refl, ap Some ends.1)
+    by BadCast ends = (broken chosen by_cast input found.asked found.filter found.projection, (refl, (taken, (found.holds, ends.0))), refl, refl, ap Some ends.1)
 
 -- a run of an outcome
 pub run_of : (form : Option Form) (i i' o o' : End) (used : Option StoreSeen) (status : ℕ) (outcome : Outcome) → IsOutcome form i i' outcome
@@ -179,10 +179,10 @@ run_answered form other i i' o o' status answer is by (writing, written) = recor
 }
 
 -- a run whose scan ended
-pub run_ended : (form : Option Form) (i i' o o' : End) (used : Option StoreSeen) (status told : ℕ) (text : Bytes) (ending : Ending) → form ≡ Some scan_form
-    → IsEnded i i' ending used → told ≡ ending_status ending → text ≡ ending_text ending
+pub run_ended : (chosen : Statistics) (form : Option Form) (i i' o o' : End) (used : Option StoreSeen) (status told : ℕ) (text : Bytes) (ending : Ending)
+    → form ≡ Some (scan_form chosen) → IsEnded chosen i i' ending used → told ≡ ending_status ending → text ≡ ending_text ending
     → (writing : Writing) × IsWriting o o' text told status writing → IsRun form i i' o o' used status
-run_ended form i i' o o' used status told text ending is by tells texts (writing, written) = record {
+run_ended chosen form i i' o o' used status told text ending is by tells texts (writing, written) = record {
   outcome = by.0;
   comes = subst (λ f. IsOutcome f i i' by.0) (sym is) by.1;
   writing = writing;

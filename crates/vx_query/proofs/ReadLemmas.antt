@@ -20,19 +20,19 @@ use Rattle.vx_laws_scan.specs.Pruned.{KeptNumbersAreKeptBlocks}
 use Rattle.vx_laws_scan.proofs.BlockReads.{block_reads, reads_by_block}
 use Rattle.vx_tables.specs.Blocks.{have_lengths, have_types}
 use Rattle.vx_scan.specs.Runs.{block_asked}
-use Rattle.vx_scan.specs.ScanLaws.{is_asked_read}
 use Rattle.vx_scan.specs.Scanning.{AreAmong, asked_reads}
 use Rattle.vx_scan.specs.Stores.{Read, StoreSeen}
 use Rattle.vx_scan.proofs.AmongLemmas.{among_nothing, among_all, among_append}
 use Rattle.vx_scan.proofs.AskedLemmas.{all_so, all_passing, all_here, number_itself, among_pass, reads_are_asked, reads_are_distinct}
 use Rattle.vx_tables.proofs.BlockLemmas.{table_lengths}
-use Rattle.vx_request.specs.Requests.{RequestedScan, request_of}
+use Rattle.vx_request.specs.Requests.{RequestedScan}
 use Rattle.vx_query.specs.BlockAgreement.{agree}
-use Rattle.vx_query.specs.Running.{End, Form, reads_request, IsTaken, HoldsScan, scan_table, scan_reads, scanned_store, broken_store, Outcome, misused, helped, versioned, out_of_memory, unread, refused, unscanned, broken, answered, explained, undecoded, unshown, shown, unnamed, unserialized, overlong, named, summed, IsOutcome, IsRun, used_by}
+use Rattle.vx_query.specs.Running.{End, Form, Statistics, reads_request, scan_form, scan_by, IsTaken, HoldsScan, scan_table, scan_reads, scanned_store, broken_store, Outcome, misused, helped, versioned, out_of_memory, unread, refused, unscanned, broken, answered, explained, undecoded, unshown, shown, unnamed, unserialized, overlong, named, summed, IsOutcome, IsRun, used_by}
 use Rattle.vx_query.specs.Causes.{store_after, is_needed_read, HasAskedReads}
 use Rattle.vx_query.proofs.CellLemmas.{and_left}
 use Rattle.vx_query.proofs.CauseLemmas.{breaks_by_one}
-use Rattle.vx_query.proofs.NameLemmas.{request_names}
+use Rattle.vx_query.proofs.StatisticsLemmas.{agree_by, names_by}
+use Rattle.vx_query.proofs.SoundScans.{request_names}
 use Rattle.vx_query.proofs.BlockAgreementLemmas.{agree_in}
 use Rattle.vx_query.proofs.RequestEnds.{not_none}
 
@@ -80,19 +80,17 @@ blocks_among a f p (b ∷ bs) =
     among_append (own ++ cond some further []) (flat_map (block_reads t [] f p) bs) (own ++ further) (flat_map (block_asked a.zones f p) (map (λ b. b.0) bs))
     (among_append own (cond some further []) own further (among_all own) (further_among some further)) (blocks_among a f p bs)
 
--- a request's table has as many blocks as its zones have lengths
-as_many : (input : Bytes) (a : RequestedScan) → request_of input ≡ Ok a → length (scan_table a).blocks ≡ length a.zones.lengths
-as_many input a asked =
-    let lengths : have_lengths a.zones a.blocks ≡ true =
-    and_left (have_lengths a.zones a.blocks) (have_types a.zones a.blocks) (ap agree (sym asked) ∙ agree_in input) in
+-- a table whose blocks agree with its zones has as many as these have lengths
+as_many : (a : RequestedScan) → agree (Ok a) ≡ true → length (scan_table a).blocks ≡ length a.zones.lengths
+as_many a agreeing =
+    let lengths : have_lengths a.zones a.blocks ≡ true = and_left (have_lengths a.zones a.blocks) (have_types a.zones a.blocks) agreeing in
     let same = table_lengths a.zones.columns (length (field_names a.zones.columns)) a.zones.lengths a.blocks lengths in
     sym (length-map (scan_table a).blocks length) ∙ ap (λ ns. length ns) same
 
-reads_among : KeptNumbersAreKeptBlocks → (input : Bytes) (a : RequestedScan) (f p : Tree) → request_of input ≡ Ok a
-    → AreAmong (scan_reads a f p) (asked_reads a.zones [] f p)
-reads_among kept input a f p asked =
+reads_among : KeptNumbersAreKeptBlocks → (a : RequestedScan) (f p : Tree) → agree (Ok a) ≡ true → AreAmong (scan_reads a f p) (asked_reads a.zones [] f p)
+reads_among kept a f p agreeing =
     let blocks = kept_of (scan_table a) a.zones [] f in
-    let numbers : map (λ b. b.0) blocks ≡ kept_blocks a.zones [] f = kept a.zones (scan_table a) [] f (as_many input a asked) in
+    let numbers : map (λ b. b.0) blocks ≡ kept_blocks a.zones [] f = kept a.zones (scan_table a) [] f (as_many a agreeing) in
     subst (λ rs. AreAmong rs (asked_reads a.zones [] f p)) (sym (reads_by_block (scan_table a) a.zones [] f p))
     (subst (λ ns. AreAmong (flat_map (block_reads (row_type a.zones.columns) [] f p) blocks) (flat_map (block_asked a.zones f p) ns)) numbers
     (blocks_among a f p blocks))
@@ -171,14 +169,19 @@ reads_needed a f p =
 -- ---- the store of a run
 
 pub asked_alone : KeptNumbersAreKeptBlocks → (form : Option Form) (i i' o o' : End) (store : StoreSeen) (status : ℕ)
-    → reads_request form ≡ true → IsRun form i i' o o' (Some store) status → HasAskedReads i i' store
+    → reads_request form ≡ true → IsRun form i i' o o' (Some store) status → HasAskedReads form i i' store
 asked_alone kept form i i' o o' store status reads run = by run.outcome run.comes run.held
   where
-    store_of : (input : Bytes) (a : RequestedScan) (f p : Tree) → IsTaken i i' input → HoldsScan input a f p → store ≡ store_after a f p
-        → AreAmong store.log (scan_reads a f p) → HasAskedReads i i' store
-    store_of input a f p taken asks held among =
-        let all = among_trans store.log (scan_reads a f p) (asked_reads a.zones [] f p) among (reads_among kept input a f p asks.asked) in
+    store_of : (chosen : Statistics) → form ≡ Some (scan_form chosen) → (input : Bytes) (a : RequestedScan) (f p : Tree) → IsTaken i i' input
+        → HoldsScan input a f p → store ≡ store_after (scan_by chosen a) f p → AreAmong store.log (scan_reads (scan_by chosen a) f p)
+        → HasAskedReads form i i' store
+    store_of chosen scans input a f p taken asks held among =
+        let b = scan_by chosen a in
+        let agreeing : agree (Ok b) ≡ true = agree_by chosen a (ap agree (sym asks.asked) ∙ agree_in input) in
+        let all = among_trans store.log (scan_reads b f p) (asked_reads b.zones [] f p) among (reads_among kept b f p agreeing) in
         record {
+          statistics = chosen;
+          scans = scans;
           input = input;
           asked = a;
           filter = f;
@@ -186,12 +189,12 @@ asked_alone kept form i i' o o' store status reads run = by run.outcome run.come
           taken = taken;
           asks = asks;
           held = held;
-          all_asked = reads_are_asked a.zones [] f p store.log all;
-          all_needed = among_pass (is_needed_read a f) store.log (scan_reads a f p) among (reads_needed a f p);
-          distinct = reads_are_distinct a.zones [] f p store.log (request_names input a asks.asked) all;
+          all_asked = reads_are_asked b.zones [] f p store.log all;
+          all_needed = among_pass (is_needed_read b f) store.log (scan_reads b f p) among (reads_needed b f p);
+          distinct = reads_are_distinct b.zones [] f p store.log (names_by chosen a (request_names input a asks.asked)) all;
         }
 
-    by : (outcome : Outcome) → IsOutcome form i i' outcome → Some store ≡ used_by outcome → HasAskedReads i i' store
+    by : (outcome : Outcome) → IsOutcome form i i' outcome → Some store ≡ used_by outcome → HasAskedReads form i i' store
     by misused comes held = absurd (not_none held)
     by helped comes held = absurd (not_none held)
     by versioned comes held = absurd (not_none held)
@@ -199,18 +202,19 @@ asked_alone kept form i i' o o' store status reads run = by run.outcome run.come
     by unread comes held = absurd (not_none held)
     by (refused input e) comes held = absurd (not_none held)
     by (unscanned input e) comes held = absurd (not_none held)
-    by (broken cause input a f p) comes held =
-        let whole : store_after a f p ≡ broken_store a f p =
-        ap (λ b. cond b (broken_store a f p) (scanned_store a f p)) (breaks_by_one cause a f p comes.1.1.1) in
-        let log : store.log ≡ reads_to_break (scan_table a) a.zones [] f p = ap (λ s. s.log) (same_Some store (broken_store a f p) held) in
-        store_of input a f p comes.1.0 comes.1.1.0 (same_Some store (broken_store a f p) held ∙ sym whole)
-        (subst (λ rs. AreAmong rs (scan_reads a f p)) (sym log) (to_break_among (row_type a.zones.columns) [] (phases_of (scan_table a) a.zones [] f p)))
-    by (answered input a f p) comes held =
-        let whole : store_after a f p ≡ scanned_store a f p =
-        ap (λ b. cond b (broken_store a f p) (scanned_store a f p)) comes.1.1.1 in
-        let log : store.log ≡ scan_reads a f p = ap (λ s. s.log) (same_Some store (scanned_store a f p) held) in
-        store_of input a f p comes.1.0 comes.1.1.0 (same_Some store (scanned_store a f p) held ∙ sym whole)
-        (subst (λ rs. AreAmong rs (scan_reads a f p)) (sym log) (among_all (scan_reads a f p)))
+    by (broken chosen cause input a f p) comes held =
+        let b = scan_by chosen a in
+        let whole : store_after b f p ≡ broken_store b f p =
+        ap (λ x. cond x (broken_store b f p) (scanned_store b f p)) (breaks_by_one cause b f p comes.1.1.1) in
+        let log : store.log ≡ reads_to_break (scan_table b) b.zones [] f p = ap (λ s. s.log) (same_Some store (broken_store b f p) held) in
+        store_of chosen comes.0 input a f p comes.1.0 comes.1.1.0 (same_Some store (broken_store b f p) held ∙ sym whole)
+        (subst (λ rs. AreAmong rs (scan_reads b f p)) (sym log) (to_break_among (row_type b.zones.columns) [] (phases_of (scan_table b) b.zones [] f p)))
+    by (answered chosen input a f p) comes held =
+        let b = scan_by chosen a in
+        let whole : store_after b f p ≡ scanned_store b f p = ap (λ x. cond x (broken_store b f p) (scanned_store b f p)) comes.1.1.1 in
+        let log : store.log ≡ scan_reads b f p = ap (λ s. s.log) (same_Some store (scanned_store b f p) held) in
+        store_of chosen comes.0 input a f p comes.1.0 comes.1.1.0 (same_Some store (scanned_store b f p) held ∙ sym whole)
+        (subst (λ rs. AreAmong rs (scan_reads b f p)) (sym log) (among_all (scan_reads b f p)))
     by (explained input a f p) comes held = absurd (not_none held)
     by undecoded comes held = absurd (not_none held)
     by (unshown e) comes held = absurd (not_none held)

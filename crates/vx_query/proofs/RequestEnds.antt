@@ -10,7 +10,7 @@ use Rattle.vx_explain.specs.Explanations.{explain_text}
 use Rattle.vx_request.specs.Requests.{RequestedScan, request_of}
 use Rattle.vx_request.specs.declared.errors.RequestError.{RequestError}
 use Rattle.vx_query.specs.Refusals.{request_refusal_name, scan_refusal_name, break_name, refusal_line}
-use Rattle.vx_query.specs.Running.{End, Form, HoldsScan, HoldsRefused, scan_breaks, scan_breaks_by, scan_report, scanned_store, broken_store, scan_form, explain_form, show_form, text_form, gen_form, help_form, version_form, reads_request, shown_word, asked_query, IsTaken, Outcome, misused, helped, versioned, out_of_memory, unread, refused, unscanned, broken, answered, explained, undecoded, unshown, shown, unnamed, unserialized, overlong, named, summed, Writing, whole, cut, IsOutcome, IsWriting, IsRun, status_of, outcome_text, used_by}
+use Rattle.vx_query.specs.Running.{End, Form, Statistics, HoldsScan, HoldsRefused, scan_by, scan_breaks, scan_breaks_by, scan_report, scanned_store, broken_store, scan_form, explain_form, show_form, text_form, gen_form, help_form, version_form, reads_request, shown_word, asked_query, IsTaken, Outcome, misused, helped, versioned, out_of_memory, unread, refused, unscanned, broken, answered, explained, undecoded, unshown, shown, unnamed, unserialized, overlong, named, summed, Writing, whole, cut, IsOutcome, IsWriting, IsRun, status_of, outcome_text, used_by}
 use Rattle.vx_query.specs.Causes.{HasRisen}
 
 pub not_none : {X : Type 0} {x : X} → Some x ≡ None → ⊥
@@ -25,12 +25,13 @@ pub data RequestEnd (form : Option Form) (i i' o o' : End) (used : Option StoreS
       → Added o.bytes o'.bytes (refusal_line (request_refusal_name e)) → used ≡ None → RequestEnd form i i' o o' used status
   no_scan : (input : Bytes) (e : ScanError) → status ≡ 4 → IsTaken i i' input → HoldsRefused input e
       → Added o.bytes o'.bytes (refusal_line (scan_refusal_name e)) → used ≡ None → RequestEnd form i i' o o' used status
-  breaks : (cause : Cause) (input : Bytes) (a : RequestedScan) (f p : Tree) → status ≡ 5 → form ≡ Some scan_form → IsTaken i i' input
-      → HoldsScan input a f p → scan_breaks_by cause a f p ≡ true → Added o.bytes o'.bytes (refusal_line (break_name cause))
-      → used ≡ Some (broken_store a f p) → RequestEnd form i i' o o' used status
-  reports : (input : Bytes) (a : RequestedScan) (f p : Tree) → status ≡ 0 → form ≡ Some scan_form → IsTaken i i' input → HoldsScan input a f p
-      → scan_breaks a f p ≡ false → Added o.bytes o'.bytes (scan_report a f p) → used ≡ Some (scanned_store a f p)
+  breaks : (chosen : Statistics) (cause : Cause) (input : Bytes) (a : RequestedScan) (f p : Tree) → status ≡ 5 → form ≡ Some (scan_form chosen)
+      → IsTaken i i' input → HoldsScan input a f p → scan_breaks_by cause (scan_by chosen a) f p ≡ true
+      → Added o.bytes o'.bytes (refusal_line (break_name cause)) → used ≡ Some (broken_store (scan_by chosen a) f p)
       → RequestEnd form i i' o o' used status
+  reports : (chosen : Statistics) (input : Bytes) (a : RequestedScan) (f p : Tree) → status ≡ 0 → form ≡ Some (scan_form chosen) → IsTaken i i' input
+      → HoldsScan input a f p → scan_breaks (scan_by chosen a) f p ≡ false → Added o.bytes o'.bytes (scan_report (scan_by chosen a) f p)
+      → used ≡ Some (scanned_store (scan_by chosen a) f p) → RequestEnd form i i' o o' used status
   explains : (input : Bytes) (a : RequestedScan) (f p : Tree) → status ≡ 0 → form ≡ Some explain_form → IsTaken i i' input → HoldsScan input a f p
       → Added o.bytes o'.bytes (explain_text a.zones f p) → used ≡ None → RequestEnd form i i' o o' used status
 
@@ -40,7 +41,7 @@ reads_other form other reads none same = true≢false (sym reads ∙ ap reads_re
 
 pub shows_none : (form : Option Form) (word : Bytes) → reads_request form ≡ true → ¬ (shown_word form ≡ Some word)
 shows_none None word reads h = true≢false (sym reads)
-shows_none (Some scan_form) word reads h = not_none (sym h)
+shows_none (Some (scan_form chosen)) word reads h = not_none (sym h)
 shows_none (Some explain_form) word reads h = not_none (sym h)
 shows_none (Some (show_form showing other)) word reads h = true≢false (sym reads)
 shows_none (Some (text_form other)) word reads h = true≢false (sym reads)
@@ -50,7 +51,7 @@ shows_none (Some version_form) word reads h = true≢false (sym reads)
 
 pub asks_none : (form : Option Form) (query : Bytes) → reads_request form ≡ true → ¬ (asked_query form ≡ Some query)
 asks_none None query reads h = true≢false (sym reads)
-asks_none (Some scan_form) query reads h = not_none (sym h)
+asks_none (Some (scan_form chosen)) query reads h = not_none (sym h)
 asks_none (Some explain_form) query reads h = not_none (sym h)
 asks_none (Some (show_form showing other)) query reads h = true≢false (sym reads)
 asks_none (Some (text_form other)) query reads h = true≢false (sym reads)
@@ -72,9 +73,10 @@ request_end form i i' o o' used status reads run = by run.outcome run.writing ru
     by unread whole comes written held = not_read written.0 comes.1.1 held
     by (refused input e) whole comes written held = no_request input e written.0 comes.1.0 comes.1.1 written.1.0 held
     by (unscanned input e) whole comes written held = no_scan input e written.0 comes.1.0 comes.1.1 written.1.0 held
-    by (broken cause input a f p) whole comes written held =
-        breaks cause input a f p written.0 comes.0 comes.1.0 comes.1.1.0 comes.1.1.1 written.1.0 held
-    by (answered input a f p) whole comes written held = reports input a f p written.0 comes.0 comes.1.0 comes.1.1.0 comes.1.1.1 written.1.0 held
+    by (broken chosen cause input a f p) whole comes written held =
+        breaks chosen cause input a f p written.0 comes.0 comes.1.0 comes.1.1.0 comes.1.1.1 written.1.0 held
+    by (answered chosen input a f p) whole comes written held =
+        reports chosen input a f p written.0 comes.0 comes.1.0 comes.1.1.0 comes.1.1.1 written.1.0 held
     by (explained input a f p) whole comes written held = explains input a f p written.0 comes.0 comes.1.0 comes.1.1 written.1.0 held
     by undecoded whole comes written held = absurd (shows_none form comes.0.0 reads comes.0.1)
     by (unshown e) whole comes written held = absurd (shows_none form comes.0.0 reads comes.0.1)

@@ -1,9 +1,9 @@
 -- The words that tell a number of rows.
-use Rattle.std.proofs.Common.{◌≡◌, ◌∙◌, ◌↔◌, sym, ap, refl, subst, ℕ, ◌+◌, ◌-◌, ◌*◌, ◌^◌, ◌<◌, ◌≤◌, ◌==◌, nat_le, get_or, length, Bool, true, false, cond, not, ◌&&◌, [], ◌∷◌, Option, Some, None, decimal, ◌⊎◌, inl, inr, ⊎_elim, eq-eqb, arith, rules}
-use Rattle.std.proofs.lemmas.Bool.{and_parts, and_from, le-leb, leb-true, eqb-true, ne_eqb, cases_eq}
+use Rattle.std.proofs.Common.{◌≡◌, ◌∙◌, sym, ap, refl, subst, ℕ, ◌+◌, ◌-◌, ◌*◌, ◌^◌, ◌<◌, ◌≤◌, ◌==◌, nat_le, get_or, length, Bool, true, false, cond, not, ◌&&◌, [], ◌∷◌, Some, None, decimal, ⊎_elim, eq-eqb, arith, rules}
+use Rattle.std.proofs.lemmas.Bool.{and_parts, and_from, le-leb, leb-true, ne_eqb, cases_eq}
 use Rattle.std.proofs.lemmas.Option.{same_Some}
 use Rattle.std.proofs.lemmas.Fmt.{decimal_digit, decimal_nonempty, first_decimal, digits_decimal, digits_value-decimal, decimal-digits_value}
-use Rattle.std.proofs.lemmas.Str.Parse.{IsNumeralModel, IsDigitsTest, numerals_by_fold}
+use Rattle.std.proofs.lemmas.Str.Parse.{IsNumeralModel, numerals_by_fold}
 use Rattle.vx_dtype.specs.Types.{Bytes}
 use Rattle.vx_query.specs.GeneratedWords.{most_rows, is_digit, rows_behind, begins_as_number, rows_of_word, WordsTellRows}
 

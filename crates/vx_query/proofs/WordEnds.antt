@@ -29,7 +29,7 @@ shows_other form other word shows none same = not_none (sym shows ∙ ap shown_w
 
 shows_no_query : (form : Option Form) (word query : Bytes) → shown_word form ≡ Some word → ¬ (asked_query form ≡ Some query)
 shows_no_query None word query shows h = not_none (sym shows)
-shows_no_query (Some scan_form) word query shows h = not_none (sym shows)
+shows_no_query (Some (scan_form chosen)) word query shows h = not_none (sym shows)
 shows_no_query (Some explain_form) word query shows h = not_none (sym shows)
 shows_no_query (Some (show_form showing other)) word query shows h = not_none (sym h)
 shows_no_query (Some (text_form other)) word query shows h = not_none (sym shows)
@@ -58,8 +58,8 @@ word_end form word i i' o o' used status shows run = by run.outcome run.writing 
     by unread whole comes written held = absurd (unread_word form word shows comes.0)
     by (refused input e) whole comes written held = absurd (unread_word form word shows comes.0)
     by (unscanned input e) whole comes written held = absurd (unread_word form word shows comes.0)
-    by (broken cause input a f p) whole comes written held = absurd (shows_other form (Some scan_form) word shows refl comes.0)
-    by (answered input a f p) whole comes written held = absurd (shows_other form (Some scan_form) word shows refl comes.0)
+    by (broken chosen cause input a f p) whole comes written held = absurd (shows_other form (Some (scan_form chosen)) word shows refl comes.0)
+    by (answered chosen input a f p) whole comes written held = absurd (shows_other form (Some (scan_form chosen)) word shows refl comes.0)
     by (explained input a f p) whole comes written held = absurd (shows_other form (Some explain_form) word shows refl comes.0)
     by undecoded whole comes written held =
         no_digits written.0 (subst (λ w. hex_bytes w ≡ None) (same_word form word comes.0.0 shows comes.0.1) comes.0.2) written.1.0

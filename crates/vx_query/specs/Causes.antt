@@ -23,24 +23,24 @@ use Rattle.vx_text.specs.declared.errors.TextError.{TextError}
 use Rattle.vx_text.specs.declared.errors.TextError.TheVariants.{TooLong}
 use Rattle.vx_explain.specs.Explanations.{explain_text}
 use Rattle.vx_query.specs.Running.{reads_request, IsPartTaken, IsCutShort, used_by, WordIsRefused}
-use Rattle.vx_query.specs.Running.{End, Form, IsTaken, HoldsScan, HoldsRefused, WordSpells, Names, IsShallow, IsOverlong, HasBytes, bytes_line, Outcome}
-use Rattle.vx_query.specs.Running.{IsOutcome, outcome_text, scan_form, scan_table, scan_reads, scan_report, scan_breaks, scan_breaks_by, scanned_store, broken_store}
+use Rattle.vx_query.specs.Running.{End, Form, Statistics, IsTaken, HoldsScan, HoldsRefused, WordSpells, Names, IsShallow, IsOverlong, HasBytes, bytes_line, Outcome}
+use Rattle.vx_query.specs.Running.{IsOutcome, outcome_text, scan_form, scan_by, scan_table, scan_reads, scan_report, scan_breaks, scan_breaks_by, scanned_store, broken_store}
 
 -- an end counted a fault
 abbrev pub HasRisen : End → End → Type 0
 HasRisen before after = one_more before.faults ≤ after.faults
 
--- a report was written whole: of the scan that the input holds, no phase of which breaks, and whose store is held
-pub record IsReported (in_before in_after out_before out_after : End) (used : Option StoreSeen) : Type 0 where
+-- a report was written whole: of the scan by these statistics that the input holds, no phase of which breaks, and whose store is held
+pub record IsReported (s : Statistics) (in_before in_after out_before out_after : End) (used : Option StoreSeen) : Type 0 where
   pub input : Bytes
   pub asked : RequestedScan
   pub filter : Tree
   pub projection : Tree
   pub taken : IsTaken in_before in_after input
   pub asks : HoldsScan input asked filter projection
-  pub unbroken : scan_breaks asked filter projection ≡ false
-  pub written : Added out_before.bytes out_after.bytes (scan_report asked filter projection)
-  pub held : used ≡ Some (scanned_store asked filter projection)
+  pub unbroken : scan_breaks (scan_by s asked) filter projection ≡ false
+  pub written : Added out_before.bytes out_after.bytes (scan_report (scan_by s asked) filter projection)
+  pub held : used ≡ Some (scanned_store (scan_by s asked) filter projection)
 
 -- an input was taken that is no request, and the line of its refusal was written; no store is held
 pub record IsUnasked (in_before in_after out_before out_after : End) (used : Option StoreSeen) : Type 0 where
@@ -60,9 +60,11 @@ pub record IsUnscanned (in_before in_after out_before out_after : End) (used : O
   pub written : Added out_before.bytes out_after.bytes (refusal_line (scan_refusal_name refusal))
   pub unheld : used ≡ None
 
--- an input was taken that holds a scan whose first phase that breaks does so by a cause, and the line of the cause was written; the store is held with
--- the reads up to there
-pub record IsStopped (in_before in_after out_before out_after : End) (used : Option StoreSeen) : Type 0 where
+-- the arguments ask a scan by some statistics, an input was taken that holds one whose first phase that breaks by them does so by a cause, and the line of
+-- the cause was written; the store is held with the reads up to there
+pub record IsStopped (form : Option Form) (in_before in_after out_before out_after : End) (used : Option StoreSeen) : Type 0 where
+  pub statistics : Statistics
+  pub scans : form ≡ Some (scan_form statistics)
   pub input : Bytes
   pub asked : RequestedScan
   pub filter : Tree
@@ -70,9 +72,9 @@ pub record IsStopped (in_before in_after out_before out_after : End) (used : Opt
   pub cause : Cause
   pub taken : IsTaken in_before in_after input
   pub asks : HoldsScan input asked filter projection
-  pub breaks : scan_breaks_by cause asked filter projection ≡ true
+  pub breaks : scan_breaks_by cause (scan_by statistics asked) filter projection ≡ true
   pub written : Added out_before.bytes out_after.bytes (refusal_line (break_name cause))
-  pub held : used ≡ Some (broken_store asked filter projection)
+  pub held : used ≡ Some (broken_store (scan_by statistics asked) filter projection)
 
 -- the store after a scan: with the reads up to the end of its first phase that breaks where one does, with all where none does
 abbrev pub store_after : RequestedScan → Tree → Tree → StoreSeen
@@ -84,18 +86,20 @@ is_needed_read a f r =
     has_name r.1 (asked_columns (row_type a.zones.columns) f)
     || list_any (λ b. nat_eq r.0 b.0 && has_rows (matching_rows (row_type a.zones.columns) [] f b.1)) (numbered_from 0 (scan_table a).blocks)
 
--- a store that was scanned as the input asks. Each of its reads is of a kept block and of a column that the filter or the projection asks, for the
--- projection alone only where the filter means true at some row of the block; and none stands twice
-pub record HasAskedReads (in_before in_after : End) (store : StoreSeen) : Type 0 where
+-- a store that was scanned as the arguments and the input ask. Each of its reads is of a kept block and of a column that the filter or the projection
+-- asks, for the projection alone only where the filter means true at some row of the block; and none stands twice
+pub record HasAskedReads (form : Option Form) (in_before in_after : End) (store : StoreSeen) : Type 0 where
+  pub statistics : Statistics
+  pub scans : form ≡ Some (scan_form statistics)
   pub input : Bytes
   pub asked : RequestedScan
   pub filter : Tree
   pub projection : Tree
   pub taken : IsTaken in_before in_after input
   pub asks : HoldsScan input asked filter projection
-  pub held : store ≡ store_after asked filter projection
-  pub all_asked : list_all (is_asked_read asked.zones [] filter projection) store.log ≡ true
-  pub all_needed : list_all (is_needed_read asked filter) store.log ≡ true
+  pub held : store ≡ store_after (scan_by statistics asked) filter projection
+  pub all_asked : list_all (is_asked_read (scan_by statistics asked).zones [] filter projection) store.log ≡ true
+  pub all_needed : list_all (is_needed_read (scan_by statistics asked) filter) store.log ≡ true
   pub distinct : distinct_reads store.log ≡ true
 
 -- an explanation was written whole: of the scan that the input holds; no store is held
@@ -144,16 +148,17 @@ pub record IsMisuse (in_before in_after out_before out_after : End) (used : Opti
   pub untaken : in_after ≡ in_before
   pub unheld : used ≡ None
 
--- the argument was `scan`, and an input was taken that holds a scan whose first phase that breaks does so by a cause
+-- the arguments ask a scan by some statistics, and an input was taken that holds one whose first phase that breaks by them does so by a cause
 pub record HasBroken (cause : Cause) (form : Option Form) (in_before in_after : End) : Type 0 where
-  pub scans : form ≡ Some scan_form
+  pub statistics : Statistics
+  pub scans : form ≡ Some (scan_form statistics)
   pub input : Bytes
   pub asked : RequestedScan
   pub filter : Tree
   pub projection : Tree
   pub taken : IsTaken in_before in_after input
   pub asks : HoldsScan input asked filter projection
-  pub breaks : scan_breaks_by cause asked filter projection ≡ true
+  pub breaks : scan_breaks_by cause (scan_by statistics asked) filter projection ≡ true
 
 -- the sink counted a fault, and the first bytes were written of the text in which the run was to end; what was taken, and the store that is held, are
 -- those of that end
@@ -224,12 +229,12 @@ pub record TellsScan (before : End) : Type 0 where
   pub projection : Tree
   pub asks : HoldsScan input asked filter projection
 
--- whether a phase of this scan breaks, and whether the first that does so breaks by this cause
-abbrev pub told_breaks : {before : End} → TellsScan before → Bool
-told_breaks told = scan_breaks told.asked told.filter told.projection
+-- whether a phase of this scan by these statistics breaks, and whether the first that does so breaks by this cause
+abbrev pub told_breaks : {before : End} → Statistics → TellsScan before → Bool
+told_breaks s told = scan_breaks (scan_by s told.asked) told.filter told.projection
 
-abbrev pub told_breaks_by : {before : End} → Cause → TellsScan before → Bool
-told_breaks_by cause told = scan_breaks_by cause told.asked told.filter told.projection
+abbrev pub told_breaks_by : {before : End} → Cause → Statistics → TellsScan before → Bool
+told_breaks_by cause s told = scan_breaks_by cause (scan_by s told.asked) told.filter told.projection
 
 -- the report of a scan with what the projection means at all rows at which the filter means true, whatever the statistics say
 abbrev pub whole_report : RequestedScan → Tree → Tree → Bytes

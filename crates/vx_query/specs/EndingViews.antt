@@ -9,7 +9,7 @@ use Rattle.vx_scan.specs.declared.errors.ScanError.{ScanError}
 use Rattle.vx_scan.specs.declared.errors.ScanError.TheVariants as scans
 use Rattle.vx_request.specs.Requests.{RequestedScan}
 use Rattle.vx_query.specs.Refusals.{break_name, refusal_line}
-use Rattle.vx_query.specs.Running.{HoldsScan, SpellsScan, IsScanRefused, type_of_scan, scan_breaks, scan_breaks_by, scan_report, scanned_store, broken_store}
+use Rattle.vx_query.specs.Running.{Statistics, HoldsScan, SpellsScan, IsScanRefused, type_of_scan, scan_by, scan_breaks, scan_breaks_by, scan_report, scanned_store, broken_store}
 use Rattle.vx_query.specs.declared.endings.Ending.{Ending}
 use Rattle.vx_query.specs.declared.endings.Ending.TheVariants.{Report, Overflow, BadCast}
 
@@ -39,13 +39,13 @@ pub record IsScanned (a : RequestedScan) (ending : Ending) (seen : StoreSeen) : 
   pub typed : type_of_scan a filter projection ≡ Ok ty
   pub ends : EndsBy a filter projection ending seen
 
--- an input holds a scan that ends so
-pub record IsAnswered (input : Bytes) (ending : Ending) (seen : StoreSeen) : Type 0 where
+-- an input holds a scan that ends so by these statistics
+pub record IsAnswered (s : Statistics) (input : Bytes) (ending : Ending) (seen : StoreSeen) : Type 0 where
   pub asked : RequestedScan
   pub filter : Tree
   pub projection : Tree
   pub holds : HoldsScan input asked filter projection
-  pub ends : EndsBy asked filter projection ending seen
+  pub ends : EndsBy (scan_by s asked) filter projection ending seen
 
 -- why a scan whose store counts no fault gives no report
 abbrev pub IsUnreported : RequestedScan → ScanError → StoreSeen → Type 0

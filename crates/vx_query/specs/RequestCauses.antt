@@ -1,5 +1,5 @@
 -- Why an input is no request, one definition for each refusal: of its length, of its text, of its places, of its hexadecimal digits, of its table.
-use Rattle.std.specs.Prelude.{◌≡◌, ℕ, ◌<◌, ◌≤◌, Bool, true, false, length, map, Option, Some, None, Ok, Err}
+use Rattle.std.specs.Prelude.{◌≡◌, ◌<◌, ◌≤◌, Bool, true, false, length, map, Some, None, Ok, Err}
 use Rattle.std.specs.List.{list_all}
 use Rattle.serde_json.specs.Data.{Data}
 use Rattle.vx_dtype.specs.Types.{Bytes}

@@ -5,6 +5,8 @@ use Rattle.vx_request.specs.Requests.{RequestedScan}
 use Rattle.vx_query.specs.Running as running
 use Rattle.vx_query.specs.declared.forms.Showing.{Showing}
 use Rattle.vx_query.specs.declared.forms.Showing.TheVariants.{Line, Tree, Query}
+use Rattle.vx_query.specs.declared.forms.Statistics.{Statistics}
+use Rattle.vx_query.specs.declared.forms.Statistics.TheVariants.{Given, Built}
 use Rattle.vx_query.specs.declared.forms.Form.{Form}
 use Rattle.vx_query.specs.declared.forms.Form.TheVariants.{Scan, Explain, Show, Text, Generated, Help, Version}
 
@@ -14,9 +16,14 @@ showing_view Line = running.as_line
 showing_view Tree = running.as_tree
 showing_view Query = running.as_query
 
+-- by which statistics a scan goes, as a value of the code says
+abbrev pub statistics_view : Statistics → running.Statistics
+statistics_view Given = running.given
+statistics_view Built = running.built
+
 -- the form that a value of the code stands for
 abbrev pub form_view : Form → running.Form
-form_view Scan = running.scan_form
+form_view (Scan statistics) = running.scan_form (statistics_view statistics)
 form_view Explain = running.explain_form
 form_view (Show showing hex) = running.show_form (showing_view showing) hex.now
 form_view (Text query) = running.text_form query.now

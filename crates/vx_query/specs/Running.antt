@@ -27,6 +27,7 @@ use Rattle.vx_scan.specs.declared.errors.Side.TheVariants.{Text}
 use Rattle.vx_scan.specs.declared.errors.ScanError.{ScanError}
 use Rattle.vx_io.specs.Ends.{TookPart, TookUpTo, Added, AddedPrefix}
 use Rattle.vx_laws_generated.specs.GeneratedLine.{gen_line}
+use Rattle.vx_laws_stats.specs.BuiltStatistics.{built_zones}
 use Rattle.vx_generated.specs.GeneratedBlocks.{generated_store}
 use Rattle.vx_query.specs.GeneratedWords.{rows_of_word}
 use Rattle.vx_query.specs.Reports.{report_text}
@@ -46,9 +47,14 @@ shown_text as_line = shown_line
 shown_text as_tree = tree_text_of
 shown_text as_query = query_line
 
+-- by which statistics a scan goes: those that its request gives, or those that its table has
+pub data Statistics : Type 0 where
+  given : Statistics
+  built : Statistics
+
 -- the forms of arguments
 pub data Form : Type 0 where
-  scan_form : Form
+  scan_form : Statistics → Form
   explain_form : Form
   show_form : Showing → Bytes → Form
   text_form : Bytes → Form
@@ -59,18 +65,20 @@ pub data Form : Type 0 where
 -- the form of one argument
 abbrev pub form_named : Bytes → Option Form
 form_named argument =
-    cond (bytes_eq argument (codes "scan")) (Some scan_form)
+    cond (bytes_eq argument (codes "scan")) (Some (scan_form given))
     (cond (bytes_eq argument (codes "explain")) (Some explain_form)
     (cond (bytes_eq argument (codes "--help")) (Some help_form)
     (cond (bytes_eq argument (codes "--version")) (Some version_form) None)))
 
--- the form that arguments have; any one word may stand behind `show`, `show tree`, `show query` and `text`, and one that tells a number of rows behind `gen`
+-- the form that arguments have; `built` may stand behind `scan`, any one word behind `show`, `show tree`, `show query` and `text`, and one that
+-- tells a number of rows behind `gen`
 abbrev pub form_of : List Bytes → Option Form
 form_of (argument ∷ []) = form_named argument
 form_of (first ∷ word ∷ []) =
-    cond (bytes_eq first (codes "show")) (Some (show_form as_line word))
+    cond (bytes_eq first (codes "scan") && bytes_eq word (codes "built")) (Some (scan_form built))
+    (cond (bytes_eq first (codes "show")) (Some (show_form as_line word))
     (cond (bytes_eq first (codes "text")) (Some (text_form word))
-    (cond (bytes_eq first (codes "gen")) (option_map gen_form (rows_of_word word)) None))
+    (cond (bytes_eq first (codes "gen")) (option_map gen_form (rows_of_word word)) None)))
 form_of (first ∷ second ∷ word ∷ []) =
     cond (bytes_eq first (codes "show") && bytes_eq second (codes "tree")) (Some (show_form as_tree word))
     (cond (bytes_eq first (codes "show") && bytes_eq second (codes "query")) (Some (show_form as_query word)) None)
@@ -78,9 +86,14 @@ form_of _ = None
 
 -- whether arguments of this form read a request
 abbrev pub reads_request : Option Form → Bool
-reads_request (Some scan_form) = true
+reads_request (Some (scan_form s)) = true
 reads_request (Some explain_form) = true
 reads_request _ = false
+
+-- the statistics of a scan of a request, where the arguments have that form
+abbrev pub asked_statistics : Option Form → Option Statistics
+asked_statistics (Some (scan_form s)) = Some s
+asked_statistics _ = None
 
 -- the word of an expression that is to be shown, where the arguments have such a form
 abbrev pub shown_word : Option Form → Option Bytes
@@ -109,6 +122,11 @@ end_by bytes faults end = record { bytes = bytes end; faults = faults end }
 -- the table of a scan
 abbrev pub scan_table : RequestedScan → Table
 scan_table a = table_of_blocks a.zones a.blocks
+
+-- the scan by these statistics; its table stays
+abbrev pub scan_by : Statistics → RequestedScan → RequestedScan
+scan_by given a = a
+scan_by built a = record { zones = built_zones (scan_table a); blocks = a.blocks; filter = a.filter; projection = a.projection }
 
 -- the reads of the scan of a filter and a projection
 abbrev pub scan_reads : RequestedScan → Tree → Tree → List Read
@@ -202,10 +220,10 @@ abbrev pub scan_breaks_by : Cause → RequestedScan → Tree → Tree → Bool
 scan_breaks_by cause a f p = first_breaks_by cause (row_type a.zones.columns) [] (scan_phases a f p)
 
 -- how the program comes to an end: arguments of no form, help, the version, no memory, an input that can't be read, one that is no request, one whose
--- expressions are refused, one whose scan breaks by a sum or a cast, one that is answered by a report and one by an explanation; a word to be shown that
--- is no hexadecimal text, one whose bytes spell no expression, and one that is shown; a query that names no expression, one of whose
--- expression there are no bytes, for a type that is too deep or a part that is too long, and one of whose expression the bytes are written; and a generated
--- table of so many rows that is scanned
+-- expressions are refused, one whose scan by some statistics breaks by a sum or a cast, one that is answered by the report of its scan by some statistics
+-- and one by an explanation; a word to be shown that is no hexadecimal text, one whose bytes spell no expression, and one that is shown; a query that names
+-- no expression, one of whose expression there are no bytes, for a type that is too deep or a part that is too long, and one of whose expression the bytes
+-- are written; and a generated table of so many rows that is scanned
 pub data Outcome : Type 0 where
   misused : Outcome
   helped : Outcome
@@ -214,8 +232,8 @@ pub data Outcome : Type 0 where
   unread : Outcome
   refused : Bytes → RequestError → Outcome
   unscanned : Bytes → ScanError → Outcome
-  broken : Cause → Bytes → RequestedScan → Tree → Tree → Outcome
-  answered : Bytes → RequestedScan → Tree → Tree → Outcome
+  broken : Statistics → Cause → Bytes → RequestedScan → Tree → Tree → Outcome
+  answered : Statistics → Bytes → RequestedScan → Tree → Tree → Outcome
   explained : Bytes → RequestedScan → Tree → Tree → Outcome
   undecoded : Outcome
   unshown : ScanError → Outcome
@@ -253,10 +271,10 @@ IsOutcome form before after out_of_memory = IsCutShort form before after
 IsOutcome form before after unread = (reads_request form ≡ true) × (IsPartTaken before after × (one_more before.faults ≤ after.faults))
 IsOutcome form before after (refused input e) = (reads_request form ≡ true) × (IsTaken before after input × (request_of input ≡ Err e))
 IsOutcome form before after (unscanned input e) = (reads_request form ≡ true) × (IsTaken before after input × HoldsRefused input e)
-IsOutcome form before after (broken cause input a f p) =
-    (form ≡ Some scan_form) × (IsTaken before after input × (HoldsScan input a f p × (scan_breaks_by cause a f p ≡ true)))
-IsOutcome form before after (answered input a f p) =
-    (form ≡ Some scan_form) × (IsTaken before after input × (HoldsScan input a f p × (scan_breaks a f p ≡ false)))
+IsOutcome form before after (broken s cause input a f p) =
+    (form ≡ Some (scan_form s)) × (IsTaken before after input × (HoldsScan input a f p × (scan_breaks_by cause (scan_by s a) f p ≡ true)))
+IsOutcome form before after (answered s input a f p) =
+    (form ≡ Some (scan_form s)) × (IsTaken before after input × (HoldsScan input a f p × (scan_breaks (scan_by s a) f p ≡ false)))
 IsOutcome form before after (explained input a f p) = (form ≡ Some explain_form) × (IsTaken before after input × HoldsScan input a f p)
 IsOutcome form before after undecoded = ((word : Bytes) × (shown_word form ≡ Some word) × (hex_bytes word ≡ None)) × (after ≡ before)
 IsOutcome form before after (unshown e) = ((word : Bytes) × (shown_word form ≡ Some word) × WordIsRefused word e) × (after ≡ before)
@@ -277,6 +295,7 @@ version_text = codes "vx 0.1.0\n"
 abbrev pub help_text : Bytes
 help_text =
     codes "vx scan < REQUEST      prints the selected rows, the skipped blocks and the columns read, as in: vx scan < examples/first.json\n"
+    ++ (codes "vx scan built < REQ    prints the same by the statistics that the table has, as in: vx scan built < examples/built.json\n"
     ++ (codes "vx explain < REQUEST   prints what a scan does with its filter and its projection, as in: vx explain < examples/explain.json\n"
     ++ (codes "vx show HEX            prints the expression that the bytes spell, as in: vx show 04726f6f740000\n"
     ++ (codes "vx show tree HEX       prints it as a tree, as in: vx show tree 04726f6f740000\n"
@@ -286,7 +305,7 @@ help_text =
     ++ (codes "vx --help              prints this text\n"
     ++ (codes "vx --version           prints the version\n"
     ++ (codes "exit status: 0 written whole, 2 wrong arguments, 3 no request or no hex, 4 refused expressions or query, 5 overflow or bad cast,\n"
-    ++ (codes "6 input not read, 7 output not written, 8 no memory\n"))))))))))
+    ++ (codes "6 input not read, 7 output not written, 8 no memory\n")))))))))))
 
 -- the exit status of an outcome
 abbrev pub status_of : Outcome → ℕ
@@ -297,8 +316,8 @@ status_of out_of_memory = 8
 status_of unread = 6
 status_of (refused input e) = 3
 status_of (unscanned input e) = 4
-status_of (broken cause input a f p) = 5
-status_of (answered input a f p) = 0
+status_of (broken s cause input a f p) = 5
+status_of (answered s input a f p) = 0
 status_of (explained input a f p) = 0
 status_of undecoded = 3
 status_of (unshown e) = 4
@@ -318,8 +337,8 @@ outcome_text out_of_memory = refusal_line (codes "NoMemory")
 outcome_text unread = refusal_line (codes "ReadFault")
 outcome_text (refused input e) = refusal_line (request_refusal_name e)
 outcome_text (unscanned input e) = refusal_line (scan_refusal_name e)
-outcome_text (broken cause input a f p) = refusal_line (break_name cause)
-outcome_text (answered input a f p) = scan_report a f p
+outcome_text (broken s cause input a f p) = refusal_line (break_name cause)
+outcome_text (answered s input a f p) = scan_report (scan_by s a) f p
 outcome_text (explained input a f p) = explain_text a.zones f p
 outcome_text undecoded = refusal_line (codes "BadHex text")
 outcome_text (unshown e) = refusal_line (scan_refusal_name e)
@@ -332,8 +351,8 @@ outcome_text (summed rows) = gen_line rows
 
 -- the store that is held after an outcome: the one that was scanned, where a report or the line of a generated table was made, or a phase broke
 abbrev pub used_by : Outcome → Option StoreSeen
-used_by (broken cause input a f p) = Some (broken_store a f p)
-used_by (answered input a f p) = Some (scanned_store a f p)
+used_by (broken s cause input a f p) = Some (broken_store (scan_by s a) f p)
+used_by (answered s input a f p) = Some (scanned_store (scan_by s a) f p)
 used_by (summed rows) = Some (generated_store rows)
 used_by _ = None
 

@@ -17,9 +17,12 @@ ghost use Rattle.vx_query.specs.EndingViews.{IsAnswered, IsScanned, IsUnreported
 ghost use Rattle.vx_query.specs.Reports.{report_text};
 ghost use Rattle.vx_request.specs.Requests.{RequestedScan};
 ghost use Rattle.vx_query.specs.RefusalViews.{IsUnanswered, IsUnscanned};
-ghost use Rattle.vx_query.specs.RunViews.{scan_of};
+ghost use Rattle.vx_query.specs.RunViews.{scan_of, statistics_view};
+ghost use Rattle.vx_query.specs.Running.{scan_by};
+ghost use Rattle.vx_laws_stats.specs.BuiltStatistics.{built_zones};
 
 use crate::endings::Ending;
+use crate::forms::Statistics;
 use crate::refusals::Refusal;
 use crate::reports::report_text;
 use std::alloc::Global;
@@ -28,6 +31,7 @@ use vx_display::row_text;
 use vx_dtype::{DType, FieldName, Mem, NoMemory, ScalarValue};
 use vx_request::{ScanRequest, decode_request};
 use vx_scan::{ColumnStore, MemoryStore, ReadEntry, ScanError, ScanReport, TableError, scan};
+use vx_stats::{StatsError, build_stats};
 use vx_wire::{ExprRegistry, ExprRegistryExt};
 use vx_zones::ZoneMap;
 
@@ -38,9 +42,13 @@ pub(crate) struct Scanned {
     pub(crate) store: MemoryStore,
 }
 
-/// How the scan that an input holds ends, or the one cause that there is none.
-pub(crate) fn answer(alloc: Global, input: &[u8]) -> Result<Scanned, Refusal>
-    ensures answered { IfOk result (λ scanned. IsAnswered input.now scanned.ending (store_seen scanned.store)) }
+/// How the scan by these statistics ends that an input holds, or the one cause that there is none.
+pub(crate) fn answer(
+    alloc: Global,
+    input: &[u8],
+    statistics: Statistics,
+) -> Result<Scanned, Refusal>
+    ensures answered { IfOk result (λ scanned. IsAnswered (statistics_view statistics) input.now scanned.ending (store_seen scanned.store)) }
     ensures refused { IfErr result (IsUnanswered input.now) }
 {
     let request = decode_request(alloc, input)?;
@@ -50,8 +58,39 @@ pub(crate) fn answer(alloc: Global, input: &[u8]) -> Result<Scanned, Refusal>
         filter,
         projection,
     } = request;
-    let store = store_of(alloc, zones, blocks)?;
+    let scanned = scanned_zones(alloc, statistics, zones, blocks.as_slice())?;
+    let store = store_of(alloc, scanned, blocks)?;
     scan_store(alloc, filter.as_slice(), projection.as_slice(), store)
+}
+
+/// The zones by which a scan goes, of blocks that are a table with the zones of its request: these, or those with the
+/// statistics that the blocks have.
+fn scanned_zones(
+    alloc: Global,
+    statistics: Statistics,
+    zones: ZoneMap,
+    blocks: &[Vec<ColumnRef>],
+) -> Mem<ZoneMap>
+    requires { table_refusal zones (map block_view blocks.now) ≡ None }
+    ensures { IfOk result (λ scanned. scanned ≡ (scan_by (statistics_view statistics) (scan_of (new_store zones (map block_view blocks.now) []) [] [])).zones) }
+{
+    match statistics {
+        Statistics::Given => Ok(zones),
+        Statistics::Built => built_of(alloc, &zones, blocks),
+    }
+}
+
+/// The zones with the statistics that blocks have, of blocks that are a table with these zones.
+fn built_of(alloc: Global, zones: &ZoneMap, blocks: &[Vec<ColumnRef>]) -> Mem<ZoneMap>
+    requires { table_refusal zones.now (map block_view blocks.now) ≡ None }
+    ensures { IfOk result (λ built. built ≡ built_zones (table_of_blocks zones.now (map block_view blocks.now))) }
+{
+    match build_stats(alloc, zones, blocks) {
+        Ok(built) => Ok(built),
+        Err(StatsError::NoMemory) => Err(NoMemory),
+        Err(StatsError::WrongLength) => unreachable!(),
+        Err(StatsError::WrongType) => unreachable!(),
+    }
 }
 
 /// The store of blocks of columns that are a table with these zones. No read of it fails.

@@ -14,13 +14,13 @@ ghost use Rattle.vx_query.specs.Causes.{told_breaks, told_breaks_by, whole_repor
 ghost use Rattle.vx_query.specs.Exactly.{Tells, RunsWell, EndsWith};
 ghost use Rattle.vx_query.specs.Refusals.{refusal_line, break_name};
 ghost use Rattle.vx_query.specs.WireLaws.{WireLaws};
-ghost use Rattle.vx_query.specs.Running.{End, Form, IsRun, reads_request, scan_table, scan_report, scanned_store, broken_store, bytes_line};
-ghost use Rattle.vx_query.specs.Running.{Showing, scan_form, explain_form, show_form, text_form, gen_form, shown_text, WordSpells, Names, HasBytes};
+ghost use Rattle.vx_query.specs.Running.{End, Form, IsRun, reads_request, scan_by, scan_table, scan_report, scanned_store, broken_store, bytes_line};
+ghost use Rattle.vx_query.specs.Running.{Showing, Statistics, given, scan_form, explain_form, show_form, text_form, gen_form, shown_text, WordSpells, Names, HasBytes};
 
 use vx_laws_scan::{kept_numbers_are_kept_blocks, kept_rows_are_all};
 use vx_wire::{one_expression, one_tree};
 
-/// 3 and 4 of `scan` and `explain` mean that the input was taken and that the line of its one cause was written: it is no
+/// 3 and 4 of `scan`, `scan built` and `explain` mean that the input was taken and that the line of its one cause was written: it is no
 /// request; the expressions of its scan are refused. No store is held then. Which refusal a line tells is said by the laws of
 /// `refusal_causes`.
 pub fn statuses_have_their_causes()
@@ -30,18 +30,19 @@ pub fn statuses_have_their_causes()
         → IsUnscanned i i' o o' used }
 {}
 
-/// 5 means that the input holds a scan of which a phase breaks, that the line of a cause was written by which the first phase
-/// that breaks does so, and that the store is held with the reads up to there. Where the sink tells the line, its cause is one
-/// of the argument `scan`. And a run of `scan` over a source that tells its bytes, which hold a scan some phase of which
-/// breaks, ends so where there is memory and no end counts a fault.
+/// 5 means that the arguments are `scan` or `scan built`, that the input holds a scan of which a phase breaks by the statistics
+/// of these arguments, that the line of a cause was written by which the first phase that breaks does so, and that the store is
+/// held with the reads up to there. Where the sink tells the line, this is its cause. And a run of `scan` or `scan built` over a
+/// source that tells its bytes, which hold a scan some phase of which so breaks, ends so where there is memory and no end counts
+/// a fault.
 pub fn breaks_exactly()
-    ensures only { (form : Option Form) (i i' o o' : End) (used : Option StoreSeen) → IsRun form i i' o o' used 5 → IsStopped i i' o o' used }
+    ensures only { (form : Option Form) (i i' o o' : End) (used : Option StoreSeen) → IsRun form i i' o o' used 5 → IsStopped form i i' o o' used }
     ensures told { (cause : Cause) (form : Option Form) (i i' o o' : End) (used : Option StoreSeen)
         → Tells form i i' o o' used 5 (refusal_line (break_name cause)) → HasBroken cause form i i' }
-    ensures always { (i i' o o' : End) (used : Option StoreSeen) (status : ℕ) (told : TellsScan i) → told_breaks told ≡ true
-        → RunsWell (Some scan_form) i i' o o' used status → ¬ (HasRisen i i')
-        → ((cause : Cause) × (told_breaks_by cause told ≡ true) × EndsWith 5 (refusal_line (break_name cause)) o o' status)
-        × (used ≡ Some (broken_store told.asked told.filter told.projection)) }
+    ensures always { (s : Statistics) (i i' o o' : End) (used : Option StoreSeen) (status : ℕ) (told : TellsScan i) → told_breaks s told ≡ true
+        → RunsWell (Some (scan_form s)) i i' o o' used status → ¬ (HasRisen i i')
+        → ((cause : Cause) × (told_breaks_by cause s told ≡ true) × EndsWith 5 (refusal_line (break_name cause)) o o' status)
+        × (used ≡ Some (broken_store (scan_by s told.asked) told.filter told.projection)) }
 {
     wire_laws();
 }
@@ -66,32 +67,32 @@ pub fn want_of_memory_is_told()
     ensures { (form : Option Form) (i i' o o' : End) (used : Option StoreSeen) → IsRun form i i' o o' used 8 → IsWithoutMemory form i i' o o' used }
 {}
 
-/// 0 of the argument `scan` means that the input was taken, that it is a request whose two byte texts spell expressions that
-/// are strictly typed for its table, the filter a boolean, that no phase of their scan breaks, and that its report was written
-/// whole.
+/// 0 of `scan` and of `scan built` means that the input was taken, that it is a request whose two byte texts spell expressions
+/// that are strictly typed for its table, the filter a boolean, that no phase of their scan by the statistics of these arguments
+/// breaks, and that its report was written whole.
 pub fn reports_are_typed()
-    ensures { (i i' o o' : End) (used : Option StoreSeen) → IsRun (Some scan_form) i i' o o' used 0 → IsReported i i' o o' used }
+    ensures { (s : Statistics) (i i' o o' : End) (used : Option StoreSeen) → IsRun (Some (scan_form s)) i i' o o' used 0 → IsReported s i i' o o' used }
 {}
 
-/// The store that is held after the scan of a request has just the reads of the scan that the input holds, up to the end of its first phase that
-/// breaks where one does: each is of a block that the statistics don't rule out, and of a column that the filter asks or, where
+/// The store that is held after the scan of a request has just the reads of the scan that the arguments and the input ask, up to the end of its first phase that
+/// breaks where one does: each is of a block that its statistics don't rule out, and of a column that the filter asks or, where
 /// this means true at some row of the block, the projection; and none stands twice.
 pub fn reads_are_asked()
     ensures { (form : Option Form) (i i' o o' : End) (store : StoreSeen) (status : ℕ) → reads_request form ≡ true → IsRun form i i' o o' (Some store) status
-        → HasAskedReads i i' store }
+        → HasAskedReads form i i' store }
 {
     kept_numbers_are_kept_blocks();
 }
 
-/// Where there is memory, and no end counts a fault, a run of `scan` over a source that tells its bytes, which hold a scan no
-/// phase of which breaks, ends with 0 and the report of this scan; one of `explain` over bytes that hold a scan with 0 and its
-/// explanation; and one that shows a word whose bytes spell an expression with 0 and the expression's line, tree or query. One
-/// that asks the bytes of a query ends with 0 and the bytes of the expression that the query names, where this has any; and one of
-/// `gen` with 0 and the line of its table, whatever the number of rows.
+/// Where there is memory, and no end counts a fault, a run of `scan` or `scan built` over a source that tells its bytes, which
+/// hold a scan no phase of which breaks by the statistics of these arguments, ends with 0 and the report of this scan; one of
+/// `explain` over bytes that hold a scan with 0 and its explanation; and one that shows a word whose bytes spell an expression
+/// with 0 and the expression's line, tree or query. One that asks the bytes of a query ends with 0 and the bytes of the expression
+/// that the query names, where this has any; and one of `gen` with 0 and the line of its table, whatever the number of rows.
 pub fn answers_are_complete()
-    ensures scan { (i i' o o' : End) (used : Option StoreSeen) (status : ℕ) (told : TellsScan i) → told_breaks told ≡ false
-        → RunsWell (Some scan_form) i i' o o' used status → ¬ (HasRisen i i')
-        → EndsWith 0 (scan_report told.asked told.filter told.projection) o o' status }
+    ensures scan { (s : Statistics) (i i' o o' : End) (used : Option StoreSeen) (status : ℕ) (told : TellsScan i) → told_breaks s told ≡ false
+        → RunsWell (Some (scan_form s)) i i' o o' used status → ¬ (HasRisen i i')
+        → EndsWith 0 (scan_report (scan_by s told.asked) told.filter told.projection) o o' status }
     ensures explain { (i i' o o' : End) (used : Option StoreSeen) (status : ℕ) (told : TellsScan i) → RunsWell (Some explain_form) i i' o o' used status
         → ¬ (HasRisen i i') → EndsWith 0 (explain_text told.asked.zones told.filter told.projection) o o' status }
     ensures show { (showing : Showing) (word : Bytes) (e : Tree) (i i' o o' : End) (used : Option StoreSeen) (status : ℕ) → WordSpells word e
@@ -105,23 +106,24 @@ pub fn answers_are_complete()
 }
 
 /// What a report tells is settled by the bytes of the source: where they hold the scan of a filter and a projection, a
-/// run that ends with exit status 0 wrote the report of these two, and holds the store of their scan.
+/// run of `scan` or `scan built` that ends with exit status 0 wrote the report of the scan of these two by the statistics of these
+/// arguments, and holds its store.
 pub fn reports_are_of_the_request()
-    ensures written { (i i' o o' : End) (used : Option StoreSeen) (told : TellsScan i) → IsRun (Some scan_form) i i' o o' used 0 →
-        Added o.bytes o'.bytes (scan_report told.asked told.filter told.projection) }
-    ensures held { (i i' o o' : End) (used : Option StoreSeen) (told : TellsScan i) → IsRun (Some scan_form) i i' o o' used 0 →
-        used ≡ Some (scanned_store told.asked told.filter told.projection) }
+    ensures written { (s : Statistics) (i i' o o' : End) (used : Option StoreSeen) (told : TellsScan i) → IsRun (Some (scan_form s)) i i' o o' used 0 →
+        Added o.bytes o'.bytes (scan_report (scan_by s told.asked) told.filter told.projection) }
+    ensures held { (s : Statistics) (i i' o o' : End) (used : Option StoreSeen) (told : TellsScan i) → IsRun (Some (scan_form s)) i i' o o' used 0 →
+        used ≡ Some (scanned_store (scan_by s told.asked) told.filter told.projection) }
 {
     wire_laws();
 }
 
-/// Where the statistics of a request are honest for its table, a report that was written tells all rows: what the
+/// Where the statistics of a request are honest for its table, a report of `scan` that was written tells all rows: what the
 /// projection means at exactly the rows at which the filter means true, in the table's order. So it is also of the scan that
-/// the bytes of the source hold, where they are told.
+/// the bytes of the source hold, where they are told. Of `scan built` `built_reports_are_whole` says the same of any request.
 pub fn honest_reports_are_whole()
-    ensures reported { (i i' o o' : End) (used : Option StoreSeen) (report : IsReported i i' o o' used) → IsHonest report.asked.zones (scan_table report.asked) →
+    ensures reported { (i i' o o' : End) (used : Option StoreSeen) (report : IsReported given i i' o o' used) → IsHonest report.asked.zones (scan_table report.asked) →
         Added o.bytes o'.bytes (whole_report report.asked report.filter report.projection) }
-    ensures told { (i i' o o' : End) (used : Option StoreSeen) (told : TellsScan i) → IsRun (Some scan_form) i i' o o' used 0 →
+    ensures told { (i i' o o' : End) (used : Option StoreSeen) (told : TellsScan i) → IsRun (Some (scan_form given)) i i' o o' used 0 →
         IsHonest told.asked.zones (scan_table told.asked) → Added o.bytes o'.bytes (whole_report told.asked told.filter told.projection) }
 {
     wire_laws();

@@ -5,7 +5,7 @@ ghost use Rattle.vx_io.specs.Ends.{Added};
 ghost use Rattle.vx_scan.specs.Stores.{StoreSeen};
 ghost use Rattle.vx_explain.specs.Explanations.{explain_text};
 ghost use Rattle.vx_query.specs.Causes.{HasRisen, IsExplained, IsShown, IsMisuse, IsTold, IsUndigited, IsUnshown, IsUnnamed, TellsScan};
-ghost use Rattle.vx_query.specs.Running.{End, Form, IsRun, Showing, asked_rows, reads_request, shown_word, scan_form, explain_form, show_form, text_form, shown_text};
+ghost use Rattle.vx_query.specs.Running.{End, Form, IsRun, Showing, Statistics, asked_rows, asked_statistics, reads_request, shown_word, scan_form, explain_form, show_form, text_form, shown_text};
 ghost use Rattle.vx_query.specs.Running.{help_form, version_form, help_text, version_text};
 
 use crate::causes::wire_laws;
@@ -18,10 +18,11 @@ pub fn usage_exactly()
         → IsMisuse i i' o o' used status }
 {}
 
-/// Only the argument `scan` ends with 5, and it and `gen` alone hold a store; arguments that read no request take nothing of the source.
+/// Only `scan` and `scan built` end with 5, and they and `gen` alone hold a store; arguments that read no request take nothing of the source.
 pub fn scans_alone_break_and_hold()
-    ensures breaks { (form : Option Form) (i i' o o' : End) (used : Option StoreSeen) → IsRun form i i' o o' used 5 → form ≡ Some scan_form }
-    ensures holds { (form : Option Form) (i i' o o' : End) (used : Option StoreSeen) (status : ℕ) → ¬ (form ≡ Some scan_form)
+    ensures breaks { (form : Option Form) (i i' o o' : End) (used : Option StoreSeen) → IsRun form i i' o o' used 5
+        → (s : Statistics) × (form ≡ Some (scan_form s)) }
+    ensures holds { (form : Option Form) (i i' o o' : End) (used : Option StoreSeen) (status : ℕ) → asked_statistics form ≡ None
         → asked_rows form ≡ None → IsRun form i i' o o' used status → used ≡ None }
     ensures takes { (form : Option Form) (i i' o o' : End) (used : Option StoreSeen) (status : ℕ) → reads_request form ≡ false
         → IsRun form i i' o o' used status → i' ≡ i }

@@ -18,11 +18,20 @@ pub(crate) enum Showing {
     Query,
 }
 
+/// By which statistics a scan goes.
+#[derive(Clone, Copy)]
+pub(crate) enum Statistics {
+    /// By those that its request gives.
+    Given,
+    /// By those that its table has.
+    Built,
+}
+
 /// A form of arguments: what the program is to do.
 #[derive(Drop)]
 pub(crate) enum Form<'a> {
-    /// Scans a request.
-    Scan,
+    /// Scans a request by these statistics.
+    Scan(Statistics),
     /// Explains the scan of a request.
     Explain,
     /// Shows the expression that a word of hexadecimal digits spells.
@@ -42,10 +51,13 @@ pub(crate) fn form_of(arguments: &[String]) -> Option<Form<'_>>
     ensures { option_map form_view result ≡ form_of (map string_bytes arguments.now) }
 {
     match arguments {
-        [argument] if argument.as_str() == "scan" => Some(Form::Scan),
+        [argument] if argument.as_str() == "scan" => Some(Form::Scan(Statistics::Given)),
         [argument] if argument.as_str() == "explain" => Some(Form::Explain),
         [argument] if argument.as_str() == "--help" => Some(Form::Help),
         [argument] if argument.as_str() == "--version" => Some(Form::Version),
+        [first, second] if first.as_str() == "scan" && second.as_str() == "built" => {
+            Some(Form::Scan(Statistics::Built))
+        }
         [first, hex] if first.as_str() == "show" => {
             Some(Form::Show(Showing::Line, hex.as_str()))
         }

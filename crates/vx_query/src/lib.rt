@@ -3,6 +3,7 @@
 
 mod answers;
 mod block_agreement;
+mod built_causes;
 mod causes;
 mod endings;
 mod exclusions;
@@ -20,6 +21,7 @@ mod statuses;
 mod texts;
 
 pub use block_agreement::requested_blocks_agree;
+pub use built_causes::built_reports_are_whole;
 pub use causes::{
     answers_are_complete, breaks_exactly, honest_reports_are_whole, read_faults_are_counted,
     reads_are_asked, reports_are_of_the_request, reports_are_typed, statuses_have_their_causes,

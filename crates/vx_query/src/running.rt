@@ -4,12 +4,13 @@ ghost use Rattle.std.specs.String.{string_bytes};
 ghost use Rattle.vx_query.specs.Running.{End, Outcome, Writing, IsOutcome, IsRun, IsWriting, end_by, form_of, explain_form, gen_form, scan_form, status_of, outcome_text, used_by};
 ghost use Rattle.vx_scan.specs.StoreViews.{store_seen};
 ghost use Rattle.vx_query.specs.EndingViews.{ending_status, ending_text};
+ghost use Rattle.vx_query.specs.RunViews.{statistics_view};
 ghost use Rattle.vx_query.specs.RefusalViews.{refusal_status, refusal_text};
 ghost use Rattle.vx_query.specs.TextViews.{IsAnsweredBy, answer_status, answer_text};
 
 use crate::answers::answer;
 use crate::endings::Ending;
-use crate::forms::{Form, form_of};
+use crate::forms::{Form, Statistics, form_of};
 use crate::queries::query_bytes;
 use crate::refusals::Refusal;
 use crate::statuses::{MISUSED, UNWRITTEN, WRITTEN};
@@ -24,14 +25,16 @@ use vx_scan::MemoryStore;
 const USAGE: &str = "error: Usage\n";
 
 const HELP: &str =
-    "vx scan < REQUEST      prints the selected rows, the skipped blocks and the columns read, as in: vx scan < examples/first.json\nvx explain < REQUEST   prints what a scan does with its filter and its projection, as in: vx explain < examples/explain.json\nvx show HEX            prints the expression that the bytes spell, as in: vx show 04726f6f740000\nvx show tree HEX       prints it as a tree, as in: vx show tree 04726f6f740000\nvx show query HEX      prints the query that names it, as in: vx show query 04726f6f740000\nvx text QUERY          prints the bytes of the expression that a query names, as in: vx text 'x > 10i32'\nvx gen ROWS            prints what the scan of a generated table of so many rows gives, as in: vx gen 200\nvx --help              prints this text\nvx --version           prints the version\nexit status: 0 written whole, 2 wrong arguments, 3 no request or no hex, 4 refused expressions or query, 5 overflow or bad cast,\n6 input not read, 7 output not written, 8 no memory\n";
+    "vx scan < REQUEST      prints the selected rows, the skipped blocks and the columns read, as in: vx scan < examples/first.json\nvx scan built < REQ    prints the same by the statistics that the table has, as in: vx scan built < examples/built.json\nvx explain < REQUEST   prints what a scan does with its filter and its projection, as in: vx explain < examples/explain.json\nvx show HEX            prints the expression that the bytes spell, as in: vx show 04726f6f740000\nvx show tree HEX       prints it as a tree, as in: vx show tree 04726f6f740000\nvx show query HEX      prints the query that names it, as in: vx show query 04726f6f740000\nvx text QUERY          prints the bytes of the expression that a query names, as in: vx text 'x > 10i32'\nvx gen ROWS            prints what the scan of a generated table of so many rows gives, as in: vx gen 200\nvx --help              prints this text\nvx --version           prints the version\nexit status: 0 written whole, 2 wrong arguments, 3 no request or no hex, 4 refused expressions or query, 5 overflow or bad cast,\n6 input not read, 7 output not written, 8 no memory\n";
 
 const VERSION: &str = "vx 0.1.0\n";
 
 /// Does all that the program does, and answers its exit status.
 ///
 /// The argument `scan` takes the input, at most 16,777,217 bytes of it, and writes the report of the scan that the
-/// request in it holds; `explain` takes it likewise and writes what this scan does with its filter and its projection.
+/// request in it holds; with `built` behind it the scan goes by the statistics that the request's table has, in place of
+/// those that the request gives, which are still read and refused as without it. `explain` takes the input likewise and
+/// writes what the scan does with its filter and its projection.
 /// `show` with one word of hexadecimal digits behind it writes the expression that these bytes spell, `show tree` with one
 /// writes it as a tree, and `show query` with one as the query that names it. `text` with a query behind it writes the bytes of the expression that the query names, two
 /// hexadecimal digits for each. `gen` with a number of rows behind it, at most 200,000 in decimal digits, scans the generated table of so many rows and
@@ -44,8 +47,8 @@ const VERSION: &str = "vx 0.1.0\n";
 /// - 4 exactly where the request's byte texts spell no two expressions, or these are not strictly typed for its table,
 ///   the filter a boolean; where the bytes to be shown spell no expression; or where the query names no expression, or one
 ///   that has no bytes;
-/// - 5 only where a phase of the scan breaks, and by a cause by which the first one that does so breaks, never for another
-///   argument than `scan`;
+/// - 5 only where a phase of the scan breaks, and by a cause by which the first one that does so breaks, never for other
+///   arguments than `scan` and `scan built`;
 /// - 6 only where the source counted a fault;
 /// - 7 only where the sink did, and then the first bytes of the text or line were written;
 /// - 8 where there was no memory.
@@ -61,7 +64,8 @@ const VERSION: &str = "vx 0.1.0\n";
 /// BadQuery or BadValue, and NotSerializable where a type deeper than 64 stands in it. The lines take no memory.
 ///
 /// Afterwards `used` holds the store that was scanned where a report or the line of a generated table was made or a phase broke, also where the writing
-/// failed; its reads are those of the scan, up to and with those of the phase that broke. Else it is none.
+/// failed; its reads are those of the scan, up to and with those of the phase that broke, and its zones have the statistics by which
+/// the scan went. Else it is none.
 pub fn run<I: Source, O: Sink>(
     alloc: Global,
     arguments: &[String],
@@ -81,7 +85,7 @@ pub fn run<I: Source, O: Sink>(
         Some(Form::Show(showing, hex)) => write_answer(output, &shown(alloc, showing, hex)),
         Some(Form::Text(query)) => write_answer(output, &query_bytes(alloc, query)),
         Some(Form::Generated(rows)) => write_generated(alloc, rows, output, used),
-        Some(Form::Scan) => match scan_input(alloc, input, used) {
+        Some(Form::Scan(statistics)) => match scan_input(alloc, statistics, input, used) {
             Ok(ending) => write(output, ending.text(), ending.status()),
             Err(refusal) => write(output, refusal.line(), refusal.status()),
         },
@@ -121,22 +125,23 @@ fn explain_input<I: Source>(alloc: Global, input: &mut I) -> Result<String, Refu
     explanation(alloc, bytes.as_slice())
 }
 
-/// Takes the input and scans what it holds.
+/// Takes the input and scans what it holds by these statistics.
 fn scan_input<I: Source>(
     alloc: Global,
+    statistics: Statistics,
     input: &mut I,
     used: &mut Option<MemoryStore>,
 ) -> Result<Ending, Refusal>
     ensures told { let source = end_by I.left I.faults in IfOk result (λ ending. (outcome : Outcome)
-        × IsOutcome (Some scan_form) (source input.old) (source input.new) outcome × (status_of outcome ≡ ending_status ending)
+        × IsOutcome (Some (scan_form (statistics_view statistics))) (source input.old) (source input.new) outcome × (status_of outcome ≡ ending_status ending)
         × (outcome_text outcome ≡ ending_text ending) × (option_map store_seen used.new ≡ used_by outcome)) }
     ensures refused { let source = end_by I.left I.faults in IfErr result
-        (λ refusal. (outcome : Outcome) × IsOutcome (Some scan_form) (source input.old) (source input.new) outcome
+        (λ refusal. (outcome : Outcome) × IsOutcome (Some (scan_form (statistics_view statistics))) (source input.old) (source input.new) outcome
         × (status_of outcome ≡ refusal_status refusal) × (outcome_text outcome ≡ refusal_text refusal) × (used_by outcome ≡ None)) }
     ensures unused { IsErr result → used.new ≡ used.old }
 {
     let bytes = read_up_to(alloc, MOST_BYTES + 1, input)?;
-    let scanned = answer(alloc, bytes.as_slice())?;
+    let scanned = answer(alloc, bytes.as_slice(), statistics)?;
     *used = Some(scanned.store);
     Ok(scanned.ending)
 }

@@ -2,7 +2,7 @@ use Rattle.std.proofs.Common.{◌∙◌, sym, ap, refl, map, option_map, Some, N
 use Rattle.std.specs.String.{string_bytes}
 use Rattle.vx_query.specs.Running.{end_by, form_of, explain_form, show_form, text_form, gen_form, misused, helped, versioned}
 use Rattle.vx_scan.specs.StoreViews.{store_seen}
-use Rattle.vx_query.specs.RunViews.{form_view, showing_view}
+use Rattle.vx_query.specs.RunViews.{form_view, showing_view, statistics_view}
 use Rattle.vx_query.proofs.OutcomeLemmas.{run_of, run_told, run_answered, run_ended, word_shown, query_answered}
 use Rattle.vx_query.proofs.running.run.Goals as goal
 
@@ -58,7 +58,7 @@ pub returns-in-Ok : goal.returns-in-Ok
 returns-in-Ok g c =
     let source = end_by g.I.Source.left g.I.Source.faults in
     let sink = end_by g.O.Sink.written g.O.Sink.faults in
-    run_ended (form_of (map string_bytes c.args.arguments.now)) (source c.args.input.now) (source c.scan_input.new.input) (sink c.args.output.now) (sink c.write-in-Ok.new.output)
+    run_ended (statistics_view c.in-Some-Scan.statistics) (form_of (map string_bytes c.args.arguments.now)) (source c.args.input.now) (source c.scan_input.new.input) (sink c.args.output.now) (sink c.write-in-Ok.new.output)
     (option_map store_seen c.scan_input.new.used) c.write-in-Ok.result c.status.result c.text.result.now c.in-Ok.ending
     (sym c.form_of.ensures ∙ ap (option_map form_view) (c.in-Some-Scan.is ∙ ap Some c.in-Some-Scan.field-0-is)) c.in-Ok.ensures.told c.status.ensures c.text.ensures
     c.write-in-Ok.ensures
