@@ -1,1 +1,2 @@
+pub mod BuiltScans
 pub mod ExactSkipping
