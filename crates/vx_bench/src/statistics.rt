@@ -91,8 +91,8 @@ fn blocks(alloc: Global, rows: usize) -> Result<Vec<Vec<ColumnRef>>> {
 }
 
 /// The sum of the numbers of statistics.
-fn sum(stats: &[ZoneStat]) -> u64 {
-    let mut sum = 0u64;
+fn sum(stats: &[ZoneStat]) -> i128 {
+    let mut sum = 0i128;
     for stat in stats {
         for scalar in stat.values.as_slice() {
             sum = sum.wrapping_add(number_of(scalar));
@@ -102,9 +102,9 @@ fn sum(stats: &[ZoneStat]) -> u64 {
 }
 
 /// The number of a statistic, 0 where it has none.
-fn number_of(scalar: &Scalar) -> u64 {
+fn number_of(scalar: &Scalar) -> i128 {
     match scalar.value() {
-        ScalarValue::Int(number) => *number as u64,
+        ScalarValue::Int(number) => *number,
         _ => 0,
     }
 }
