@@ -3,9 +3,11 @@
 
 usage: bench/hostile.py [NAME ..]      (first build the program: cd crates/vx && rt run)
 
-Each input is to end with its stated answer, in under 2 seconds of processor time and 500 MB, on a stack of 8 MiB. It prints a line for
-each: what came, in how many seconds and how much memory. Those that are known to miss are marked with what is missing; where one that
-isn't marked misses, or a marked one doesn't any more, the exit status is 1. Answers are worked out here, not by the program.
+Each input is to end with its stated answer, in under 2 seconds of processor time and 500 MB, on a stack of 8 MiB. The seconds are those
+of the machine of PERFORMANCE's figures: where a plain loop takes longer now than there, so may the program, in proportion, and the first
+line says how much. It prints a line for each: what came, in how many seconds and how much memory. Those that are known to miss are marked
+with what is missing; where one that isn't marked misses, or a marked one doesn't any more, the exit status is 1. Answers are worked out
+here, not by the program.
 """
 import json
 import os
@@ -14,6 +16,7 @@ import subprocess
 import sys
 import tempfile
 import threading
+import time
 
 import tables  # noqa: F401: brings wire into reach
 from wire import ROOT, TRUE, binary, contains, item, like, lit, many, merge, negated, null_test, pack, request
@@ -22,6 +25,7 @@ HERE = os.path.dirname(os.path.dirname(os.path.abspath(__file__)))
 PROGRAM = os.path.join(HERE, "crates", "vx", "out", "vx")
 MOST_BYTES = 16_777_216
 MOST_SECONDS, MOST_MEMORY, STACK, PATIENCE = 2.0, 500_000_000, 8 << 20, 30
+ADDITIONS, LOOP_SECONDS = 5_000_000, 0.25
 X = item("x")
 
 
@@ -173,6 +177,14 @@ INPUTS = {
 }
 
 
+def slowness():
+    """How many times as long this machine takes now as the one of PERFORMANCE's figures, at least once."""
+    begun, total = time.process_time(), 0
+    for number in range(ADDITIONS):
+        total += number
+    return max(1.0, (time.process_time() - begun) / LOOP_SECONDS)
+
+
 def limited():
     resource.setrlimit(resource.RLIMIT_STACK, (STACK, STACK))
 
@@ -196,7 +208,9 @@ def run(word, given):
 def main():
     if not os.path.exists(PROGRAM):
         sys.exit("the program isn't built: cd crates/vx && rt run")
-    wrong = 0
+    wrong, slower = 0, slowness()
+    most_seconds = MOST_SECONDS * slower
+    print(f"this machine takes {slower:.1f} times as long: each input has {most_seconds:.1f} s")
     for name in sys.argv[1:] or INPUTS:
         word, make, missing = INPUTS[name]
         asked, (want, text) = make()
@@ -205,7 +219,7 @@ def main():
             sys.exit(f"{name}: {len(given)} bytes")
         status, printed, seconds, memory = run(word, given)
         right = status == want and printed == text
-        met = right and seconds < MOST_SECONDS and memory < MOST_MEMORY
+        met = right and seconds < most_seconds and memory < MOST_MEMORY
         came = "as stated" if right else f"signal {-status}" if status < 0 else f"exit status {status}, another answer"
         told = "" if met and not missing else " (missed)" if not met and not missing else f" (known: {missing})" if not met else " (isn't missed any more)"
         wrong += met == bool(missing)
