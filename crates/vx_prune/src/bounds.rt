@@ -1,26 +1,53 @@
 // What a catalog answers for the statistics of an operand.
-ghost use Rattle.std.specs.Prelude.{◌≡◌, IfOk};
+ghost use Rattle.std.specs.Prelude.{◌≡◌, reverse, option_map, IfOk};
 ghost use Rattle.vx_semantics.specs.Paths.{path_of};
 ghost use Rattle.vx_passes.specs.Falsifying.{bound_of, count_of};
 ghost use Rattle.vx_prune.specs.Finding.{Finds};
 
 use crate::catalogs::StatsCatalog;
 use std::alloc::Global;
-use vx_dtype::{FieldPath, Mem, Stat};
+use vx_dtype::{FieldName, FieldPath, Mem, Stat};
 use vx_expr::{Expr, ExprRef};
 
-/// The path that an expression is, None where it is no chain of field accesses over the row.
+/// The path that an expression is, None where it is no chain of field accesses over the row. The chain is gone down by a loop, so that
+/// no number of accesses takes more stack than one.
 pub(crate) fn field_path(alloc: Global, expr: &ExprRef) -> Mem<Option<FieldPath>>
     ensures { IfOk result (λ path. path ≡ path_of expr.now) }
 {
-    match expr.expr() {
-        Expr::Root(_) => Ok(Some(FieldPath::root(alloc))),
-        Expr::GetItem(node) => match field_path(alloc, node.child())? {
-            Some(above) => Ok(Some(above.push(alloc, node.field().clone()?)?)),
-            None => Ok(None),
-        },
-        _ => Ok(None),
+    match accessed_names(alloc, expr)? {
+        Some(names) => Ok(Some(path_through(alloc, names)?)),
+        None => Ok(None),
     }
+}
+
+/// The names of a chain of field accesses over the row, that of the outermost access first, None where the expression is no such chain.
+fn accessed_names(alloc: Global, expr: &ExprRef) -> Mem<Option<Vec<FieldName>>>
+    ensures { IfOk result (λ names. option_map (λ found. reverse found.items) names ≡ path_of expr.now) }
+{
+    let mut names = Vec::new(alloc);
+    let mut left = expr;
+    'accesses: loop {
+        match left.expr() {
+            Expr::GetItem(node) => {
+                names.push(node.field().clone()?)?;
+                left = node.child();
+            }
+            Expr::Root(_) => return Ok(Some(names)),
+            _ => return Ok(None),
+        }
+    }
+}
+
+/// The path through the fields of these names, the last one first.
+fn path_through(alloc: Global, names: Vec<FieldName>) -> Mem<FieldPath>
+    ensures { IfOk result (λ path. path ≡ reverse names.items) }
+{
+    let mut left = names;
+    let mut path = FieldPath::root(alloc);
+    while let Some(name) = left.pop() {
+        path = path.push(alloc, name)?;
+    }
+    Ok(path)
 }
 
 /// The least or the greatest value of an operand: of a constant itself, of a path what the catalog answers.
