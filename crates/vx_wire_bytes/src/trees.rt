@@ -1,5 +1,5 @@
 // The trees that the wire form spells, and their equality: by their whole structure.
-ghost use Rattle.std.specs.Prelude.{◌≡◌, Decides};
+ghost use Rattle.std.specs.Prelude.{◌≡◌, ◌<◌, length, Decides, IfSome};
 ghost use Rattle.std.specs.Cmp.{on_per, on_equiv, partial_equiv_from_equiv};
 ghost use Rattle.vx_wire_bytes.specs.WireEqual.{wire_eq, wires_eq};
 ghost use Rattle.vx_wire_bytes.specs.EqualLaws.{wire_eq_equiv};
@@ -18,18 +18,56 @@ pub struct WireTree {
     pub children: Vec<WireTree>,
 }
 
+/// Where the child stands with which a walk goes on by its loop, so that a chain of nodes needs no call for each link, wherever among
+/// the children its links stand: the first child that has children and is of the node's own kind and metadata, else the last that
+/// has children. None where no child has any.
+fn link(node: &WireTree, children: &[WireTree]) -> Option<usize>
+    ensures { IfSome result (λ place. place < length children.now) }
+{
+    let mut last = None;
+    for i in 0..children.len() {
+        let child = &children[i];
+        if child.children.is_empty() {
+            continue;
+        }
+        if child.id == node.id && child.metadata == node.metadata {
+            return Some(i);
+        }
+        last = Some(i);
+    }
+    last
+}
+
 #[cycle(same)]
-#[tactic(auto, using(crate::proofs::TreeLemmas::wire_eq_parts))]
 fn same(left: &WireTree, right: &WireTree) -> bool
     ensures { result ≡ wire_eq (tree_view left.now) (tree_view right.now) }
 {
-    if left.id != right.id {
-        return false;
+    let mut first = left;
+    let mut second = right;
+    loop {
+        if first.id != second.id {
+            return false;
+        }
+        if first.metadata != second.metadata {
+            return false;
+        }
+        let lefts = first.children.as_slice();
+        let rights = second.children.as_slice();
+        if lefts.len() != rights.len() {
+            return false;
+        }
+        let Some(place) = link(first, lefts) else {
+            return same_children(lefts, rights);
+        };
+        if !same_children(&lefts[..place], &rights[..place]) {
+            return false;
+        }
+        if !same_children(&lefts[place + 1..], &rights[place + 1..]) {
+            return false;
+        }
+        first = &lefts[place];
+        second = &rights[place];
     }
-    if left.metadata != right.metadata {
-        return false;
-    }
-    same_children(left.children.as_slice(), right.children.as_slice())
 }
 
 #[cycle(same)]
