@@ -16,12 +16,12 @@ use Rattle.vx_laws_topk.proofs.KeyOrder.{before-itself, before-chain, not_before
 use Rattle.vx_laws_topk.proofs.Inserting.{OfType, NotBefore, NoneBefore, Sorted, have-keys, put-behind, put-ahead, order-all, length-in_key_order, sorted-stays, filter-all, order-sorted, filter-in_key_order}
 
 -- two lists of ordered rows merged, those of the first before those of the second that don't stand before them
-abbrev merged : Bool → List Keyed → List Keyed → List Keyed
+abbrev pub merged : Bool → List Keyed → List Keyed → List Keyed
 merged d [] ys = ys
 merged d (x ∷ xs) [] = x ∷ xs
 merged d (x ∷ xs) (y ∷ ys) = cond (stands_before d y.key x.key) (y ∷ merged d (x ∷ xs) ys) (x ∷ merged d xs (y ∷ ys))
 
-merged-none : (d : Bool) (xs : List Keyed) → merged d xs [] ≡ xs
+pub merged-none : (d : Bool) (xs : List Keyed) → merged d xs [] ≡ xs
 merged-none d [] = refl
 merged-none d (x ∷ xs) = refl
 
@@ -47,7 +47,7 @@ take-merged d (suc j) (suc k) (x ∷ xs) (y ∷ ys) h =
     by-test true a b = ap (λ (rs : List Keyed). y ∷ rs) a
     by-test false a b = ap (λ (rs : List Keyed). x ∷ rs) b
 
-all-take : (P : Keyed → Type 0) (k : ℕ) (rows : List Keyed) → AllByRecursion P rows → AllByRecursion P (take k rows)
+pub all-take : (P : Keyed → Type 0) (k : ℕ) (rows : List Keyed) → AllByRecursion P rows → AllByRecursion P (take k rows)
 all-take P zero rows h = tt
 all-take P (suc k) [] h = tt
 all-take P (suc k) (r ∷ rows) h = (h.0, all-take P k rows h.1)
@@ -57,7 +57,7 @@ take-less P zero rows h = tt
 take-less P (suc k) [] h = tt
 take-less P (suc k) (r ∷ rows) h = (h.0, take-less P k rows h.1)
 
-sorted-take : (d : Bool) (k : ℕ) (rows : List Keyed) → Sorted d rows → Sorted d (take k rows)
+pub sorted-take : (d : Bool) (k : ℕ) (rows : List Keyed) → Sorted d rows → Sorted d (take k rows)
 sorted-take d zero rows h = tt
 sorted-take d (suc k) [] h = tt
 sorted-take d (suc k) (r ∷ rows) h = (all-take (NotBefore d r) k rows h.0, sorted-take d k rows h.1)
@@ -116,7 +116,7 @@ module _ (d : Bool) (t : Ty) (plain : is_plain t ≡ true) where
           ∙ sym (merged-ahead d r (s ∷ ss) y ys later)
           ∙ ap (λ (rs : List Keyed). merged d rs (y ∷ ys)) (sym (put-ahead d r s ss b))
 
-  order-both : (xs ys : List Keyed) → AllByRecursion (OfType t) xs → AllByRecursion (OfType t) ys
+  pub order-both : (xs ys : List Keyed) → AllByRecursion (OfType t) xs → AllByRecursion (OfType t) ys
       → in_key_order d (xs ++ ys) ≡ merged d (in_key_order d xs) (in_key_order d ys)
   order-both [] ys f g = refl
   order-both (x ∷ xs) ys f g =

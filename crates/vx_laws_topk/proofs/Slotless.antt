@@ -1,5 +1,5 @@
 -- An expression that compares with no slot means the same with any slots.
-use Rattle.std.proofs.Common.{◌≡◌, refl, ap, ap₂, sym, ◌∙◌, true, false, List, ◌∷◌, ◌++◌}
+use Rattle.std.proofs.Common.{◌≡◌, refl, ap, ap₂, sym, ◌∙◌, false, List, ◌∷◌, ◌++◌}
 use Rattle.std.specs.List.{list_any}
 use Rattle.std.proofs.lemmas.Bool.{or_parts}
 use Rattle.std.proofs.lemmas.List.Folds.{list_any-append}
@@ -18,13 +18,14 @@ use Rattle.vx_expr.specs.Trees.{Trees, no_trees, tree}
 use Rattle.vx_semantics.specs.Nodes.{nodes_of, nodes_of_all}
 use Rattle.vx_semantics.specs.Typing.{given_names}
 use Rattle.vx_semantics.specs.Meaning.{Slots, Source, binary3, select3, zip_members, merged, mean, meanings, sources}
-use Rattle.vx_laws_topk.specs.TopLaws.{is_slot_comparison, has_no_slot}
+use Rattle.vx_laws_topk.specs.TopLaws.{is_slot_comparison}
+use Rattle.vx_laws_topk.specs.BoundLaws.{SlotlessMeansTheSame}
 
 -- no node of these is a comparison with a slot
-abbrev None : List Tree → Type 0
+abbrev pub None : List Tree → Type 0
 None es = list_any is_slot_comparison es ≡ false
 
-none-apart : (ds es : List Tree) → None (ds ++ es) → None ds × None es
+pub none-apart : (ds es : List Tree) → None (ds ++ es) → None ds × None es
 none-apart ds es h =
     or_parts (list_any is_slot_comparison ds) (list_any is_slot_comparison es) (sym (list_any-append is_slot_comparison ds es) ∙ h)
 
@@ -69,5 +70,5 @@ mutual
       let parts = none-apart (nodes_of e) (nodes_of_all es) h in
       ap₂ (λ (v : Val) (ss : List Source). record { names = given_names t e; whole = v } ∷ ss) (none-means t slots others row e parts.0) (none-sources t slots others row es parts.1)
 
-pub slotless-means : (t : Ty) (slots others : Slots) (row : Val) (e : Tree) → has_no_slot e ≡ true → mean t slots row e ≡ mean t others row e
+pub slotless-means : SlotlessMeansTheSame
 slotless-means t slots others row e h = none-means t slots others row e (not_found (list_any is_slot_comparison (nodes_of e)) h)

@@ -1,2 +1,4 @@
 pub mod TopRows
 pub mod TopLaws
+pub mod TopPhases
+pub mod BoundLaws
