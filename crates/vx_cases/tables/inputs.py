@@ -53,7 +53,7 @@ def nested(levels):
 TEXTS = [
     *of("BadJson", "", "{", "nul", "\ufeff" + WHOLE, WHOLE + "x", WHOLE + WHOLE, WHOLE[:-1], WHOLE[:-1] + ",}", nested(128)),
     *of("BadJson", *[asked(X.replace("x", name)) for name in ["\\ud800", "\\x", "\n"]]),
-    *of("BadJson", *[asked(blocks=FIVE.replace("5", number)) for number in ["01", "+1", "1.", ".5", "0x1", "NaN", "1e999", "9" * 400]]),
+    *of("BadJson", *[asked(blocks=FIVE.replace("5", number)) for number in ["01", "+1", "1.", ".5", "0x1", "NaN", "1e999", "1.8e308", "9" * 400]]),
     *of(TOP, "[]", "null", "5", quoted(WHOLE), "[" + WHOLE + "]", "{}", nested(127), WHOLE.replace("columns", "Columns")),
     *of(TOP, *[object_of(members()[:i] + members()[i + 1:]) for i in range(5)]),
     *of(TOP, object_of(members() + ['"more":1']), object_of(members()[1:] + ['"more":1'])),
@@ -81,6 +81,11 @@ def struct(*fields):
     return '{"struct":[%s],"nullable":true}' % ",".join('{"name":"%s","type":%s}' % field for field in fields)
 
 
+def structs(number, inner):
+    """So many structs of one field around a type."""
+    return '{"struct":[{"name":"a","type":' * number + inner + '}],"nullable":true}' * number
+
+
 def columns(number):
     return "[" + ",".join('{"name":"c%d","type":"u8"}' % i for i in range(number)) + "]"
 
@@ -106,6 +111,9 @@ TYPES = [
     *of(EMPTY, *[asked(column(kind), "[]") for kind in [lists(63, '"bool"'), lists(62, struct(A)), lists(63, struct()), lists(61, struct(("a", struct(A))))]]),
     *of(DEEP, *[asked(column(kind), "[]") for kind in [lists(64, '"bool"'), lists(63, struct(A)), struct(("a", lists(63, '"u8"'))), lists(124, '"u8"')]]),
     *of("BadJson", asked(column(lists(125, '"u8"')), "[]")),
+    # three levels stand around a type, and each struct is three: 126 levels, 127, and 128 or more, which aren't read
+    *of(EMPTY, *[asked(column(structs(41, inner)), "[]") for inner in ['"u8"', lists(1, '"u8"')]]),
+    *of("BadJson", *[asked(column(structs(41, inner)), "[]") for inner in [lists(2, '"u8"'), struct()]], asked(column(structs(42, '"u8"')), "[]")),
 ]
 
 
@@ -119,7 +127,7 @@ def rows(*numbers):
 
 NO_BLOCKS = ["{}", "null", "[1]", "[{}]", '[{"rows":1}]', '[{"values":[[5]]}]', '[{"rows":1,"values":{}}]', '[{"rows":1,"values":[5]}]',
              '[{"rows":1,"values":[{}]}]', '[{"rows":1,"values":[[5]],"more":0}]']
-NO_NUMBERS = ["1.5", "1e3", "1E0", "-0", "0.0", "1e-400", "-1", "9223372036854775808", "18446744073709551615", "18446744073709551616", "1048577",
+NO_NUMBERS = ["1.5", "1e3", "1E0", "-0", "0.0", "1e-400", "1.7e308", "-1", "9223372036854775808", "18446744073709551615", "18446744073709551616", "1048577",
               "1048576.0", '"1"', "null", "true", "[]"]
 TWO_COLUMNS = '[{"name":"x","type":"i64"},{"name":"y","type":"bool"}]'
 WRONG_SHAPES = ['[{"rows":1,"values":[]}]', '[{"rows":1,"values":[[5]]}]', '[{"rows":1,"values":[[5],[true],[5]]}]', '[{"rows":1,"values":[[5],[]]}]',
