@@ -35,6 +35,12 @@ fn a_comparison_with_a_slot(rt: HostRuntime) -> Result<(), Fail> {
     let alloc = rt.alloc();
     assert_eq!(rt; above_slot_expr(alloc)?.id(), "dynamic");
     assert_eq!(rt; above_slot_expr(alloc)?.children_count(), 1);
+    Ok(())
+}
+
+#[test]
+fn ample(rt: HostRuntime) -> Result<(), Fail> {
+    let alloc = rt.alloc();
     assert_eq!(rt; listed_children(alloc)?, 1);
     assert!(rt; is_made_again(alloc)?);
     Ok(())

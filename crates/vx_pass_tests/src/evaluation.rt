@@ -3,7 +3,7 @@ use crate::samples::{col, number};
 use std::alloc::Global;
 use std::test::Fail;
 use vx_column::ColumnRef;
-use vx_dtype::{Mem, Scalar};
+use vx_dtype::{Mem, Nullability, Scalar};
 use vx_eval::{EvalError, ExprEval, Scope};
 use vx_expr::ExprRef;
 
@@ -39,6 +39,18 @@ fn ample(rt: HostRuntime) -> Result<(), Fail> {
 fn no_fields(rt: HostRuntime) -> Result<(), Fail> {
     let alloc = rt.alloc();
     assert!(rt; evaluated(alloc, col(alloc, "a")?).is_err());
+    Ok(())
+}
+
+/// How many rows a merge of no structs has over three, which no bytes spell.
+fn rows_of_no_structs(alloc: Global) -> Result<usize, EvalError> {
+    let merged = vx_build::merge(alloc, Vec::new(alloc), Nullability::NonNullable)?;
+    Ok(evaluated(alloc, merged)?.len())
+}
+
+#[test]
+fn no_structs(rt: HostRuntime) -> Result<(), Fail> {
+    assert!(rt; rows_of_no_structs(rt.alloc())? == 3);
     Ok(())
 }
 

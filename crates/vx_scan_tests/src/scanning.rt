@@ -1,11 +1,13 @@
-//! Scans over stores in memory: what a store is refused for, and the rows that a scan finds.
+//! Scans over stores in memory: what a store is refused for, the rows that a scan finds, and an expression that is prepared over them.
 
 use std::alloc::Global;
+use std::test::Fail;
 use vx_build::{col, gt, lit};
 use vx_column::{ColumnError, ColumnRef};
 use vx_dtype::Nullability::NonNullable;
 use vx_dtype::{DType, FieldName, FieldNames, Mem, PType, ScalarValue, StructFields};
 use vx_expr::ExprRef;
+use vx_prepare::prepare;
 use vx_scan::{MemoryStore, ScanError, ScanReport, TableError, scan, scan_exprs};
 use vx_wire::{ExprRegistry, ExprRegistryExt};
 use vx_zones::{ZoneError, ZoneMap};
@@ -165,10 +167,21 @@ fn scans(alloc: Global, store: Stored) -> bool {
     }
 }
 
+/// Whether `($.x > 2i64)` is prepared over rows of the column `x`, which it asks.
+fn is_prepared(alloc: Global) -> Mem<bool> {
+    let rows = DType::Struct(fields(alloc)?, NonNullable);
+    match prepare(alloc, &above(alloc)?, &rows, &[]) {
+        Ok(prepared) => Ok(prepared.columns().len() == 1),
+        Err(_) => Ok(false),
+    }
+}
+
 #[test]
-fn ample(rt: HostRuntime) {
+fn ample(rt: HostRuntime) -> Result<(), Fail> {
     let alloc = rt.alloc();
     let first = block(alloc, PType::I64, &[11, 2]);
     let second = block(alloc, PType::I64, &[3]);
     assert!(rt; scans(alloc, store(alloc, first, second)));
+    assert!(rt; is_prepared(alloc)?);
+    Ok(())
 }

@@ -2,6 +2,7 @@
 use std::alloc::Global;
 use std::test::Fail;
 use vx_build::{not, root};
+use vx_dtype::Mem;
 use vx_text::{TextError, read_query, write_query};
 
 /// Whether a query is read as its expression.
@@ -24,9 +25,31 @@ fn ample(rt: HostRuntime) -> Result<(), Fail> {
     Ok(())
 }
 
+/// Whether so many spaces are no query, for this reason.
+fn are_spaces_refused(alloc: Global, count: usize, reason: TextError) -> Mem<bool> {
+    let spaces = " ".repeat(alloc, count)?;
+    match read_query(alloc, spaces.as_str()) {
+        Ok(_) => Ok(false),
+        Err(error) => Ok(error == reason),
+    }
+}
+
 #[test]
-fn want_of_memory_prints_as_its_name(rt: HostRuntime) -> Result<(), Fail> {
-    let text = TextError::NoMemory.to_string(rt.alloc())?;
-    assert_eq!(rt; text.as_str(), "NoMemory");
+fn queries_up_to_the_longest(rt: HostRuntime) -> Result<(), Fail> {
+    let alloc = rt.alloc();
+    assert!(rt; are_spaces_refused(alloc, 1048576, TextError::BadQuery)?);
+    assert!(rt; are_spaces_refused(alloc, 1048577, TextError::TooLong)?);
+    Ok(())
+}
+
+/// Whether a refusal is printed so.
+fn prints(alloc: Global, why: TextError, name: &str) -> Mem<bool> {
+    Ok(why.to_string(alloc)?.as_str() == name)
+}
+
+#[test]
+fn refusals_that_no_row_has_print_as_their_names(rt: HostRuntime) -> Result<(), Fail> {
+    assert!(rt; prints(rt.alloc(), TextError::NoMemory, "NoMemory")?);
+    assert!(rt; prints(rt.alloc(), TextError::TooLong, "TooLong")?);
     Ok(())
 }
