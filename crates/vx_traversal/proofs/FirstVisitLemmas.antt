@@ -17,7 +17,7 @@ contains-at (y ∷ ys) (suc i) x at = let found : Contains ys x = contains-at ys
 
 module _ {S N E : Type 0} (Each : Step S N E) where
   -- the last node's answer is the answer of all
-  alone : (q : Result TraversalOrder E) (u : S) → EndsOrGoesOn (λ order. InTurn Each order u [] q u) q u q u
+  pub alone : (q : Result TraversalOrder E) (u : S) → EndsOrGoesOn (λ order. InTurn Each order u [] q u) q u q u
   alone (Err e) u = (refl, refl)
   alone (Ok Stop) u = (refl, refl)
   alone (Ok Skip) u = (refl, refl)

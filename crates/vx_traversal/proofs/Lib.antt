@@ -1,6 +1,8 @@
 pub mod Steps
 pub mod VisitLemmas
 pub mod FirstVisitLemmas
+pub mod PathLemmas
+pub mod DepthLemmas
 pub mod RewriteLemmas
 pub mod RewriteFrameLemmas
 pub mod FoldLemmas

@@ -1,6 +1,7 @@
 pub mod Orders
 pub mod Visits
 pub mod FirstVisits
+pub mod Paths
 pub mod Rewrites
 pub mod RewriteFrames
 pub mod Folds

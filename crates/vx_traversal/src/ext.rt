@@ -21,8 +21,13 @@ pub trait NodeExt: Node {
     /// children are left out and up follows; after Continue the children are visited in order
     /// until one has the order Stop. Up follows the children where the last of them has the order
     /// Continue, or there are none, and its answer is the node's order; else the last child's
-    /// order is. An error of the visitor ends the visit. Each level of the tree takes stack, since no
-    /// allocator is at hand.
+    /// order is. An error of the visitor ends the visit.
+    ///
+    /// No allocator is at hand for a list of the open nodes. So the visit goes along a path by a loop,
+    /// from each node on to its deepest child, and back up by halves, which goes over a path of n nodes
+    /// about log n times; the other children are visited by calls. A tree takes no stack for each level
+    /// where at most one child of each node is 64 levels deep or deeper, as a chain of comparisons that
+    /// `and` joins, to either side; each other child that deep takes a call.
     final fn accept<'a, V: NodeVisitor<'a, NodeTy = Self>>(
         &'a self,
         visitor: &mut V,

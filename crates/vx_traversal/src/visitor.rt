@@ -46,7 +46,9 @@ where
 }
 
 /// Calls `f` on each node after its children, as a visit whose down goes on and whose up is `f`.
-/// Each level of the tree takes stack.
+/// It goes along paths as `accept` does: a tree takes no stack for each level where at most one child
+/// of each node is 64 levels deep or deeper, and a path of n nodes is gone over about log n times on
+/// the way up.
 pub fn pre_order_visit_up<'a, T: Node, E, F: FnMut(&'a T) -> Result<TraversalOrder, E>>(
     tree: &'a T,
     mut f: F,
