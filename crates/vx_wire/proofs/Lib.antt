@@ -6,5 +6,6 @@ pub mod WireLemmas
 pub mod EverywhereLemmas
 pub mod SerialLemmas
 pub mod NodeLemmas
+pub mod OrderLemmas
 pub mod LawLemmas
 pub mod NumberLemmas

@@ -133,10 +133,10 @@ at_node P Q e n left more is h all =
     (every_behind Q h.before (n ∷ more) (subst (Every Q) (h.nodes ∙ ap (λ ns. h.before ++ ns) is) (nodes_have Q e all))).0
 
 -- the nodes from a place on are the one there and those behind it, and past the last there are none
-pub node_here : {A : Type 0} (see : A → Tree) (xs : List A) (i : ℕ) (x : A) → i < length xs → x ≡ get_or xs i x → map see (drop i xs) ≡ see x ∷ map see (drop (i + 1) xs)
+pub node_here : {A B : Type 0} (see : A → B) (xs : List A) (i : ℕ) (x : A) → i < length xs → x ≡ get_or xs i x → map see (drop i xs) ≡ see x ∷ map see (drop (i + 1) xs)
 node_here see xs i x within is = ap (map see) (drop_more xs i x within ∙ ap (λ y. y ∷ drop (i + 1) xs) (sym is))
 
-pub none_left : {A : Type 0} (see : A → Tree) (xs : List A) (i : ℕ) → length xs ≤ i → map see (drop i xs) ≡ []
+pub none_left : {A B : Type 0} (see : A → B) (xs : List A) (i : ℕ) → length xs ≤ i → map see (drop i xs) ≡ []
 none_left see xs i past = ap (map see) (drop_all i xs past)
 
 -- ---- wire trees of the nodes

@@ -1,13 +1,13 @@
 -- Wire trees of expressions by their children, and wire trees that are built.
-use Rattle.std.proofs.Common.{◌≡◌, ℕ, ◌+◌, ◌<◌, ◌≤◌, Bool, true, false, cond, List, [], ◌∷◌, ◌++◌, length, get_or, drop, Option, Some, None, Result, Ok, Err, IfOk, IfErr, refl, sym, ap, subst, ◌∙◌, append_assoc, inl, inr, arith}
+use Rattle.std.proofs.Common.{◌≡◌, Bool, true, false, cond, List, [], ◌∷◌, length, Option, Some, None, Result, Ok, Err, IfOk, IfErr, refl, sym, ap, subst, ◌∙◌, inr, arith}
 use Rattle.std.specs.Option.{option_and_then}
 use Rattle.std.proofs.lemmas.Option.{same_Some, none-some}
-use Rattle.std.proofs.lemmas.List.{append-nil, drop_all, drop_more}
 use Rattle.vx_dtype.specs.Types.{Bytes}
 use Rattle.vx_expr.specs.Trees.{Tree, root, literal, get_item, binary, not_of, is_null_of, like, between, cast, list_contains, pack, merge, select, dynamic, trees_of, children_of}
 use Rattle.vx_expr.specs.Children.{id_of}
 use Rattle.vx_expr.proofs.TreeLemmas.{trees_of_listed}
-use Rattle.vx_wire_bytes.specs.Wires.{Wire, node, Wires, no_wires, first, number_of}
+use Rattle.vx_wire_bytes.specs.Wires.{node, Wires, no_wires, first, number_of}
+use Rattle.vx_wire_bytes.specs.LeftToWrite.{children_in}
 use Rattle.vx_wire_bytes.specs.WireViews.{tree_view, trees_view}
 use Rattle.vx_wire_bytes.specs.declared.trees.WireTree.{WireTree}
 use Rattle.vx_wire_bytes.specs.declared.trees.WireTree.TheViews.{out-WireTree}
@@ -16,7 +16,7 @@ use Rattle.vx_wire.specs.Encodings.{encoding_of, encoding_id, kind_named}
 use Rattle.vx_wire.specs.Registries.{held_named}
 use Rattle.vx_wire.specs.Metadata.{takes, HasForm}
 use Rattle.vx_wire.specs.Forms.{node_with, wire_of, wires_of, Everywhere, EverywhereIn}
-use Rattle.vx_wire.specs.Building.{IsBuiltOf, IsUnbuiltOf, IsBuilt, AreBuilt, IsRefusedAt, IsRefusedFirst, IsOneRefused, IsUnbuilt}
+use Rattle.vx_wire.specs.Building.{IsBuiltOf, IsUnbuiltOf, IsBuilt, AreBuilt, AreBuiltTo, IsRefusedAt, IsUnbuilt}
 use Rattle.vx_wire.specs.declared.encodings.ExprEncoding.{ExprEncoding}
 use Rattle.vx_wire.specs.declared.errors.BuildError.{BuildError}
 use Rattle.vx_wire.specs.declared.errors.BuildError.TheVariants as errors
@@ -86,13 +86,6 @@ everywhere P (merge es n) p h = (p, subst (EverywhereIn P) (trees_of_listed es) 
 everywhere P (select s e) p h = (p, h.0)
 everywhere P (dynamic e op k t default) p h = (p, h.0)
 
--- each node of a list builds the expression at its place
-abbrev pub AreBuiltTo : (ExprEncoding → Bool) → Wires → List Tree → Type 0
-AreBuiltTo holds no_wires [] = Unit {0}
-AreBuiltTo holds no_wires (e ∷ es) = ⊥
-AreBuiltTo holds (first n ns) [] = ⊥
-AreBuiltTo holds (first n ns) (e ∷ es) = IsBuilt holds n e × AreBuiltTo holds ns es
-
 pub record RowBuilt (holds : ExprEncoding → Bool) (ns : Wires) (es : List Tree) : Type 0 where
   pub form : ns ≡ wires_of (trees_of es)
   pub forms : EverywhereIn HasForm (trees_of es)
@@ -113,6 +106,9 @@ row_built holds (first n ns) (e ∷ es) h =
       number = omega (arith, others.number);
       all = ((e, h.0), others.all);
     }
+
+pub built_rows : (holds : ExprEncoding → Bool) (ns : Wires) (es : List Tree) → AreBuiltTo holds ns es → AreBuilt holds ns
+built_rows holds ns es h = (row_built holds ns es h).all
 
 held_is : (holds : ExprEncoding → Bool) (o : Option ExprEncoding) (kind : ExprEncoding) → option_and_then (λ e. cond (holds e) (Some e) None) o ≡ Some kind → (o ≡ Some kind) × (holds kind ≡ true)
 held_is holds None kind e = absurd (none-some kind e)
@@ -156,77 +152,32 @@ unbuilt_here holds id metadata ns es kind errors.WrongChildren children e h =
     refused_here holds id metadata ns es errors.WrongChildren children
     (subst (λ k. IsRefusedAt k metadata (number_of ns) errors.WrongChildren) e (subst (λ k. IsUnbuiltOf kind metadata k errors.WrongChildren) number h))
 
--- ---- the children of a wire tree, one after the other
+-- ---- a node of the code, once its children are built
 
--- the first children are built, and the others are left
-pub record AreFirstBuilt (holds : ExprEncoding → Bool) (all left : Wires) (es : List Tree) : Type 0 where
-  pub built : (more : List Tree) → AreBuiltTo holds left more → AreBuiltTo holds all (es ++ more)
-  pub refused : (why : BuildError) → IsOneRefused holds why left → IsOneRefused holds why all
+over_children : (holds : ExprEncoding → Bool) (t : WireTree) (es : List Tree) → AreBuiltTo holds (children_in (tree_view t)) es → AreBuiltTo holds (trees_view (out-WireTree t).children.items) es
+over_children holds t es h = subst (λ n. AreBuiltTo holds (children_in n) es) (tree_view-out t) h
 
-pub none_built : (holds : ExprEncoding → Bool) (all : Wires) → AreFirstBuilt holds all all []
-none_built holds all = record { built = λ more h. h; refused = λ why h. h }
-
-one_more : (holds : ExprEncoding → Bool) (all : Wires) (n : Wire) (left : Wires) (es : List Tree) (e : Tree) → AreFirstBuilt holds all (first n left) es → IsBuilt holds n e → AreFirstBuilt holds all left (es ++ e ∷ [])
-one_more holds all n left es e h built = record {
-  built = λ more b. subst (AreBuiltTo holds all) (sym (append_assoc es (e ∷ []) more)) (h.built (e ∷ more) (built, b));
-  refused = λ why r. h.refused why (inr ((e, built), r));
-}
-
--- the children of a wire tree
-abbrev pub items_of : WireTree → List WireTree
-items_of t = (out-WireTree t).children.items
-
-drop_step : (ts : List WireTree) (i : ℕ) (t : WireTree) → i < length ts → t ≡ get_or ts i t → drop i ts ≡ t ∷ drop (i + 1) ts
-drop_step ts i t lt is = drop_more ts i t lt ∙ ap (λ y. y ∷ drop (i + 1) ts) (sym is)
-
-abbrev pub IsBuilding : (ExprEncoding → Bool) → WireTree → ℕ → List Tree → Type 0
-IsBuilding holds t i es = AreFirstBuilt holds (trees_view (items_of t)) (trees_view (drop i (items_of t))) es
-
-pub building_goes_on : (holds : ExprEncoding → Bool) (t child : WireTree) (i : ℕ) (es more : List Tree) (e : Tree) → IsBuilding holds t i es → i < length (items_of t) → child ≡ get_or (items_of t) i child → IsBuilt holds (tree_view child) e → more ≡ es ++ e ∷ [] → IsBuilding holds t (i + 1) more
-building_goes_on holds t child i es more e h lt is built row =
-    let step = subst (λ ts. AreFirstBuilt holds (trees_view (items_of t)) (trees_view ts) es) (drop_step (items_of t) i child lt is) h in
-    subst (AreFirstBuilt holds (trees_view (items_of t)) (trees_view (drop (i + 1) (items_of t)))) (sym row) (one_more holds (trees_view (items_of t)) (tree_view child) (trees_view (drop (i + 1) (items_of t))) es e step built)
-
--- the refusal of a child is that of its parent
-pub child_unbuilt : (holds : ExprEncoding → Bool) (t child : WireTree) (i : ℕ) (es : List Tree) (why : BuildError) → IsBuilding holds t i es → i < length (items_of t) → child ≡ get_or (items_of t) i child → IsUnbuilt holds (tree_view child) why → IsUnbuilt holds (tree_view t) why
-child_unbuilt holds t child i es why h lt is unbuilt = go why unbuilt
-  where
-    whole : (r : BuildError) → IsRefusedFirst holds r (tree_view child) → IsRefusedFirst holds r (tree_view t)
-    whole r bad =
-        let step = subst (λ ts. AreFirstBuilt holds (trees_view (items_of t)) (trees_view ts) es) (drop_step (items_of t) i child lt is) h in
-        subst (IsRefusedFirst holds r) (sym (tree_view-out t)) (inl (step.refused r (inl bad)))
-
-    go : (r : BuildError) → IsUnbuilt holds (tree_view child) r → IsUnbuilt holds (tree_view t) r
-    go errors.NoMemory bad = tt
-    go errors.UnknownExpr bad = whole errors.UnknownExpr bad
-    go errors.BadMetadata bad = whole errors.BadMetadata bad
-    go errors.WrongChildren bad = whole errors.WrongChildren bad
-
-pub all_built : (holds : ExprEncoding → Bool) (t : WireTree) (i : ℕ) (es : List Tree) → length (items_of t) ≤ i → IsBuilding holds t i es → AreBuiltTo holds (trees_view (items_of t)) es
-all_built holds t i es le h =
-    let step = subst (λ ts. AreFirstBuilt holds (trees_view (items_of t)) (trees_view ts) es) (drop_all i (items_of t) le) h in
-    subst (AreBuiltTo holds (trees_view (items_of t))) (append-nil es) (step.built [] tt)
-
--- ---- the node itself, once its children are built
-
-pub unknown_kind : (holds : ExprEncoding → Bool) (t : WireTree) (i : ℕ) (es : List Tree) (name : Bytes) → length (items_of t) ≤ i → IsBuilding holds t i es → name ≡ (out-WireTree t).id → None ≡ held_named holds name → IsUnbuilt holds (tree_view t) errors.UnknownExpr
-unknown_kind holds t i es name le h is none =
+pub unknown_kind : (holds : ExprEncoding → Bool) (t : WireTree) (es : List Tree) (name : Bytes) → AreBuiltTo holds (children_in (tree_view t)) es → name ≡ (out-WireTree t).id → None ≡ held_named holds name
+    → IsUnbuilt holds (tree_view t) errors.UnknownExpr
+unknown_kind holds t es name h is none =
     let out = out-WireTree t in
     subst (λ n. IsUnbuilt holds n errors.UnknownExpr) (sym (tree_view-out t))
-    (unknown_here holds out.id out.metadata.items (trees_view (items_of t)) es (all_built holds t i es le h) (none ∙ ap (held_named holds) is))
+    (unknown_here holds out.id out.metadata.items (trees_view out.children.items) es (over_children holds t es h) (none ∙ ap (held_named holds) is))
 
-pub kind_built : (holds : ExprEncoding → Bool) (t : WireTree) (i : ℕ) (es : List Tree) (name metadata : Bytes) (kind : ExprEncoding) (result : Result Tree BuildError) → length (items_of t) ≤ i → IsBuilding holds t i es → name ≡ (out-WireTree t).id → Some kind ≡ held_named holds name → metadata ≡ (out-WireTree t).metadata.items
+pub kind_built : (holds : ExprEncoding → Bool) (t : WireTree) (es : List Tree) (name metadata : Bytes) (kind : ExprEncoding) (result : Result Tree BuildError)
+    → AreBuiltTo holds (children_in (tree_view t)) es → name ≡ (out-WireTree t).id → Some kind ≡ held_named holds name → metadata ≡ (out-WireTree t).metadata.items
     → IfOk result (λ e. IsBuiltOf kind metadata es e) → IfOk result (λ e. IsBuilt holds (tree_view t) e)
-kind_built holds t i es name metadata kind (Ok e) le h is known same built =
+kind_built holds t es name metadata kind (Ok e) h is known same built =
     let out = out-WireTree t in
     subst (λ n. IsBuilt holds n e) (sym (tree_view-out t))
-    (node_built holds out.id out.metadata.items (trees_view (items_of t)) es kind e (all_built holds t i es le h) (known ∙ ap (held_named holds) is) (subst (λ m. IsBuiltOf kind m es e) same built))
-kind_built holds t i es name metadata kind (Err why) le h is known same built = tt
+    (node_built holds out.id out.metadata.items (trees_view out.children.items) es kind e (over_children holds t es h) (known ∙ ap (held_named holds) is) (subst (λ m. IsBuiltOf kind m es e) same built))
+kind_built holds t es name metadata kind (Err why) h is known same built = tt
 
-pub kind_unbuilt : (holds : ExprEncoding → Bool) (t : WireTree) (i : ℕ) (es : List Tree) (name metadata : Bytes) (kind : ExprEncoding) (result : Result Tree BuildError) → length (items_of t) ≤ i → IsBuilding holds t i es → name ≡ (out-WireTree t).id → Some kind ≡ held_named holds name → metadata ≡ (out-WireTree t).metadata.items
+pub kind_unbuilt : (holds : ExprEncoding → Bool) (t : WireTree) (es : List Tree) (name metadata : Bytes) (kind : ExprEncoding) (result : Result Tree BuildError)
+    → AreBuiltTo holds (children_in (tree_view t)) es → name ≡ (out-WireTree t).id → Some kind ≡ held_named holds name → metadata ≡ (out-WireTree t).metadata.items
     → IfErr result (λ why. IsUnbuiltOf kind metadata (length es) why) → IfErr result (λ why. IsUnbuilt holds (tree_view t) why)
-kind_unbuilt holds t i es name metadata kind (Ok e) le h is known same refused = tt
-kind_unbuilt holds t i es name metadata kind (Err why) le h is known same refused =
+kind_unbuilt holds t es name metadata kind (Ok e) h is known same refused = tt
+kind_unbuilt holds t es name metadata kind (Err why) h is known same refused =
     let out = out-WireTree t in
     subst (λ n. IsUnbuilt holds n why) (sym (tree_view-out t))
-    (unbuilt_here holds out.id out.metadata.items (trees_view (items_of t)) es kind why (all_built holds t i es le h) (known ∙ ap (held_named holds) is) (subst (λ m. IsUnbuiltOf kind m (length es) why) same refused))
+    (unbuilt_here holds out.id out.metadata.items (trees_view out.children.items) es kind why (over_children holds t es h) (known ∙ ap (held_named holds) is) (subst (λ m. IsUnbuiltOf kind m (length es) why) same refused))

@@ -1,5 +1,5 @@
 -- Building expressions from wire trees: what is built, and why a tree is refused.
-use Rattle.std.specs.Prelude.{◌≡◌, ◌⊎◌, ℕ, Bool, true, false, List, length, Option, Some, None}
+use Rattle.std.specs.Prelude.{◌≡◌, ◌⊎◌, ℕ, Bool, true, false, List, [], ◌∷◌, length, Option, Some, None}
 use Rattle.vx_dtype.specs.Types.{Bytes}
 use Rattle.vx_expr.specs.Trees.{Tree, children_of}
 use Rattle.vx_wire_bytes.specs.Wires.{Wire, node, Wires, no_wires, first, number_of}
@@ -40,6 +40,13 @@ pub record IsBuilt (holds : ExprEncoding → Bool) (wire : Wire) (e : Tree) : Ty
 abbrev pub AreBuilt : (ExprEncoding → Bool) → Wires → Type 0
 AreBuilt holds no_wires = Unit {0}
 AreBuilt holds (first n ns) = ((e : Tree) × IsBuilt holds n e) × AreBuilt holds ns
+
+-- each wire node of a list builds the expression at its place
+abbrev pub AreBuiltTo : (ExprEncoding → Bool) → Wires → List Tree → Type 0
+AreBuiltTo holds no_wires [] = Unit {0}
+AreBuiltTo holds no_wires (e ∷ es) = ⊥
+AreBuiltTo holds (first n ns) [] = ⊥
+AreBuiltTo holds (first n ns) (e ∷ es) = IsBuilt holds n e × AreBuiltTo holds ns es
 
 -- why a wire node whose children are built, so many, is refused: its kind, its metadata, the number of its children, in this order
 abbrev pub IsRefusedAt : Option ExprEncoding → Bytes → ℕ → BuildError → Type 0

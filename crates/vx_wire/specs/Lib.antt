@@ -5,3 +5,4 @@ pub mod Forms
 pub mod Building
 pub mod ReadBack
 pub mod Serializing
+pub mod WireOrders

@@ -1,7 +1,7 @@
 // Why a tree builds nothing.
 ghost use Rattle.std.specs.Prelude.{◌≡◌};
 
-use std::alloc::AllocFailed;
+use std::alloc::{AllocError, AllocFailed};
 use thiserror::Error;
 use vx_dtype::NoMemory;
 
@@ -20,6 +20,16 @@ pub enum BuildError {
     /// The node has more or fewer children than its kind takes.
     #[error("WrongChildren")]
     WrongChildren,
+}
+
+impl From<AllocError> for BuildError {
+    ghost use Rattle.vx_wire.specs.declared.errors.BuildError.TheVariants.{NoMemory as OutOfMemory};
+
+    ghost from_gives = { λ _ e. e ≡ OutOfMemory };
+
+    fn from(_error: AllocError) -> BuildError {
+        BuildError::NoMemory
+    }
 }
 
 impl<T: Drop> From<AllocFailed<T>> for BuildError {

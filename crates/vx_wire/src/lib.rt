@@ -10,6 +10,7 @@ mod metadata;
 mod registries;
 mod serializing;
 mod spelling;
+mod tree_nodes;
 
 pub use building::deserialize_expr_proto;
 pub use encodings::{ExprEncoding, ExprEncodingRef, encoding};
