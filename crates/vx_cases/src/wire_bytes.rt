@@ -225,11 +225,7 @@ fn deserialized(alloc: Global, bytes: &[u8]) -> Result<String, CaseError> {
 
 /// The compact text of the expression that the kind of the outermost node builds, dynamic comparisons among the kinds.
 fn built(alloc: Global, bytes: &[u8]) -> Result<String, CaseError> {
-    let WireTree {
-        id,
-        metadata,
-        children,
-    } = read_tree(alloc, bytes)?;
+    let (id, metadata, children) = read_tree(alloc, bytes)?.into_parts();
     let children = expressions(alloc, children)?;
     let mut registry = ExprRegistry::default();
     registry.register(ExprEncoding::Dynamic);

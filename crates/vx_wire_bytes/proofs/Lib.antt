@@ -17,3 +17,4 @@ pub mod ValueWriting
 pub mod ValueLoops
 pub mod ValueLemmas
 pub mod EqualLemmas
+pub mod DropLemmas

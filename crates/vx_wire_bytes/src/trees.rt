@@ -1,14 +1,16 @@
-// The trees that the wire form spells, and their equality: by their whole structure.
+// The trees that the wire form spells, how they are dropped, and their equality: by their whole structure.
 ghost use Rattle.std.specs.Prelude.{◌≡◌, ◌<◌, length, Decides, IfSome};
 ghost use Rattle.std.specs.Cmp.{on_per, on_equiv, partial_equiv_from_equiv};
+ghost use Rattle.vx_wire_bytes.specs.declared.trees.WireTree.{out-WireTree};
 ghost use Rattle.vx_wire_bytes.specs.WireEqual.{wire_eq, wires_eq};
 ghost use Rattle.vx_wire_bytes.specs.EqualLaws.{wire_eq_equiv};
+ghost use Rattle.vx_wire_bytes.specs.Wires.{node};
 ghost use Rattle.vx_wire_bytes.specs.WireViews.{tree_view, trees_view};
 
 use vx_dtype::Text;
 
 /// A node of the wire form. Its bytes are its id, its metadata and its children, each with its length before it.
-#[derive(Debug, Drop)]
+#[derive(Debug)]
 pub struct WireTree {
     /// The kind of the node.
     pub id: Text,
@@ -16,6 +18,65 @@ pub struct WireTree {
     pub metadata: Vec<u8>,
     /// The children in order.
     pub children: Vec<WireTree>,
+}
+
+impl WireTree {
+    /// The id, the metadata and the children. No pattern takes a tree apart, since a loop of the tree's own drops it.
+    pub fn into_parts(self) -> (Text, Vec<u8>, Vec<WireTree>)
+        ensures parts { out-WireTree self ≡ record { id = result.0; metadata = result.1; children = result.2 } }
+        ensures seen { tree_view self ≡ node result.0 result.1.items (trees_view result.2.items) }
+    {
+        let WireTree {
+            id,
+            metadata,
+            children,
+        } = self;
+        (id, metadata, children)
+    }
+}
+
+/// A loop drops the tree and needs no call for each level, however the tree is shaped. It has no memory for a list of what is left, so it
+/// turns the tree: the first child of the last child takes the last child's place, and the node takes the place of that first child. So
+/// each node comes to stand on the way down first children, and the loop takes that way from its top.
+impl Drop for WireTree {
+    #[cycle(dropping)]
+    fn drop(mut self) {
+        loop {
+            let WireTree {
+                id,
+                metadata,
+                mut children,
+            } = self;
+            let Some(last) = children.pop() else {
+                return;
+            };
+            if children.is_empty() {
+                self = last;
+                continue;
+            }
+            let (last_id, last_metadata, mut below) = last.into_parts();
+            if below.is_empty() {
+                self = WireTree {
+                    id,
+                    metadata,
+                    children,
+                };
+                continue;
+            }
+            children.push(below.remove(0)).unwrap();
+            let node = WireTree {
+                id,
+                metadata,
+                children,
+            };
+            below.insert(0, node).unwrap();
+            self = WireTree {
+                id: last_id,
+                metadata: last_metadata,
+                children: below,
+            };
+        }
+    }
 }
 
 /// Where the child stands with which a walk goes on by its loop, so that a chain of nodes needs no call for each link, wherever among
