@@ -2,4 +2,6 @@ pub mod TruthLemmas
 pub mod StandingLemmas
 pub mod ColumnLemmas
 pub mod TableLemmas
+pub mod BlockRowLemmas
 pub mod RulingLemmas
+pub mod RuleLemmas

@@ -4,7 +4,7 @@ use Rattle.std.specs.Prelude.{length, MatchOption}
 use Rattle.std.specs.List.{range_with_len}
 use Rattle.std.proofs.Math.ListN.{replicate}
 use Rattle.vx_dtype.specs.declared.Stat.{Stat}
-use Rattle.vx_dtype.specs.Types.{Bytes, bool_ty}
+use Rattle.vx_dtype.specs.Types.{Bytes, Ty, bool_ty}
 use Rattle.vx_dtype.specs.Values.{Val}
 use Rattle.vx_dtype.specs.Logic.{is_true_val}
 use Rattle.vx_expr.specs.Trees.{Tree}
@@ -33,7 +33,7 @@ use Rattle.vx_block_pruning.specs.PruningTruths.{pruning_table, pruning_truths, 
 
 module _ (zones : Zones) (slots : Slots) (e : Tree) (prunable : IsPrunable zones slots e) where
   -- the pruning expression, if there is one, can be evaluated
-  evaluable : MatchOption (pruning_over (available_paths zones) e) (Unit {0}) (λ p. IsEvaluable zones slots p.tree)
+  pub evaluable : MatchOption (pruning_over (available_paths zones) e) (Unit {0}) (λ p. IsEvaluable zones slots p.tree)
   evaluable =
       by-option (pruning_over (available_paths zones) e) (pruning_tree_is_typed zones slots e 0 prunable) (pruning_slots_fit zones slots e prunable.slots_fitting)
       (pruning_tree_is_calm zones e prunable.ty prunable.accepted prunable.typed)
@@ -103,18 +103,18 @@ pub no-truths : (zones : Zones) (slots : Slots) (e : Tree) → length zones.leng
 no-truths zones slots e h =
     ap (λ (n : ℕ). map (λ block. is_true_val (mean (row_type (pruning_fields zones)) slots (pruning_row zones block) e)) (range_with_len 0 n)) (sym h)
 
--- over blocks the expression has a column
-pub gives-column : (zones : Zones) (slots : Slots) (e : Tree) (table : Column) (held : Slots) → IsEvaluable zones slots e → 0 < length zones.lengths → table ≡ pruning_table zones → held ≡ slots
+-- where there are blocks, the expression has a column over rows of the available statistics
+pub gives-column : (zones : Zones) (slots : Slots) (e : Tree) (table : Column) (held : Slots) → IsEvaluable zones slots e → 0 < length zones.lengths → table.ty ≡ row_type (pruning_fields zones) → held ≡ slots
     → GivesColumn table.ty held table.rows e
 gives-column zones slots e table held h blocks p q =
-    subst (λ (x : Column × Slots). GivesColumn x.0.ty x.1 x.0.rows e) (λ i. (sym p i, sym q i))
+    subst (λ (x : Ty × Slots). GivesColumn x.0 x.1 table.rows e) (λ i. (sym p i, sym q i))
     (record {
       ty = bool_ty (h.typed blocks).null;
       typed =
           ap (λ r. and_then r (λ u. unless (slots_fit slots e) type_mismatch (Ok u))) (h.typed blocks).typed
           ∙ ap (λ (b : Bool). unless b type_mismatch (Ok (bool_ty (h.typed blocks).null))) h.fitting;
-      summed = h.unbroken by_sum (pruning_table zones).rows;
-      cast = h.unbroken by_cast (pruning_table zones).rows;
+      summed = h.unbroken by_sum table.rows;
+      cast = h.unbroken by_cast table.rows;
     })
 
 truths-mapped : (truth : Val → Bool) (meant : Val → Val) (row : ℕ → Val) (ns : List ℕ) → map truth (map meant (map row ns)) ≡ map (λ n. truth (meant (row n))) ns

@@ -32,11 +32,11 @@ use Rattle.vx_block_pruning.specs.PruningTruths.{pruning_table}
 use Rattle.vx_block_pruning.proofs.StandingLemmas.{alone-available}
 
 -- the types, names and values of the columns are those of the row of statistics
-types-zipped : (zs : List ZoneStat) → zipped (map name_of zs) (column_types (map column_of zs)) ≡ statistics_fields zs
+pub types-zipped : (zs : List ZoneStat) → zipped (map name_of zs) (column_types (map column_of zs)) ≡ statistics_fields zs
 types-zipped [] = refl
 types-zipped (z ∷ zs) = ap (field (name_of z) (column_type z)) (types-zipped zs)
 
-names-same : (zs : List ZoneStat) → field_names (statistics_fields zs) ≡ map name_of zs
+pub names-same : (zs : List ZoneStat) → field_names (statistics_fields zs) ≡ map name_of zs
 names-same [] = refl
 names-same (z ∷ zs) = ap (λ (ns : List Bytes). name_of z ∷ ns) (names-same zs)
 
@@ -49,7 +49,7 @@ members-at : (zs : List ZoneStat) (i : ℕ) → row_members (map name_of zs) (ma
 members-at [] i = refl
 members-at (z ∷ zs) i = λ j. member (name_of z) (value-at z.values i j) (members-at zs i j)
 
-length-mapped : {X Y : Type 0} (f : X → Y) (xs : List X) → length (map f xs) ≡ length xs
+pub length-mapped : {X Y : Type 0} (f : X → Y) (xs : List X) → length (map f xs) ≡ length xs
 length-mapped f [] = refl
 length-mapped f (x ∷ xs) = ap suc (length-mapped f xs)
 

@@ -1,4 +1,6 @@
 pub mod BlocksRuledOut
+pub mod BlockRows
+pub mod PruningRules
 pub mod PruningTruths
 pub mod Standing
 pub mod StatisticColumns
@@ -6,3 +8,6 @@ pub use Rattle.vx_semantics.specs.Typing
 pub use Rattle.vx_semantics.specs.Slots
 pub use Rattle.vx_semantics.specs.Tables
 pub use Rattle.vx_semantics.specs.Pruning
+pub use Rattle.vx_passes.specs.PruningTables
+pub use Rattle.vx_zones.specs.ZoneViews
+pub use Rattle.vx_laws_pruning.specs.PruningLaws

@@ -56,7 +56,7 @@ fn pruned(
 }
 
 /// The slots again.
-fn copied(alloc: Global, slots: &[Option<Scalar>]) -> Mem<Vec<Option<Scalar>>>
+pub(crate) fn copied(alloc: Global, slots: &[Option<Scalar>]) -> Mem<Vec<Option<Scalar>>>
     ensures { IfOk result (λ copy. copy.items ≡ slots.now) }
 {
     Ok(Vec::from_clones(alloc, slots)?)

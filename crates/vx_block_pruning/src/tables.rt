@@ -29,7 +29,7 @@ pub(crate) fn statistics_table(alloc: Global, zones: &ZoneMap) -> Mem<ColumnRef>
 }
 
 /// The joined names of those statistics that alone have theirs.
-fn available_names(
+pub(crate) fn available_names(
     alloc: Global,
     stats: &[ZoneStat],
     standing: &HashMap<FieldName, bool>,

@@ -1,4 +1,4 @@
-use Rattle.std.proofs.Common.{rules, ◌≡◌, ◌<◌, length, ◌∙◌, subst, IfOk}
+use Rattle.std.proofs.Common.{rules, ◌≡◌, ◌<◌, length, ◌∙◌, ap, subst, IfOk}
 use Rattle.vx_eval.specs.Scopes.{scope_rows, scope_slots}
 use Rattle.vx_block_pruning.proofs.RulingLemmas.{gives-column, column-truths}
 use Rattle.vx_block_pruning.proofs.ruling.pruned.Goals as goal
@@ -7,7 +7,7 @@ pub evaluated-requires : goal.evaluated-requires
 evaluated-requires c =
     let blocks : 0 < length c.args.zones.now.lengths = search rules in
     gives-column c.args.zones.now c.args.slots.now c.args.pruning.now (scope_rows c.with_slots-scope.result) (scope_slots c.with_slots-scope.result) c.requires blocks
-    (c.with_slots-scope.ensures.rows ∙ (c.new-2.ensures.rows ∙ c.in_ok-table.ensures)) (c.with_slots-scope.ensures.slots ∙ c.in_ok-copied.ensures)
+    (ap (λ table. table.ty) (c.with_slots-scope.ensures.rows ∙ (c.new-2.ensures.rows ∙ c.in_ok-table.ensures))) (c.with_slots-scope.ensures.slots ∙ c.in_ok-copied.ensures)
 
 pub returns : goal.returns
 returns c =
