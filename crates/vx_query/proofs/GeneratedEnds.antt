@@ -8,7 +8,7 @@ use Rattle.vx_semantics.specs.Tables.{row_type}
 use Rattle.vx_laws_scan.specs.Pruned.{KeptNumbersAreKeptBlocks}
 use Rattle.vx_laws_scan.proofs.BlockReads.{block_reads, reads_by_block}
 use Rattle.vx_io.specs.Ends.{Added}
-use Rattle.vx_scan.specs.Runs.{block_asked}
+use Rattle.vx_scan.specs.BlockRuns.{block_asked}
 use Rattle.vx_scan.specs.ScanLaws.{is_asked_read}
 use Rattle.vx_scan.specs.Scanning.{AreAmong, asked_reads}
 use Rattle.vx_scan.specs.Stores.{StoreSeen}

@@ -19,7 +19,7 @@ use Rattle.vx_semantics.specs.Scans.{Phase, phase_breaks, phase_reads, phases_to
 use Rattle.vx_laws_scan.specs.Pruned.{KeptNumbersAreKeptBlocks}
 use Rattle.vx_laws_scan.proofs.BlockReads.{block_reads, reads_by_block}
 use Rattle.vx_tables.specs.Blocks.{have_lengths, have_types}
-use Rattle.vx_scan.specs.Runs.{block_asked}
+use Rattle.vx_scan.specs.BlockRuns.{block_asked}
 use Rattle.vx_scan.specs.Scanning.{AreAmong, asked_reads}
 use Rattle.vx_scan.specs.Stores.{Read, StoreSeen}
 use Rattle.vx_scan.proofs.AmongLemmas.{among_nothing, among_all, among_append}

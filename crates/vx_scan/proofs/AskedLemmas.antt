@@ -16,7 +16,7 @@ use Rattle.vx_semantics.specs.Tables.{Zones, row_type, numbered_from}
 use Rattle.vx_semantics.specs.Scans.{kept_blocks, reads_in, further_columns}
 use Rattle.vx_scan.specs.Stores.{Read}
 use Rattle.vx_scan.specs.Scanning.{AreAmong, asked_reads}
-use Rattle.vx_scan.specs.Runs.{block_asked}
+use Rattle.vx_scan.specs.BlockRuns.{block_asked}
 use Rattle.vx_scan.specs.ScanLaws.{is_asked_read, same_read, distinct_reads, ReadsAreAsked, ReadsAreDistinct}
 
 -- what holds of each of some items

@@ -15,7 +15,7 @@ use Rattle.vx_semantics.specs.Scans.{Phase, reads_in, further_columns, matching_
 use Rattle.vx_semantics.specs.Tables.{Table, Zones, row_type}
 use Rattle.vx_scan.specs.Stores.{Read, StoreSeen, WhereTold, AgreesWith, IsSameStore}
 use Rattle.vx_scan.specs.Scanning.{asks_breaking}
-use Rattle.vx_scan.specs.Runs.{Runs, block_asked, FailedAmong, EndsBlock, AddsRows, RunsBlock, RunsBlockOf}
+use Rattle.vx_scan.specs.BlockRuns.{Runs, block_asked, FailedAmong, EndsBlock, AddsRows, RunsBlock, RunsBlockOf}
 use Rattle.vx_scan.specs.Steps.{EndsPart, RunsTold, RunsPart, AreTruths, AddsToldRows}
 use Rattle.vx_scan.specs.declared.errors.ScanError.{ScanError}
 use Rattle.vx_scan.specs.declared.errors.ScanError.TheVariants as errors

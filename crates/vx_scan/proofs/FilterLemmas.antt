@@ -14,7 +14,8 @@ use Rattle.vx_semantics.specs.Tables.{row_type}
 use Rattle.vx_prepare.specs.Preparing.{IsPrepared, AreOf, CanBeOver}
 use Rattle.vx_prepare.specs.declared.prepared.PreparedExpr.{PreparedExpr}
 use Rattle.vx_scan.specs.Stores.{StoreSeen}
-use Rattle.vx_scan.specs.Steps.{MakesReads, further_names, AreColumnsOf, IsPreparedScan, IsFiltered, kept_column}
+use Rattle.vx_scan.specs.Opening.{IsPreparedScan}
+use Rattle.vx_scan.specs.Steps.{MakesReads, further_names, AreColumnsOf, IsFiltered, kept_column}
 use Rattle.vx_scan.specs.declared.errors.ScanError.{ScanError}
 use Rattle.vx_scan.specs.declared.filtering.FilteredBlock.{FilteredBlock}
 use Rattle.vx_scan.specs.declared.preparing.PreparedScan.{PreparedScan}

@@ -12,10 +12,11 @@ use Rattle.vx_eval.specs.Evaluating.{checked_type}
 use Rattle.vx_zones.specs.Zoning.{broken_rule}
 use Rattle.vx_zones.specs.declared.errors.ZoneError.{ZoneError}
 use Rattle.vx_zones.specs.declared.errors.ZoneError.TheVariants as zone_errors
+use Rattle.vx_prepare.specs.Preparing.{IsPrepared}
 use Rattle.vx_prepare.specs.declared.prepared.PreparedExpr.{PreparedExpr}
 use Rattle.vx_scan.specs.Scanning.{on_side, after_filter, scan_type}
-use Rattle.vx_scan.specs.Opening.{ArePrepared, PreparesBoth}
-use Rattle.vx_scan.specs.Steps.{PreparesSide, IsPreparedScan}
+use Rattle.vx_scan.specs.Opening.{ArePrepared, PreparesBoth, IsPreparedScan, OtherSlotsServe}
+use Rattle.vx_scan.specs.Steps.{PreparesSide}
 use Rattle.vx_scan.specs.declared.errors.Side.{Side}
 use Rattle.vx_scan.specs.declared.errors.Side.TheVariants.{Filter, Projection}
 use Rattle.vx_scan.specs.declared.errors.ScanError.{ScanError}
@@ -39,6 +40,31 @@ then_step (Err e) b u h = let no : ⊥ = cc in absurd no
 
 pub checked_parts : (t : Ty) (slots : Slots) (e : Tree) (u : Ty) → checked_type t slots e ≡ Ok u → (typed_of t e ≡ Ok u) × (slots_fit slots e ≡ true)
 checked_parts t slots e u h = then_step (typed_of t e) (slots_fit slots e) u h
+
+-- with other slots that fit it is the same type
+checked_with : (t : Ty) (slots others : Slots) (e : Tree) (u : Ty) → checked_type t slots e ≡ Ok u → slots_fit others e ≡ true → checked_type t others e ≡ Ok u
+checked_with t slots others e u h k =
+    ap (λ (r : Result Ty Refusal). and_then r (λ v. unless (slots_fit others e) type_mismatch (Ok v))) (checked_parts t slots e u h).0
+    ∙ ap (λ (b : Bool). unless b type_mismatch (Ok u)) k
+
+-- what is prepared with some slots is prepared with others that fit
+prepared_with : (fs : Fields) (slots others : Slots) (e : Tree) (p : PreparedExpr) → IsPrepared fs slots e p → slots_fit others e ≡ true → IsPrepared fs others e p
+prepared_with fs slots others e p h k = record {
+  typed = checked_with (row_type fs) slots others e (type_view p.dtype) h.typed k;
+  columns = h.columns;
+  simplified = h.simplified;
+  parts = h.parts;
+  splits = h.splits;
+  held = h.held;
+}
+
+pub other_slots : OtherSlotsServe
+other_slots zones slots others f p scan h fits_filter fits_projection = record {
+  distinct = h.distinct;
+  filter = prepared_with zones.columns slots others f scan.filter h.filter fits_filter;
+  boolean = h.boolean;
+  projection = prepared_with zones.columns slots others p scan.projection h.projection fits_projection;
+}
 
 -- the type of a scan, or its first refusal
 pub filter_refuses : (t : Ty) (slots : Slots) (f p : Tree) (e : ScanError) → on_side Filter (checked_type t slots f) ≡ Err e → scan_type t slots f p ≡ Err e

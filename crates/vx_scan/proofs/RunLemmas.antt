@@ -12,7 +12,7 @@ use Rattle.vx_semantics.specs.Asked.{asked_nodes, some_asked_breaks}
 use Rattle.vx_semantics.specs.Scans.{Phase, phase_breaks, phase_breaks_by, phases_to_break, first_breaks_by, phase_reads}
 use Rattle.vx_laws_scan.proofs.BlockReads.{reads_append}
 use Rattle.vx_scan.specs.Stores.{Read}
-use Rattle.vx_scan.specs.Runs.{Runs}
+use Rattle.vx_scan.specs.BlockRuns.{Runs}
 use Rattle.vx_scan.specs.declared.errors.ScanError.{ScanError}
 use Rattle.vx_scan.specs.declared.errors.ScanError.TheVariants as errors
 

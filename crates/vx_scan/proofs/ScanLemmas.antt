@@ -15,8 +15,8 @@ use Rattle.vx_io.specs.Counts.{one_more}
 use Rattle.vx_scan.specs.Stores.{Read, StoreSeen, WhereTold, AgreesWith, IsSameStore}
 use Rattle.vx_scan.specs.Scanning.{scan_type, asked_reads, AreAmong, IsReport, IsScanBroken, IsStoreFault, IsCutOff, IsScanOf, asks_breaking}
 use Rattle.vx_scan.specs.Reports.{Report}
-use Rattle.vx_scan.specs.Runs.{Runs, phases_before, rows_before, block_asked, asked_before, GrowsAmong, IsScannedTo}
-use Rattle.vx_scan.specs.Runs.{FailedAmong, BrokeBy, RunsBlock, RunsBlockOf}
+use Rattle.vx_scan.specs.BlockRuns.{Runs, block_asked, FailedAmong, BrokeBy, RunsBlock, RunsBlockOf}
+use Rattle.vx_scan.specs.Runs.{phases_before, rows_before, asked_before, GrowsAmong, IsScannedTo}
 use Rattle.vx_scan.specs.declared.errors.ScanError.{ScanError}
 use Rattle.vx_scan.specs.declared.errors.ScanError.TheVariants as errors
 use Rattle.vx_scan.proofs.AmongLemmas.{among_more, among_append}

@@ -13,7 +13,8 @@ use Rattle.vx_semantics.specs.Tables.{Table, Zones, row_type, numbered_from}
 use Rattle.vx_semantics.specs.Scans.{Phase, block_phases, block_rows, phases_of, kept_rows_of, kept_blocks, skipped_blocks, kept_of}
 use Rattle.vx_scan.specs.Stores.{Read, AgreesWith}
 use Rattle.vx_scan.specs.Scanning.{asked_reads, some_block}
-use Rattle.vx_scan.specs.Runs.{kept_before, phases_before, rows_before, kept_numbers_before, skipped_numbers_before, block_asked, asked_before}
+use Rattle.vx_scan.specs.BlockRuns.{block_asked}
+use Rattle.vx_scan.specs.Runs.{kept_before, phases_before, rows_before, kept_numbers_before, skipped_numbers_before, asked_before}
 
 pub numbered_append : {X : Type 0} (n : ℕ) (xs ys : List X) → numbered_from n (xs ++ ys) ≡ numbered_from n xs ++ numbered_from (n + length xs) ys
 numbered_append n [] ys = let start : n ≡ n + 0 = omega arith in ap (λ (m : ℕ). numbered_from m ys) start

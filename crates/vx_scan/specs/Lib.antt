@@ -5,6 +5,7 @@ pub mod StoreAnswers
 pub mod Texts
 pub mod Scanning
 pub mod Opening
+pub mod BlockRuns
 pub mod Runs
 pub mod Steps
 pub mod Reports

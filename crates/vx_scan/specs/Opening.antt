@@ -1,11 +1,12 @@
--- What a scan opens before its first block: the expressions that its texts spell, and both of them typed and prepared.
+-- What a scan opens before its first block: the expressions that its texts spell, both of them typed and prepared, and with them the scan that is ready.
 use Rattle.std.specs.Prelude.{◌≡◌, Bool, true, Result, Ok, Err}
 use Rattle.vx_dtype.specs.Types.{Bytes, Fields}
-use Rattle.vx_dtype.specs.TypeRules.{is_bool_ty}
+use Rattle.vx_dtype.specs.TypeRules.{is_bool_ty, no_name_twice}
 use Rattle.vx_dtype.specs.TypeViews.{type_view}
 use Rattle.vx_expr.specs.Trees.{Tree}
 use Rattle.vx_semantics.specs.Meaning.{Slots}
-use Rattle.vx_semantics.specs.Tables.{row_type}
+use Rattle.vx_semantics.specs.Slots.{slots_fit}
+use Rattle.vx_semantics.specs.Tables.{Zones, row_type}
 use Rattle.vx_wire.specs.declared.encodings.ExprEncoding.{ExprEncoding}
 use Rattle.vx_prepare.specs.Preparing.{IsPrepared}
 use Rattle.vx_prepare.specs.declared.prepared.PreparedExpr.{PreparedExpr}
@@ -14,6 +15,7 @@ use Rattle.vx_scan.specs.Scanning.{scan_type}
 use Rattle.vx_scan.specs.declared.errors.Side.{Side}
 use Rattle.vx_scan.specs.declared.errors.ScanError.{ScanError}
 use Rattle.vx_scan.specs.declared.errors.ScanError.TheVariants as errors
+use Rattle.vx_scan.specs.declared.preparing.PreparedScan.{PreparedScan}
 
 -- a text spells the expression, or is refused; want of memory may come at any time
 abbrev pub Decodes : (ExprEncoding → Bool) → Side → Bytes → Result Tree ScanError → Type 0
@@ -35,3 +37,26 @@ PreparesBoth fs slots f p (Err errors.Overflow) = ⊥
 PreparesBoth fs slots f p (Err errors.BadCast) = ⊥
 PreparesBoth fs slots f p (Err errors.StoreFault) = ⊥
 PreparesBoth fs slots f p (Err why) = scan_type (row_type fs) slots f p ≡ Err why
+
+-- a scan that is ready for each block of a table: both expressions are prepared over its rows, in whose type no name stands twice, and the filter is a boolean.
+-- Of the slots it says only that they fit both
+pub record IsPreparedScan (zones : Zones) (slots : Slots) (f p : Tree) (scan : PreparedScan) : Type 0 where
+  pub distinct : no_name_twice (row_type zones.columns) ≡ true
+  pub filter : IsPrepared zones.columns slots f scan.filter
+  pub boolean : is_bool_ty (type_view scan.filter.dtype) ≡ true
+  pub projection : IsPrepared zones.columns slots p scan.projection
+
+-- a scan is made ready, or the refusal is the first before its blocks
+abbrev pub PreparesScan : Zones → Slots → Tree → Tree → Result PreparedScan ScanError → Type 0
+PreparesScan zones slots f p (Ok scan) = IsPreparedScan zones slots f p scan
+PreparesScan zones slots f p (Err errors.NoMemory) = Unit {0}
+PreparesScan zones slots f p (Err errors.Overflow) = ⊥
+PreparesScan zones slots f p (Err errors.BadCast) = ⊥
+PreparesScan zones slots f p (Err errors.StoreFault) = ⊥
+PreparesScan zones slots f p (Err why) = scan_type (row_type zones.columns) slots f p ≡ Err why
+
+-- a scan that is ready with some slots is so with all others that fit both expressions
+abbrev pub OtherSlotsServe : Type 0
+OtherSlotsServe =
+    (zones : Zones) (slots others : Slots) (f p : Tree) (scan : PreparedScan) → IsPreparedScan zones slots f p scan
+    → slots_fit others f ≡ true → slots_fit others p ≡ true → IsPreparedScan zones others f p scan

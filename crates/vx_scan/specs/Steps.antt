@@ -1,10 +1,9 @@
 -- For the checker: no public clause cites this.
 -- What the steps of a scan answer: expressions that are prepared, and of a block its reads, its truths and its rows.
-use Rattle.std.specs.Prelude.{◌≡◌, ℕ, ◌≤◌, true, false, not, List, [], ◌∷◌, ◌++◌, map, length, Some, Result, Ok, Err}
+use Rattle.std.specs.Prelude.{◌≡◌, ◌⊎◌, ℕ, ◌≤◌, Bool, true, false, not, List, [], ◌∷◌, ◌++◌, map, length, Some, Result, Ok, Err}
 use Rattle.std.specs.List.{AllZip, filter, list_any, slice_get}
 use Rattle.vx_dtype.specs.Types.{Bytes, Ty, Fields}
-use Rattle.vx_dtype.specs.TypeRules.{has_name, is_bool_ty, no_name_twice}
-use Rattle.vx_dtype.specs.TypeViews.{type_view}
+use Rattle.vx_dtype.specs.TypeRules.{has_name, is_bool_ty}
 use Rattle.vx_dtype.specs.Values.{Val}
 use Rattle.vx_expr.specs.Trees.{Tree}
 use Rattle.vx_column.specs.Columns.{Column, column, kept_rows, seen_rows}
@@ -19,14 +18,16 @@ use Rattle.vx_prepare.specs.Preparing.{IsPrepared, asked_breaks_by}
 use Rattle.vx_prepare.specs.declared.prepared.PreparedExpr.{PreparedExpr}
 use Rattle.vx_block_pruning.specs.BlocksRuledOut.{blocks_ruled_out}
 use Rattle.vx_scan.specs.Stores.{Read, StoreSeen, WhereTold, IsColumnOf}
-use Rattle.vx_scan.specs.Scanning.{on_side, scan_type, asks_breaking, IsScanOf}
-use Rattle.vx_scan.specs.Runs.{Runs, IsScannedTo}
+use Rattle.vx_scan.specs.Scanning.{on_side, asks_breaking, IsScanOf}
+use Rattle.vx_scan.specs.Opening.{IsPreparedScan}
+use Rattle.vx_scan.specs.BlockRuns.{Runs, RunsBlock}
+use Rattle.vx_scan.specs.Runs.{IsScannedTo}
 use Rattle.vx_scan.specs.declared.errors.Side.{Side}
 use Rattle.vx_scan.specs.declared.errors.ScanError.{ScanError}
 use Rattle.vx_scan.specs.declared.errors.ScanError.TheVariants as errors
 use Rattle.vx_scan.specs.declared.preparing.PreparedScan.{PreparedScan}
 use Rattle.vx_scan.specs.declared.filtering.FilteredBlock.{FilteredBlock}
-use Rattle.vx_scan.specs.declared.scans.Found.{Found}
+use Rattle.vx_scan.specs.declared.finding.Found.{Found}
 
 -- the expression of a side is prepared, or the refusal is that of its typing
 abbrev pub PreparesSide : Fields → Slots → Side → Tree → Result PreparedExpr ScanError → Type 0
@@ -37,22 +38,10 @@ PreparesSide fs slots side e (Err errors.BadCast) = ⊥
 PreparesSide fs slots side e (Err errors.StoreFault) = ⊥
 PreparesSide fs slots side e (Err why) = on_side side (checked_type (row_type fs) slots e) ≡ Err why
 
--- a scan that is ready: both expressions, of which the filter is a boolean, and which blocks the filter rules out
-pub record IsPreparedScan (zones : Zones) (slots : Slots) (f p : Tree) (scan : PreparedScan) : Type 0 where
-  pub distinct : no_name_twice (row_type zones.columns) ≡ true
-  pub filter : IsPrepared zones.columns slots f scan.filter
-  pub boolean : is_bool_ty (type_view scan.filter.dtype) ≡ true
-  pub projection : IsPrepared zones.columns slots p scan.projection
-  pub ruled_out : scan.ruled_out.items ≡ blocks_ruled_out zones slots f
-
--- a scan is made ready, or the refusal is the first before its blocks
-abbrev pub PreparesScan : Zones → Slots → Tree → Tree → Result PreparedScan ScanError → Type 0
-PreparesScan zones slots f p (Ok scan) = IsPreparedScan zones slots f p scan
-PreparesScan zones slots f p (Err errors.NoMemory) = Unit {0}
-PreparesScan zones slots f p (Err errors.Overflow) = ⊥
-PreparesScan zones slots f p (Err errors.BadCast) = ⊥
-PreparesScan zones slots f p (Err errors.StoreFault) = ⊥
-PreparesScan zones slots f p (Err why) = scan_type (row_type zones.columns) slots f p ≡ Err why
+-- a scan that is ready, and of each block whether the filter rules it out
+pub record IsRuledScan (zones : Zones) (slots : Slots) (f p : Tree) (scan : PreparedScan) (flags : List Bool) : Type 0 where
+  pub prepared : IsPreparedScan zones slots f p scan
+  pub ruled_out : flags ≡ blocks_ruled_out zones slots f
 
 -- how an answer ends, whatever it is
 abbrev pub ending : {A : Type 0} → Result A ScanError → Result (Unit {0}) ScanError
@@ -141,6 +130,26 @@ pub record IsFiltered (slots : Slots) (f : Tree) (names : List Bytes) (block : �
 abbrev pub AddsToldRows : (List Val → List Val) → ℕ → List Val → List Val → Result (Unit {0}) ScanError → Table → Type 0
 AddsToldRows given block was now (Ok a) table = (rows : List Val) × (slice_get table.blocks block ≡ Some rows) × (now ≡ was ++ given rows)
 AddsToldRows given block was now (Err e) table = Unit {0}
+
+-- what a scan has found: rows, and the numbers of the blocks that it kept and skipped
+pub record Finding : Type 0 where
+  pub rows : List Val
+  pub kept : List ℕ
+  pub skipped : List ℕ
+
+-- what a value of the code has found, with rows of this type
+abbrev pub found_view : Ty → Found → Finding
+found_view u found = record { rows = seen_rows u found.rows.items; kept = found.kept.items; skipped = found.skipped.items }
+
+-- the turn of a block: one that is ruled out is put behind those that were skipped, and nothing is read; else it is put behind those that were kept, and runs
+abbrev pub TakesTurn : Bool → Slots → Tree → Tree → ℕ → StoreSeen → StoreSeen → Finding → Finding → Result (Unit {0}) ScanError → Type 0
+TakesTurn true slots f p block before after was now (Ok a) =
+    (after ≡ before) × (now.rows ≡ was.rows) × (now.kept ≡ was.kept) × (now.skipped ≡ was.skipped ++ (block ∷ []))
+TakesTurn true slots f p block before after was now (Err e) = (after ≡ before) × (e ≡ errors.NoMemory)
+TakesTurn false slots f p block before after was now (Ok a) =
+    RunsBlock slots f p block before after was.rows now.rows (Ok tt) × (now.kept ≡ was.kept ++ (block ∷ [])) × (now.skipped ≡ was.skipped)
+TakesTurn false slots f p block before after was now (Err e) =
+    ((after ≡ before) × (e ≡ errors.NoMemory)) ⊎ RunsBlock slots f p block before after was.rows now.rows (Err e)
 
 -- how a scan stands at a block: it has come there, or has ended before
 abbrev pub StandsAt : Slots → Tree → Tree → ℕ → StoreSeen → StoreSeen → List Val → List ℕ → List ℕ → Result (Unit {0}) ScanError → Type 0

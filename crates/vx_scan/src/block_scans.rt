@@ -10,8 +10,9 @@ ghost use Rattle.vx_laws_simplifying.specs.Narrowing.{narrows};
 ghost use Rattle.vx_semantics.specs.Scans.{reads_in, further_columns, matching_rows, block_rows};
 ghost use Rattle.vx_semantics.specs.Tables.{row_type};
 ghost use Rattle.vx_scan.specs.Stores.{WhereTold, AgreesWith, IsSameStore};
-ghost use Rattle.vx_scan.specs.Runs.{RunsBlock};
-ghost use Rattle.vx_scan.specs.Steps.{IsPreparedScan, kept_column, RunsPart, IsFiltered, AddsToldRows};
+ghost use Rattle.vx_scan.specs.BlockRuns.{RunsBlock};
+ghost use Rattle.vx_scan.specs.Opening.{IsPreparedScan};
+ghost use Rattle.vx_scan.specs.Steps.{kept_column, RunsPart, IsFiltered, AddsToldRows};
 
 use crate::errors::ScanError;
 use crate::filtering::{FilteredBlock, evaluated, filter_block};
@@ -22,31 +23,41 @@ use std::alloc::Global;
 use vx_column::ColumnRef;
 use vx_dtype::{Mem, Scalar, ScalarValue};
 
-/// Scans a block that is kept: reads the columns that the filter asks and evaluates it; where it is true at some row, reads the further columns
-/// that the projection asks, evaluates it at these rows alone, and puts its values behind the rows.
-pub(crate) fn scan_block<S: ColumnStore>(
-    alloc: Global,
-    scan: &PreparedScan,
-    slots: &[Option<Scalar>],
-    store: &mut S,
-    block: u32,
-    rows: &mut Vec<ScalarValue>,
-) -> Result<(), ScanError>
-    requires prepared { (f : Tree) × (p : Tree) × IsPreparedScan (S.seen store.old).zones slots.now f p scan.now }
-    requires block { block < length (S.seen store.old).zones.lengths }
-    requires fit { values_fit (type_view scan.now.projection.dtype) rows.old.items ≡ true }
-    ensures same { IsSameStore (S.seen store.old) (S.seen store.new) }
-    ensures runs { (f p : Tree) → IsPreparedScan (S.seen store.old).zones slots.now f p scan.now →
-        RunsBlock slots.now f p block (S.seen store.old) (S.seen store.new) (seen_rows (type_view scan.now.projection.dtype) rows.old.items)
-        (seen_rows (type_view scan.now.projection.dtype) rows.new.items) result }
-    ensures fit { IfOk result (λ _. values_fit (type_view scan.now.projection.dtype) rows.new.items ≡ true) }
-{
-    let len = block_length(store.zones(), block);
-    let filtered = filter_block(alloc, scan, slots, store, block, len)?;
-    if filtered.count == 0 {
-        return Ok(());
+impl PreparedScan {
+    /// Runs the scan in one block, whatever its statistics show: reads the columns that the filter asks, in table order, and evaluates it; where it
+    /// is true at some row, reads the columns that the projection asks and the filter doesn't, in table order, evaluates the projection at these
+    /// rows alone, and puts its values behind the rows. These are values of [`PreparedScan::dtype`].
+    ///
+    /// Blocks are counted from 0. The store has the statistics with which the scan was prepared, and the slots fit the expressions: they may be
+    /// others than those with which it was prepared.
+    ///
+    /// Overflow and BadCast come where an asked node breaks at a row of a phase that was read whole; StoreFault only where the store counted a
+    /// fault, and the reads before the one that failed were made; after NoMemory some first reads were made. No other refusal comes. What the
+    /// rows hold after a refusal isn't told.
+    pub fn scan_kept_block<S: ColumnStore>(
+        &self,
+        alloc: Global,
+        slots: &[Option<Scalar>],
+        block: u32,
+        store: &mut S,
+        rows: &mut Vec<ScalarValue>,
+    ) -> Result<(), ScanError>
+        requires prepared { (f : Tree) × (p : Tree) × IsPreparedScan (S.seen store.old).zones slots.now f p self.now }
+        requires block { block < length (S.seen store.old).zones.lengths }
+        requires fit { values_fit (type_view self.now.projection.dtype) rows.old.items ≡ true }
+        ensures same { IsSameStore (S.seen store.old) (S.seen store.new) }
+        ensures runs { (f p : Tree) → IsPreparedScan (S.seen store.old).zones slots.now f p self.now →
+            RunsBlock slots.now f p block (S.seen store.old) (S.seen store.new) (seen_rows (type_view self.now.projection.dtype) rows.old.items)
+            (seen_rows (type_view self.now.projection.dtype) rows.new.items) result }
+        ensures fit { IfOk result (λ _. values_fit (type_view self.now.projection.dtype) rows.new.items ≡ true) }
+    {
+        let len = block_length(store.zones(), block);
+        let filtered = filter_block(alloc, self, slots, store, block, len)?;
+        if filtered.count == 0 {
+            return Ok(());
+        }
+        project_block(alloc, self, slots, store, block, &filtered, rows)
     }
-    project_block(alloc, scan, slots, store, block, &filtered, rows)
 }
 
 /// Reads the columns of a filtered block that the projection asks and the filter doesn't, in order, evaluates the projection at the rows at which

@@ -12,7 +12,8 @@ ghost use Rattle.vx_semantics.specs.Scans.{reads_in};
 ghost use Rattle.vx_semantics.specs.Tables.{row_type};
 ghost use Rattle.vx_prepare.specs.Preparing.{IsPrepared, AreOf, HaveColumns, CanBeOver};
 ghost use Rattle.vx_scan.specs.Stores.{WhereTold, AgreesWith, IsSameStore};
-ghost use Rattle.vx_scan.specs.Steps.{IsPreparedScan, ending, GivesAsked, BreaksAsAsked, RunsPart, IsFiltered};
+ghost use Rattle.vx_scan.specs.Opening.{IsPreparedScan};
+ghost use Rattle.vx_scan.specs.Steps.{ending, GivesAsked, BreaksAsAsked, RunsPart, IsFiltered};
 
 use crate::errors::ScanError;
 use crate::preparing::PreparedScan;

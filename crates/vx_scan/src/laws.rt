@@ -1,6 +1,7 @@
 // Laws of how scans end: each is the contract of a function that does nothing.
 
 ghost use Rattle.vx_scan.specs.Cutting.{ScansOfRuns};
+ghost use Rattle.vx_scan.specs.Opening.{OtherSlotsServe};
 ghost use Rattle.vx_scan.specs.ScanLaws.{HonestScansAreWhole, HonestTextScansAreWhole, TextsScanAsTheySpell};
 ghost use Rattle.vx_scan.specs.ScanLaws.{FaultlessStoresCountNoFault, UnbrokenScansReport, UnbrokenTextScansReport};
 ghost use Rattle.vx_scan.specs.ScanLaws.{ScansBreakWhereAPhaseBreaks, TextScansBreakWhereAPhaseBreaks};
@@ -12,6 +13,11 @@ ghost use Rattle.vx_scan.specs.ScanLaws.{ReadsAreAsked, ReadsAreDistinct};
 /// Two texts that spell expressions are scanned as these are, without slots: no two texts spell two pairs.
 pub fn texts_scan_as_they_spell()
     ensures { TextsScanAsTheySpell }
+{}
+
+/// A scan that was made ready with some slots is ready with all others that fit both of its expressions.
+pub fn prepared_scans_take_other_slots()
+    ensures { OtherSlotsServe }
 {}
 
 /// Over a told table with honest statistics, the rows of a report are those of all blocks, the skipped ones too.

@@ -3,29 +3,32 @@ ghost use Rattle.std.specs.Prelude.{◌≡◌};
 ghost use Rattle.vx_dtype.specs.TypeRules.{fields_of, is_bool_ty};
 ghost use Rattle.vx_dtype.specs.TypeViews.{type_view};
 ghost use Rattle.vx_semantics.specs.Tables.{row_type};
-ghost use Rattle.vx_scan.specs.Opening.{PreparesBoth};
-ghost use Rattle.vx_scan.specs.Steps.{PreparesSide, PreparesScan};
+ghost use Rattle.vx_scan.specs.Opening.{PreparesBoth, PreparesScan};
+ghost use Rattle.vx_scan.specs.Steps.{PreparesSide};
 
 use crate::errors::{ScanError, Side};
 use std::alloc::Global;
-use vx_block_pruning::ruled_out;
 use vx_dtype::{DType, Scalar};
 use vx_eval::TypeError;
 use vx_expr::ExprRef;
 use vx_prepare::{PreparedExpr, prepare};
 use vx_zones::ZoneMap;
 
-/// Both expressions of a scan, ready to be evaluated block by block, and whether the filter rules out each block.
-#[derive(Drop)]
-pub(crate) struct PreparedScan {
+/// A scan that is ready: its filter and its projection, prepared once over the rows of a table, to be evaluated block by block. Which blocks
+/// the filter rules out isn't a part of it, since that hangs on the slots too, and these may change from block to block.
+#[derive(Debug, Drop)]
+pub struct PreparedScan {
     pub(crate) filter: PreparedExpr,
     pub(crate) projection: PreparedExpr,
-    pub(crate) ruled_out: Vec<bool>,
 }
 
-/// The scan of two expressions over a table with these statistics, ready for its first block, or the refusal of [`prepare_both`]. The blocks
-/// are ruled out by the filter as it was given: what simplifying makes of it may rule out others.
-pub(crate) fn prepare_scan(
+/// The scan of a filter and a projection over the table of these statistics, ready for each of its blocks. It may be run with these slots, or
+/// with others that fit both expressions.
+///
+/// The refusals are those of [`prepare_both`], in its order; nothing is read.
+///
+/// Source of the rule: expressions are typed and simplified once, and evaluated for each block.
+pub fn prepare_scan(
     alloc: Global,
     filter: &ExprRef,
     projection: &ExprRef,
@@ -35,12 +38,19 @@ pub(crate) fn prepare_scan(
     ensures { PreparesScan zones.now slots.now filter.now projection.now result }
 {
     let both = prepare_both(alloc, filter, projection, slots, zones.dtype())?;
-    let flags = ruled_out(alloc, zones, filter, slots)?;
     Ok(PreparedScan {
         filter: both.0,
         projection: both.1,
-        ruled_out: flags,
     })
+}
+
+impl PreparedScan {
+    /// The type of the rows: the projection's strict type.
+    pub fn dtype(&self) -> &DType
+        ensures { type_view result.now ≡ type_view self.now.projection.dtype }
+    {
+        self.projection.dtype()
+    }
 }
 
 /// A filter and a projection over rows of this type, ready to be evaluated. The type is a struct that isn't nullable.

@@ -1,4 +1,4 @@
-use Rattle.std.proofs.Common.{◌≡◌, Err, subst}
+use Rattle.std.proofs.Common.{Err, subst}
 use Rattle.vx_dtype.specs.TypeViews.{type_view}
 use Rattle.vx_eval.specs.declared.errors.EvalError.{EvalError}
 use Rattle.vx_semantics.specs.Asked.{asked_nodes}

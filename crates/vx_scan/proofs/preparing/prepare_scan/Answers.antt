@@ -1,18 +1,9 @@
 use Rattle.std.proofs.Common.{subst}
 use Rattle.vx_dtype.specs.TypeRules.{fields_of}
-use Rattle.vx_dtype.specs.TypeViews.{type_view}
 use Rattle.vx_dtype.specs.Types.{Ty}
-use Rattle.vx_semantics.specs.Tables.{row_type}
 use Rattle.vx_scan.specs.Opening.{ArePrepared}
-use Rattle.vx_scan.proofs.PrepareLemmas.{names_once, checked_parts}
+use Rattle.vx_scan.proofs.PrepareLemmas.{names_once}
 use Rattle.vx_scan.proofs.preparing.prepare_scan.Goals as goal
-
-pub ruled_out-requires-clause-typed : goal.ruled_out-requires-clause-typed
-ruled_out-requires-clause-typed c =
-    let both = c.in_ok-both.both in
-    let prepared : ArePrepared c.args.zones.now.columns c.args.slots.now c.args.filter.now c.args.projection.now both =
-    subst (λ (t : Ty). ArePrepared (fields_of t) c.args.slots.now c.args.filter.now c.args.projection.now both) c.dtype.ensures.dtype c.in_ok-both.ensures in
-    (type_view both.0.dtype, (checked_parts (row_type c.args.zones.now.columns) c.args.slots.now c.args.filter.now (type_view both.0.dtype) prepared.filter.typed).0)
 
 pub returns : goal.returns
 returns c =
@@ -24,5 +15,4 @@ returns c =
       filter = prepared.filter;
       boolean = prepared.boolean;
       projection = prepared.projection;
-      ruled_out = c.in_ok-flags.ensures;
     }
