@@ -16,3 +16,4 @@ pub mod PrepareLemmas
 pub mod GivenLemmas
 pub mod FilterLemmas
 pub mod StandLemmas
+pub mod OneBlockLemmas

@@ -6,6 +6,7 @@ pub mod Texts
 pub mod Scanning
 pub mod Opening
 pub mod BlockRuns
+pub mod BlockScanning
 pub mod Runs
 pub mod Steps
 pub mod Reports

@@ -8,6 +8,7 @@ mod filtering;
 mod finding;
 mod laws;
 mod memory_store;
+mod one_block;
 mod preparing;
 mod reading;
 mod reports;
@@ -22,6 +23,7 @@ pub use laws::{
     scans_of_runs, texts_scan_as_they_spell, unbroken_scans_report,
 };
 pub use memory_store::MemoryStore;
+pub use one_block::scan_block;
 pub use preparing::{PreparedScan, prepare_both, prepare_scan};
 pub use reports::{BlockNumbers, RowValues, ScanReport};
 pub use scans::{scan, scan_exprs};
