@@ -1,6 +1,8 @@
 -- A further row in the order and among the first rows, and what further blocks add.
 use Rattle.std.proofs.Common.{◌≡◌, refl, ap, sym, ◌∙◌, ℕ, Bool, true, false, cond, List, [], ◌∷◌, ◌++◌, take, append_assoc}
 use Rattle.std.specs.List.{AllByRecursion}
+use Rattle.vx_dtype.specs.Types.{Ty}
+use Rattle.vx_dtype.specs.TypeRules.{is_plain}
 use Rattle.vx_laws.proofs.EachNode.{all-apart}
 use Rattle.vx_laws_topk.specs.TopRows.{Keyed, stands_before, in_key_order, top, top_skips, found_with, found_over, skipped_over}
 use Rattle.vx_laws_topk.specs.TopPhases.{SlottedPhase, phases_with, phases_over}
@@ -22,15 +24,20 @@ further_row t d rows r h =
     let parts = all-apart (OfType t) rows (r ∷ []) (have-keys t (rows ++ r ∷ []) h) in
     order-both d t h.plain rows (r ∷ []) parts.0 parts.1 ∙ merged-one d (in_key_order d rows) r
 
+pub further_among : (t : Ty) → is_plain t ≡ true → (d : Bool) (k : ℕ) (rows : List Keyed) (r : Keyed) → AllByRecursion (OfType t) rows → AllByRecursion (OfType t) (r ∷ [])
+    → top d k (rows ++ r ∷ []) ≡ take k (put_behind_ties d r (top d k rows))
+further_among t plain d k rows r f g =
+    let first = top d k rows in
+    let own : AllByRecursion (OfType t) first = all-take (OfType t) k (in_key_order d rows) (order-all (OfType t) d rows f) in
+    sym (top-again d t plain k rows (r ∷ []) f g)
+    ∙ ap (take k) (order-both d t plain first (r ∷ []) own g
+    ∙ merged-one d (in_key_order d first) r
+    ∙ ap (put_behind_ties d r) (sorted-stays d first (sorted-take d k (in_key_order d rows) (order-sorted d t plain rows f))))
+
 pub further_among_first : FurtherRowAmongFirst
 further_among_first t d k rows r h =
     let parts = all-apart (OfType t) rows (r ∷ []) (have-keys t (rows ++ r ∷ []) h) in
-    let first = top d k rows in
-    let own : AllByRecursion (OfType t) first = all-take (OfType t) k (in_key_order d rows) (order-all (OfType t) d rows parts.0) in
-    sym (top-again d t h.plain k rows (r ∷ []) parts.0 parts.1)
-    ∙ ap (take k) (order-both d t h.plain first (r ∷ []) own parts.1
-    ∙ merged-one d (in_key_order d first) r
-    ∙ ap (put_behind_ties d r) (sorted-stays d first (sorted-take d k (in_key_order d rows) (order-sorted d t h.plain rows parts.0))))
+    further_among t h.plain d k rows r parts.0 parts.1
 
 pub found_over_more : FoundOverMore
 found_over_more ask t zones found [] cs = refl

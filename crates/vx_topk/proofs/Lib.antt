@@ -1,0 +1,13 @@
+pub mod RowKeyLemmas
+pub mod HoldLemmas
+pub mod PairLemmas
+pub mod BoundLemmas
+pub mod PutLemmas
+pub mod TopRunLemmas
+pub mod TopStepLemmas
+pub mod FindLemmas
+pub mod ReadyLemmas
+pub mod TurnLemmas
+pub mod ReportLemmas
+pub mod SlotLemmas
+pub mod TopLawLemmas

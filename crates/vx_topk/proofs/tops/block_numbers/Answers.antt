@@ -1,0 +1,12 @@
+use Rattle.std.proofs.Common.{◌≡◌, ◌∙◌, ◌<◌, ◌++◌, ◌∷◌, [], ap, sym, ℕ, List, length, arith, subst}
+use Rattle.std.proofs.lemmas.List.{take_all}
+use Rattle.vx_topk.specs.Tops.{numbers_of}
+use Rattle.vx_topk.proofs.ReportLemmas.{numbers-more}
+use Rattle.vx_topk.proofs.tops.block_numbers.Goals as goal
+
+pub loop-block-preserved : goal.loop-block-preserved
+loop-block-preserved c =
+    let i = c.loop-block.block in
+    let lengths = c.args.lengths.now in
+    let less : i < length lengths = omega (arith, c.loop-block-test.true) in
+    c.in_ok-push.ensures.items ∙ ap (λ (ns : List ℕ). ns ++ i ∷ []) c.loop-block.invariant ∙ sym (numbers-more i lengths less)

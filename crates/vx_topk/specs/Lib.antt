@@ -1,0 +1,14 @@
+pub mod TopEnds
+pub mod SlotLaws
+pub mod TopEndLaws
+pub mod RowKeys
+pub mod RowOrders
+pub mod FirstRows
+pub mod Ready
+pub mod TopRuns
+pub mod Tops
+pub use Rattle.vx_scan.specs.Stores
+pub use Rattle.vx_scan.specs.Scanning
+pub use Rattle.vx_laws_topk.specs.TopRows
+pub use Rattle.vx_laws_topk.specs.TopLaws
+pub use Rattle.vx_laws_topk.specs.TopPhases

@@ -1,0 +1,103 @@
+// The first rows of a table by a key, found block by block.
+ghost use Rattle.std.specs.Prelude.{◌≡◌, ◌<◌, ℕ, true, false, length, [], ◌∷◌, List, map, IfOk, nat_eq};
+ghost use Rattle.vx_dtype.specs.Types.{Ty};
+ghost use Rattle.vx_dtype.specs.TypeViews.{type_view};
+ghost use Rattle.vx_column.specs.Columns.{seen_rows, values_fit};
+ghost use Rattle.vx_expr.specs.Trees.{Tree};
+ghost use Rattle.vx_semantics.specs.Slots.{slots_fit};
+ghost use Rattle.vx_laws_topk.specs.TopRows.{Keyed, TopAsk, bound_before, bound_slots, bounded_filter, top_skips};
+ghost use Rattle.vx_laws_topk.specs.TopPhases.{keyed_projection};
+ghost use Rattle.vx_scan.specs.Stores.{IsSameStore};
+ghost use Rattle.vx_scan.specs.Opening.{IsPreparedScan};
+ghost use Rattle.vx_scan.specs.BlockRuns.{RunsBlock};
+ghost use Rattle.vx_topk.specs.FirstRows.{HoldFirst, IsAskedBy, AsksTheSame, start_of};
+ghost use Rattle.vx_topk.specs.Ready.{IsReady};
+ghost use Rattle.vx_topk.specs.TopRuns.{GivesRows, TakesTurn, EndsFinding};
+
+use crate::first_rows::FirstRows;
+use crate::ready::TopScan;
+use std::alloc::Global;
+use vx_dtype::{Scalar, ScalarValue};
+use vx_scan::{ColumnStore, ScanError};
+
+/// What was found so far: the first rows, and the numbers of the blocks that were skipped.
+#[derive(Drop)]
+pub(crate) struct Finding {
+    pub(crate) first: FirstRows,
+    pub(crate) skipped: Vec<u32>,
+}
+
+/// The first rows over all blocks, of which at least one is asked. A block is skipped where the bounded filter rules it out, with the bound that
+/// the rows before it give.
+pub(crate) fn find_rows<S: ColumnStore>(
+    alloc: Global,
+    top: &TopScan,
+    count: u32,
+    descending: bool,
+    store: &mut S,
+) -> Result<Finding, ScanError>
+    requires ready { (ask : TopAsk) × (v : Ty) × IsReady (S.seen store.old).zones ask v top.now × (ask.count ≡ count) × (ask.descending ≡ descending)
+        × (nat_eq count 0 ≡ false) }
+    ensures same { IsSameStore (S.seen store.old) (S.seen store.new) }
+    ensures ends { (ask : TopAsk) (v : Ty) → IsReady (S.seen store.old).zones ask v top.now → ask.count ≡ count → ask.descending ≡ descending →
+        nat_eq count 0 ≡ false → EndsFinding ask v (S.seen store.old) (S.seen store.new) result }
+    ensures asked { IfOk result (λ finding. (finding.first.count ≡ count) × (finding.first.descending ≡ descending)) }
+{
+    let first = FirstRows::new(alloc, count, descending);
+    let skipped = Vec::new(alloc);
+    let mut finding = Finding { first, skipped };
+    let blocks = store.zones().lengths().len() as u32;
+    for block in 0..blocks {
+        find_or_skip(alloc, top, store, block, &mut finding)?;
+    }
+    Ok(finding)
+}
+
+/// The turn of a block: it is skipped where the bounded filter rules it out, with the bound that the rows before it give; else its rows are put
+/// in.
+fn find_or_skip<S: ColumnStore>(
+    alloc: Global,
+    top: &TopScan,
+    store: &mut S,
+    block: u32,
+    finding: &mut Finding,
+) -> Result<(), ScanError>
+    requires ready { (ask : TopAsk) × (v : Ty) × (found : List Keyed) × IsReady (S.seen store.old).zones ask v top.now
+        × IsAskedBy ask ask.key_type finding.old.first × HoldFirst ask.key_type v found (start_of block) finding.old.first × (nat_eq ask.count 0 ≡ false) }
+    requires block { block < length (S.seen store.old).zones.lengths }
+    ensures same { IsSameStore (S.seen store.old) (S.seen store.new) }
+    ensures asked { IfOk result (λ _. AsksTheSame finding.old.first finding.new.first) }
+    ensures turn { (ask : TopAsk) (v : Ty) (found : List Keyed) → IsReady (S.seen store.old).zones ask v top.now →
+        IsAskedBy ask ask.key_type finding.old.first → HoldFirst ask.key_type v found (start_of block) finding.old.first → nat_eq ask.count 0 ≡ false →
+        TakesTurn ask v found block (S.seen store.old) (S.seen store.new) finding.old finding.new result }
+{
+    let slots = [finding.first.bound(&top.key_dtype)?];
+    if top.rule.rules_out(alloc, store.zones(), block, &slots)? {
+        finding.skipped.push(block)?;
+        return Ok(());
+    }
+    let rows = rows_of_block(alloc, top, &slots, store, block)?;
+    finding.first.put_rows(rows.as_slice(), block)?;
+    Ok(())
+}
+
+/// The rows of a block at which the bounded filter is true, with this bound in its slot: each the struct of its key and its value.
+fn rows_of_block<S: ColumnStore>(
+    alloc: Global,
+    top: &TopScan,
+    slots: &[Option<Scalar>],
+    store: &mut S,
+    block: u32,
+) -> Result<Vec<ScalarValue>, ScanError>
+    requires prepared { (f : Tree) × (p : Tree) × IsPreparedScan (S.seen store.old).zones slots.now f p top.now.scan }
+    requires block { block < length (S.seen store.old).zones.lengths }
+    ensures same { IsSameStore (S.seen store.old) (S.seen store.new) }
+    ensures runs { (f p : Tree) → IsPreparedScan (S.seen store.old).zones slots.now f p top.now.scan →
+        GivesRows slots.now f p block (type_view top.now.scan.projection.dtype) (S.seen store.old) (S.seen store.new) result }
+    ensures fit { IfOk result (λ rows. values_fit (type_view top.now.scan.projection.dtype) rows.items ≡ true) }
+{
+    let mut rows = Vec::new(alloc);
+    top.scan
+        .scan_kept_block(alloc, slots, block, store, &mut rows)?;
+    Ok(rows)
+}
