@@ -72,7 +72,7 @@ abbrev pub fresh : RequestedScan → StoreSeen
 fresh a = store_with a []
 
 -- a store that is the same but for these reads, none of which failed
-store_after : (a : RequestedScan) (reads : List Read) (s : StoreSeen) → IsSameStore (fresh a) s → s.log ≡ reads → s.failed ≡ None
+pub store_after : (a : RequestedScan) (reads : List Read) (s : StoreSeen) → IsSameStore (fresh a) s → s.log ≡ reads → s.failed ≡ None
     → s ≡ store_with a reads
 store_after a reads s same log failed =
     λ i. record { zones = same.zones i; held = same.held i; log = log i; faults = same.quiet refl i; failed = failed i; faultless = same.faultless i }

@@ -1,5 +1,5 @@
 -- What the status of a run whose arguments read a request tells.
-use Rattle.std.proofs.Common.{◌≡◌, ◌∙◌, sym, ap, refl, subst, ℕ, ◌+◌, ◌≤◌, Bool, true, false, ◌||◌, cond, List, [], ◌∷◌, nat_le, map, length, take, Option, Some, Result, Ok, Err, arith, true≢false}
+use Rattle.std.proofs.Common.{◌≡◌, ◌∙◌, sym, ap, refl, subst, ℕ, ◌+◌, ◌≤◌, Bool, true, false, ◌||◌, cond, List, [], ◌∷◌, nat_le, map, length, take, Option, Some, None, Result, Ok, Err, arith, true≢false}
 use Rattle.std.specs.List.{list_any}
 use Rattle.std.proofs.lemmas.Bool.{leb-true}
 use Rattle.std.proofs.lemmas.List.{take_all}
@@ -21,16 +21,17 @@ use Rattle.vx_request.specs.Requests.{◌>>=◌, RequestedScan, request_of, ensu
 use Rattle.vx_request.specs.declared.errors.RequestError.{RequestError}
 use Rattle.vx_request.specs.declared.errors.RequestError.TheVariants.{InputTooLong}
 use Rattle.vx_query.specs.Reports.{report_text}
-use Rattle.vx_query.specs.Refusals.{request_refusal_name, scan_refusal_name, break_name, refusal_line}
-use Rattle.vx_query.specs.Running.{End, Form, Statistics, HoldsScan, HoldsRefused, scan_by, scan_table, scan_reads, scan_phases, scan_breaks, scan_breaks_by, scan_report, scanned_store, broken_store, scan_form, explain_form, reads_request, asked_statistics, IsTaken, IsRun}
+use Rattle.vx_query.specs.Refusals.{request_refusal_name, scan_refusal_name, key_refusal_name, break_name, refusal_line}
+use Rattle.vx_query.specs.Running.{End, Form, Statistics, HoldsScan, HoldsRefused, scan_by, scan_table, scan_reads, scan_phases, scan_breaks, scan_breaks_by, scan_report, scanned_store, broken_store, scan_form, explain_form, top_form, reads_request, asked_statistics, asked_top, HoldsNoKey, HasNoKey, IsTaken, IsRun}
+use Rattle.vx_query.specs.TopWords.{AskedTop, KeyRefusal}
 use Rattle.vx_query.specs.Exclusions.{IsSameScan}
 use Rattle.vx_query.specs.WireLaws.{WireLaws}
 use Rattle.vx_query.specs.Causes.{HasRisen, IsReported, IsUnasked, IsUnscanned, IsStopped, IsExplained, HasBroken, TellsScan, told_breaks, told_breaks_by, whole_report}
 use Rattle.vx_query.specs.Exactly.{Tells, RunsWell, EndsWith, taken_of}
 use Rattle.vx_query.proofs.RefusalLemmas.{one_err, not_err, one_scan, one_held_refusal, held_unrefused}
-use Rattle.vx_query.proofs.LineLemmas.{one_request, one_scan_error, one_cause, told_name}
+use Rattle.vx_query.proofs.LineLemmas.{one_request, one_scan_error, one_cause, no_key_name, told_name}
 use Rattle.vx_query.proofs.FormLemmas.{broken_reads}
-use Rattle.vx_query.proofs.RequestEnds.{RequestEnd, cut_off, without_memory, not_read, no_request, no_scan, breaks, reports, explains, request_end}
+use Rattle.vx_query.proofs.RequestEnds.{not_none, RequestEnd, cut_off, without_memory, not_read, no_request, no_scan, breaks, reports, explains, no_key, top_stops, tops, request_end}
 
 -- whether a form is that of scans, where there is one
 abbrev is_scan : Option Form → Bool
@@ -39,6 +40,10 @@ is_scan _ = false
 
 no_explain : (chosen : Statistics) → ¬ (Some (scan_form chosen) ≡ Some explain_form)
 no_explain chosen same = true≢false (ap is_scan same)
+
+-- arguments that ask no first rows are not those that ask some; nor are those of a scan, nor `explain`
+pub no_top : (form : Option Form) (top : AskedTop) → asked_top form ≡ None → ¬ (form ≡ Some (top_form top))
+no_top form top none is = not_none (sym (ap asked_top is) ∙ none)
 
 -- the statistics of a run are those that its arguments tell
 same_statistics : (chosen own : Statistics) → Some (scan_form chosen) ≡ Some (scan_form own) → own ≡ chosen
@@ -56,7 +61,7 @@ reported chosen i i' o o' used run = by (request_end (Some (scan_form chosen)) i
     by (without_memory s held) = absurd (omega (arith, s))
     by (not_read s risen held) = absurd (omega (arith, s))
     by (no_request input e s taken why written held) = absurd (omega (arith, s))
-    by (no_scan input e s taken why written held) = absurd (omega (arith, s))
+    by (no_scan input e s taken why free written held) = absurd (omega (arith, s))
     by (breaks own cause input a f p s scans taken asks broken written held) = absurd (omega (arith, s))
     by (reports own input a f p s scans taken asks unbroken written held) =
         let told : IsReported own i i' o o' used = record {
@@ -72,6 +77,9 @@ reported chosen i i' o o' used run = by (request_end (Some (scan_form chosen)) i
         } in
         subst (λ x. IsReported x i i' o o' used) (same_statistics chosen own scans) told
     by (explains input a f p s other taken asks written held) = absurd (no_explain chosen other)
+    by (no_key top input r s is taken why written held) = absurd (omega (arith, s))
+    by (top_stops cause input a ask s is taken asks broken written held) = absurd (omega (arith, s))
+    by (tops input a ask s is taken asks unbroken written held) = absurd (no_top (Some (scan_form chosen)) _ refl is)
 
 -- the explanation that it means
 pub was_explained : (i i' o o' : End) (used : Option StoreSeen) → IsRun (Some explain_form) i i' o o' used 0 → IsExplained i i' o o' used
@@ -82,11 +90,14 @@ was_explained i i' o o' used run = by (request_end (Some explain_form) i i' o o'
     by (without_memory s held) = absurd (omega (arith, s))
     by (not_read s risen held) = absurd (omega (arith, s))
     by (no_request input e s taken why written held) = absurd (omega (arith, s))
-    by (no_scan input e s taken why written held) = absurd (omega (arith, s))
+    by (no_scan input e s taken why free written held) = absurd (omega (arith, s))
     by (breaks own cause input a f p s scans taken asks broken written held) = absurd (omega (arith, s))
     by (reports own input a f p s scans taken asks unbroken written held) = absurd (no_explain own (sym scans))
     by (explains input a f p s other taken asks written held) =
         record { input = input; asked = a; filter = f; projection = p; taken = taken; asks = asks; written = written; unheld = held }
+    by (no_key top input r s is taken why written held) = absurd (omega (arith, s))
+    by (top_stops cause input a ask s is taken asks broken written held) = absurd (omega (arith, s))
+    by (tops input a ask s is taken asks unbroken written held) = absurd (no_top (Some explain_form) _ refl is)
 
 -- an input that is no request
 pub unasked : (form : Option Form) (i i' o o' : End) (used : Option StoreSeen) → reads_request form ≡ true → IsRun form i i' o o' used 3
@@ -99,37 +110,44 @@ unasked form i i' o o' used reads run = by (request_end form i i' o o' used 3 re
     by (not_read s risen held) = absurd (omega (arith, s))
     by (no_request input e s taken why written held) =
         record { input = input; refusal = e; taken = taken; cause = why; written = written; unheld = held }
-    by (no_scan input e s taken why written held) = absurd (omega (arith, s))
+    by (no_scan input e s taken why free written held) = absurd (omega (arith, s))
     by (breaks own cause input a f p s scans taken asks broken written held) = absurd (omega (arith, s))
     by (reports own input a f p s scans taken asks unbroken written held) = absurd (omega (arith, s))
     by (explains input a f p s other taken asks written held) = absurd (omega (arith, s))
+    by (no_key top input r s is taken why written held) = absurd (omega (arith, s))
+    by (top_stops cause input a ask s is taken asks broken written held) = absurd (omega (arith, s))
+    by (tops input a ask s is taken asks unbroken written held) = absurd (omega (arith, s))
 
 -- a scan whose expressions are refused
-pub unspelled : (form : Option Form) (i i' o o' : End) (used : Option StoreSeen) → reads_request form ≡ true → IsRun form i i' o o' used 4
-    → IsUnscanned i i' o o' used
-unspelled form i i' o o' used reads run = by (request_end form i i' o o' used 4 reads run)
+pub unspelled : (form : Option Form) (i i' o o' : End) (used : Option StoreSeen) → reads_request form ≡ true → asked_top form ≡ None
+    → IsRun form i i' o o' used 4 → IsUnscanned i i' o o' used
+unspelled form i i' o o' used reads none run = by (request_end form i i' o o' used 4 reads run)
   where
     by : RequestEnd form i i' o o' used 4 → IsUnscanned i i' o o' used
     by (cut_off s risen) = absurd (omega (arith, s))
     by (without_memory s held) = absurd (omega (arith, s))
     by (not_read s risen held) = absurd (omega (arith, s))
     by (no_request input e s taken why written held) = absurd (omega (arith, s))
-    by (no_scan input e s taken why written held) =
+    by (no_scan input e s taken why free written held) =
         record { input = input; refusal = e; taken = taken; cause = why; written = written; unheld = held }
     by (breaks own cause input a f p s scans taken asks broken written held) = absurd (omega (arith, s))
     by (reports own input a f p s scans taken asks unbroken written held) = absurd (omega (arith, s))
     by (explains input a f p s other taken asks written held) = absurd (omega (arith, s))
+    by (no_key top input r s is taken why written held) = absurd (no_top form top none is)
+    by (top_stops cause input a ask s is taken asks broken written held) = absurd (omega (arith, s))
+    by (tops input a ask s is taken asks unbroken written held) = absurd (omega (arith, s))
 
 -- a scan that broke
-pub stopped : (form : Option Form) (i i' o o' : End) (used : Option StoreSeen) → IsRun form i i' o o' used 5 → IsStopped form i i' o o' used
-stopped form i i' o o' used run = by (request_end form i i' o o' used 5 (broken_reads form i i' o o' used run) run)
+pub stopped : (form : Option Form) (i i' o o' : End) (used : Option StoreSeen) → asked_top form ≡ None
+    → IsRun form i i' o o' used 5 → IsStopped form i i' o o' used
+stopped form i i' o o' used none run = by (request_end form i i' o o' used 5 (broken_reads form i i' o o' used run) run)
   where
     by : RequestEnd form i i' o o' used 5 → IsStopped form i i' o o' used
     by (cut_off s risen) = absurd (omega (arith, s))
     by (without_memory s held) = absurd (omega (arith, s))
     by (not_read s risen held) = absurd (omega (arith, s))
     by (no_request input e s taken why written held) = absurd (omega (arith, s))
-    by (no_scan input e s taken why written held) = absurd (omega (arith, s))
+    by (no_scan input e s taken why free written held) = absurd (omega (arith, s))
     by (breaks own cause input a f p s scans taken asks broken written held) = record {
       statistics = own;
       scans = scans;
@@ -146,6 +164,9 @@ stopped form i i' o o' used run = by (request_end form i i' o o' used 5 (broken_
     }
     by (reports own input a f p s scans taken asks unbroken written held) = absurd (omega (arith, s))
     by (explains input a f p s other taken asks written held) = absurd (omega (arith, s))
+    by (no_key top input r s is taken why written held) = absurd (omega (arith, s))
+    by (top_stops cause input a ask s is taken asks broken written held) = absurd (no_top form _ none is)
+    by (tops input a ask s is taken asks unbroken written held) = absurd (omega (arith, s))
 
 -- ---- what a line tells
 
@@ -159,21 +180,36 @@ told_request e form i i' o o' used reads tells =
     (told_name o.bytes o'.bytes tells.before (request_refusal_name e) (request_refusal_name found.refusal) tells.stood tells.written found.written) in
     (found.input, found.taken, found.cause ∙ ap Err same)
 
--- one that tells a refusal of its expressions
+-- one that tells a refusal of its expressions: the key isn't refused then
 pub told_expressions : (e : ScanError) (form : Option Form) (i i' o o' : End) (used : Option StoreSeen) → reads_request form ≡ true
-    → Tells form i i' o o' used 4 (refusal_line (scan_refusal_name e)) → (input : Bytes) × IsTaken i i' input × HoldsRefused input e
-told_expressions e form i i' o o' used reads tells =
-    let found = unspelled form i i' o o' used reads tells.run in
-    let same : found.refusal ≡ e =
-    one_scan_error found.refusal e
-    (told_name o.bytes o'.bytes tells.before (scan_refusal_name e) (scan_refusal_name found.refusal) tells.stood tells.written found.written) in
-    (found.input, found.taken, subst (HoldsRefused found.input) same found.cause)
+    → Tells form i i' o o' used 4 (refusal_line (scan_refusal_name e))
+    → (input : Bytes) × IsTaken i i' input × HoldsRefused input e × (¬ (HasNoKey form input))
+told_expressions e form i i' o o' used reads tells = by (request_end form i i' o o' used 4 reads tells.run)
+  where
+    by : RequestEnd form i i' o o' used 4 → (input : Bytes) × IsTaken i i' input × HoldsRefused input e × (¬ (HasNoKey form input))
+    by (cut_off s risen) = absurd (omega (arith, s))
+    by (without_memory s held) = absurd (omega (arith, s))
+    by (not_read s risen held) = absurd (omega (arith, s))
+    by (no_request input g s taken why written held) = absurd (omega (arith, s))
+    by (no_scan input g s taken why free written held) =
+        let same : g ≡ e =
+        one_scan_error g e (told_name o.bytes o'.bytes tells.before (scan_refusal_name e) (scan_refusal_name g) tells.stood tells.written written) in
+        (input, taken, subst (HoldsRefused input) same why, free)
+    by (breaks own cause input a f p s scans taken asks broken written held) = absurd (omega (arith, s))
+    by (reports own input a f p s scans taken asks unbroken written held) = absurd (omega (arith, s))
+    by (explains input a f p s other taken asks written held) = absurd (omega (arith, s))
+    by (no_key top input r s is taken why written held) =
+        absurd
+        (no_key_name e r (sym (told_name o.bytes o'.bytes tells.before (scan_refusal_name e) (key_refusal_name r) tells.stood tells.written written)))
+    by (top_stops cause input a ask s is taken asks broken written held) = absurd (omega (arith, s))
+    by (tops input a ask s is taken asks unbroken written held) = absurd (omega (arith, s))
 
 -- one that tells a break
-pub told_break : (cause : Cause) (form : Option Form) (i i' o o' : End) (used : Option StoreSeen) → Tells form i i' o o' used 5 (refusal_line (break_name cause))
+pub told_break : (cause : Cause) (form : Option Form) (i i' o o' : End) (used : Option StoreSeen) → asked_top form ≡ None
+    → Tells form i i' o o' used 5 (refusal_line (break_name cause))
     → HasBroken cause form i i'
-told_break cause form i i' o o' used tells =
-    let found = stopped form i i' o o' used tells.run in
+told_break cause form i i' o o' used none tells =
+    let found = stopped form i i' o o' used none tells.run in
     let same : found.cause ≡ cause =
     one_cause found.cause cause
     (told_name o.bytes o'.bytes tells.before (break_name cause) (break_name found.cause) tells.stood tells.written found.written) in
@@ -209,12 +245,12 @@ taken_whole before after all input told within took =
     own.0 ∙ take_all (most_bytes + 1) all (omega (arith, within))
 
 -- such an input is taken as far as it may be
-taken_part : (before after : End) (all input : Bytes) → before.bytes ≡ Some all → TookUpTo (most_bytes + 1) before.bytes after.bytes input
+pub taken_part : (before after : End) (all input : Bytes) → before.bytes ≡ Some all → TookUpTo (most_bytes + 1) before.bytes after.bytes input
     → input ≡ take (most_bytes + 1) all
 taken_part before after all input told took = (subst (λ b. TookUpTo (most_bytes + 1) b after.bytes input) told took).0
 
 -- the input that holds a scan is the one that the end tells
-told_input : (i i' : End) (input : Bytes) (told : TellsScan i) → TookUpTo (most_bytes + 1) i.bytes i'.bytes input → input ≡ told.input
+pub told_input : (i i' : End) (input : Bytes) (told : TellsScan i) → TookUpTo (most_bytes + 1) i.bytes i'.bytes input → input ≡ told.input
 told_input i i' input told took = taken_whole i i' told.input input told.told (asks_within told.input told.asked told.asks.asked) took
 
 -- a scan that is held is the one that the end tells
@@ -276,7 +312,7 @@ completed laws chosen i i' o o' used status told unbroken well still = by (reque
     by (without_memory s held) = absurd (well.memory s)
     by (not_read s risen held) = absurd (still risen)
     by (no_request input e s taken why written held) = absurd (told_unrefused i i' input e told taken.bytes why)
-    by (no_scan input e s taken why written held) = absurd (told_spelled laws i i' input e told taken.bytes why)
+    by (no_scan input e s taken why free written held) = absurd (told_spelled laws i i' input e told taken.bytes why)
     by (breaks own cause input a f p s scans taken asks broken written held) =
         let same = told_scan laws i i' input a f p told taken.bytes asks in
         let breaking = breaks_by_one cause (scan_by own a) f p broken in
@@ -286,6 +322,9 @@ completed laws chosen i i' o o' used status told unbroken well still = by (reque
         let is = same_statistics chosen own scans in
         (s, subst (Added o.bytes o'.bytes) (λ j. scan_report (scan_by (is j) (same.asked j)) (same.filter j) (same.projection j)) written)
     by (explains input a f p s other taken asks written held) = absurd (no_explain chosen other)
+    by (no_key top input r s is taken why written held) = absurd (no_top (Some (scan_form chosen)) _ refl is)
+    by (top_stops cause input a ask s is taken asks broken written held) = absurd (no_top (Some (scan_form chosen)) _ refl is)
+    by (tops input a ask s is taken asks unbroken written held) = absurd (no_top (Some (scan_form chosen)) _ refl is)
 
 -- where the bytes that are told hold a scan, its explanation is written
 pub explained_whole : WireLaws → (i i' o o' : End) (used : Option StoreSeen) (status : ℕ) (told : TellsScan i)
@@ -298,12 +337,15 @@ explained_whole laws i i' o o' used status told well still = by (request_end (So
     by (without_memory s held) = absurd (well.memory s)
     by (not_read s risen held) = absurd (still risen)
     by (no_request input e s taken why written held) = absurd (told_unrefused i i' input e told taken.bytes why)
-    by (no_scan input e s taken why written held) = absurd (told_spelled laws i i' input e told taken.bytes why)
+    by (no_scan input e s taken why free written held) = absurd (told_spelled laws i i' input e told taken.bytes why)
     by (breaks own cause input a f p s scans taken asks broken written held) = absurd (no_explain own (sym scans))
     by (reports own input a f p s scans taken asks unbroken written held) = absurd (no_explain own (sym scans))
     by (explains input a f p s other taken asks written held) =
         let same = told_scan laws i i' input a f p told taken.bytes asks in
         (s, subst (Added o.bytes o'.bytes) (λ j. explain_text (same.asked j).zones (same.filter j) (same.projection j)) written)
+    by (no_key top input r s is taken why written held) = absurd (no_top (Some explain_form) _ refl is)
+    by (top_stops cause input a ask s is taken asks broken written held) = absurd (no_top (Some explain_form) _ refl is)
+    by (tops input a ask s is taken asks unbroken written held) = absurd (no_top (Some explain_form) _ refl is)
 
 -- where what is taken of them is no request
 pub says_why : (e : RequestError) (form : Option Form) (i i' o o' : End) (used : Option StoreSeen) (status : ℕ) (input : Bytes) → reads_request form ≡ true
@@ -321,19 +363,28 @@ says_why e form i i' o o' used status all reads told refuses well still = by (re
     by (no_request input g s taken why written held) =
         let same : g ≡ e = one_err (request_of input) g e why (refused_all input taken) in
         (s, subst (λ x. Added o.bytes o'.bytes (refusal_line (request_refusal_name x))) same written)
-    by (no_scan input g s taken why written held) = absurd (not_err (request_of input) why.asked e why.held (refused_all input taken))
+    by (no_scan input g s taken why free written held) = absurd (not_err (request_of input) why.asked e why.held (refused_all input taken))
     by (breaks own cause input a f p s scans taken asks broken written held) = absurd (not_err (request_of input) a e asks.asked (refused_all input taken))
     by (reports own input a f p s scans taken asks unbroken written held) = absurd (not_err (request_of input) a e asks.asked (refused_all input taken))
     by (explains input a f p s other taken asks written held) = absurd (not_err (request_of input) a e asks.asked (refused_all input taken))
+    by (no_key top input r s is taken why written held) = absurd (not_err (request_of input) why.asked e why.held (refused_all input taken))
+    by (top_stops cause input a ask s is taken asks broken written held) = absurd (not_err (request_of input) a e asks.scan.asked (refused_all input taken))
+    by (tops input a ask s is taken asks unbroken written held) = absurd (not_err (request_of input) a e asks.scan.asked (refused_all input taken))
 
 -- where it holds a scan whose expressions are refused
 pub says_refusal : WireLaws → (e : ScanError) (form : Option Form) (i i' o o' : End) (used : Option StoreSeen) (status : ℕ) (input : Bytes)
-    → reads_request form ≡ true → i.bytes ≡ Some input → HoldsRefused (taken_of input) e → RunsWell form i i' o o' used status → ¬ (HasRisen i i')
+    → reads_request form ≡ true → i.bytes ≡ Some input → HoldsRefused (taken_of input) e → ¬ (HasNoKey form (taken_of input))
+    → RunsWell form i i' o o' used status → ¬ (HasRisen i i')
     → EndsWith 4 (refusal_line (scan_refusal_name e)) o o' status
-says_refusal laws e form i i' o o' used status all reads told refuses well still = by (request_end form i i' o o' used status reads well.run)
+says_refusal laws e form i i' o o' used status all reads told refuses keyed well still = by (request_end form i i' o o' used status reads well.run)
   where
     refused_all : (input : Bytes) → IsTaken i i' input → HoldsRefused input e
     refused_all input taken = subst (λ bytes. HoldsRefused bytes e) (sym (taken_part i i' all input told taken.bytes)) refuses
+
+    keyless_all : (input : Bytes) → IsTaken i i' input → (top : AskedTop) (r : KeyRefusal) → form ≡ Some (top_form top) → HoldsNoKey r top.key input
+        → HasNoKey form (taken_of all)
+    keyless_all input taken top r is why =
+        subst (λ g. HasNoKey g (taken_of all)) (sym is) (r, subst (HoldsNoKey r top.key) (taken_part i i' all input told taken.bytes) why)
 
     by : RequestEnd form i i' o o' used status → EndsWith 4 (refusal_line (scan_refusal_name e)) o o' status
     by (cut_off s risen) = absurd (well.quiet risen)
@@ -342,12 +393,15 @@ says_refusal laws e form i i' o o' used status all reads told refuses well still
     by (no_request input g s taken why written held) =
         let own = refused_all input taken in
         absurd (not_err (request_of input) own.asked g own.held why)
-    by (no_scan input g s taken why written held) =
+    by (no_scan input g s taken why free written held) =
         let same : g ≡ e = one_held_refusal laws input g e why (refused_all input taken) in
         (s, subst (λ x. Added o.bytes o'.bytes (refusal_line (scan_refusal_name x))) same written)
     by (breaks own cause input a f p s scans taken asks broken written held) = absurd (held_unrefused laws input a f p e asks (refused_all input taken))
     by (reports own input a f p s scans taken asks unbroken written held) = absurd (held_unrefused laws input a f p e asks (refused_all input taken))
     by (explains input a f p s other taken asks written held) = absurd (held_unrefused laws input a f p e asks (refused_all input taken))
+    by (no_key top input r s is taken why written held) = absurd (keyed (keyless_all input taken top r is why))
+    by (top_stops cause input a ask s is taken asks broken written held) = absurd (held_unrefused laws input a ask.filter_expr ask.projection e asks.scan (refused_all input taken))
+    by (tops input a ask s is taken asks unbroken written held) = absurd (held_unrefused laws input a ask.filter_expr ask.projection e asks.scan (refused_all input taken))
 
 -- the run of a scan that breaks says why, and holds its store
 abbrev pub SaysBreak : {i : End} → Statistics → TellsScan i → End → End → Option StoreSeen → ℕ → Type 0
@@ -365,7 +419,7 @@ says_break laws chosen i i' o o' used status told breaking well still = by (requ
     by (without_memory s held) = absurd (well.memory s)
     by (not_read s risen held) = absurd (still risen)
     by (no_request input e s taken why written held) = absurd (told_unrefused i i' input e told taken.bytes why)
-    by (no_scan input e s taken why written held) = absurd (told_spelled laws i i' input e told taken.bytes why)
+    by (no_scan input e s taken why free written held) = absurd (told_spelled laws i i' input e told taken.bytes why)
     by (breaks own cause input a f p s scans taken asks broken written held) =
         let same = told_scan laws i i' input a f p told taken.bytes asks in
         let is = same_statistics chosen own scans in
@@ -377,6 +431,9 @@ says_break laws chosen i i' o o' used status told breaking well still = by (requ
         let quiet = told_breaking chosen own told a f p false (same_statistics chosen own scans) same unbroken in
         absurd (true≢false (sym breaking ∙ quiet))
     by (explains input a f p s other taken asks written held) = absurd (no_explain chosen other)
+    by (no_key top input r s is taken why written held) = absurd (no_top (Some (scan_form chosen)) _ refl is)
+    by (top_stops cause input a ask s is taken asks broken written held) = absurd (no_top (Some (scan_form chosen)) _ refl is)
+    by (tops input a ask s is taken asks unbroken written held) = absurd (no_top (Some (scan_form chosen)) _ refl is)
 
 -- the scan that a run reports is the one that the source's bytes ask, and so is the one that is explained
 pub reported_as_told : WireLaws → (chosen : Statistics) (i i' o o' : End) (used : Option StoreSeen) (told : TellsScan i)

@@ -3,7 +3,7 @@ use Rattle.std.proofs.Common.{◌≡◌, sym, ap, refl, ℕ, ◌-◌, ◌^◌, �
 use Rattle.vx_dtype.specs.Types.{Bytes}
 use Rattle.vx_scan.specs.Stores.{StoreSeen}
 use Rattle.vx_query.specs.Refusals.{text_refusal_name}
-use Rattle.vx_query.specs.Running.{End, Form, scan_form, explain_form, show_form, text_form, gen_form, help_form, version_form, help_text, version_text, reads_request, shown_word, asked_rows, asked_statistics, Outcome, misused, helped, versioned, out_of_memory, unread, refused, unscanned, broken, answered, explained, undecoded, unshown, shown, unnamed, unserialized, overlong, named, summed, Writing, whole, cut, IsOutcome, IsWriting, IsRun, status_of, outcome_text, used_by}
+use Rattle.vx_query.specs.Running.{End, Form, scan_form, explain_form, show_form, text_form, gen_form, top_form, help_form, version_form, help_text, version_text, reads_request, shown_word, asked_rows, asked_statistics, asked_top, Outcome, misused, helped, versioned, out_of_memory, unread, refused, unscanned, broken, answered, explained, undecoded, unshown, shown, unnamed, unserialized, overlong, named, summed, unkeyed, top_broken, topped, Writing, whole, cut, IsOutcome, IsWriting, IsRun, status_of, outcome_text, used_by}
 use Rattle.vx_query.specs.Causes.{HasRisen, IsCut, IsUnread, IsWithoutMemory, IsTold, IsUndigited, IsUnshown, IsUnnamed}
 use Rattle.vx_query.proofs.FormLemmas.{scans_hold, others_take_nothing}
 use Rattle.vx_query.proofs.RequestEnds.{not_none}
@@ -37,6 +37,9 @@ source_unread form i i' o o' used run = by run.outcome run.writing run.comes run
     by overlong whole comes written held = absurd (omega (arith, written.0))
     by (named e) whole comes written held = absurd (omega (arith, written.0))
     by (summed rows) whole comes written held = absurd (omega (arith, written.0))
+    by (unkeyed top input r) whole comes written held = absurd (omega (arith, written.0))
+    by (top_broken cause input a ask) whole comes written held = absurd (omega (arith, written.0))
+    by (topped input a ask) whole comes written held = absurd (omega (arith, written.0))
 
 -- a sink that failed
 pub sink_cut : (form : Option Form) (i i' o o' : End) (used : Option StoreSeen) → IsRun form i i' o o' used 7 → IsCut form i i' o o' used
@@ -63,6 +66,9 @@ sink_cut form i i' o o' used run = by run.outcome run.writing run.comes run.writ
     by overlong whole comes written held = absurd (omega (arith, written.0))
     by (named e) whole comes written held = absurd (omega (arith, written.0))
     by (summed rows) whole comes written held = absurd (omega (arith, written.0))
+    by (unkeyed top input r) whole comes written held = absurd (omega (arith, written.0))
+    by (top_broken cause input a ask) whole comes written held = absurd (omega (arith, written.0))
+    by (topped input a ask) whole comes written held = absurd (omega (arith, written.0))
 
 -- want of memory
 pub without_any : (form : Option Form) (i i' o o' : End) (used : Option StoreSeen) → IsRun form i i' o o' used 8 → IsWithoutMemory form i i' o o' used
@@ -89,6 +95,9 @@ without_any form i i' o o' used run = by run.outcome run.writing run.comes run.w
     by overlong whole comes written held = absurd (omega (arith, written.0))
     by (named e) whole comes written held = absurd (omega (arith, written.0))
     by (summed rows) whole comes written held = absurd (omega (arith, written.0))
+    by (unkeyed top input r) whole comes written held = absurd (omega (arith, written.0))
+    by (top_broken cause input a ask) whole comes written held = absurd (omega (arith, written.0))
+    by (topped input a ask) whole comes written held = absurd (omega (arith, written.0))
 
 -- a count that stayed hasn't risen, where it isn't at its last value
 stayed : (i i' : End) → i.faults < 2 ^ 64 - 1 → i'.faults ≡ i.faults → ¬ (HasRisen i i')
@@ -126,6 +135,9 @@ risen_unread form i i' o o' used status below risen quiet run = by run.outcome r
     by overlong whole comes written = kept comes.1
     by (named e) whole comes written = kept comes.1
     by (summed rows) whole comes written = kept comes.1
+    by (unkeyed top input r) whole comes written = unrisen comes.1.0.quiet
+    by (top_broken cause input a ask) whole comes written = unrisen comes.1.0.quiet
+    by (topped input a ask) whole comes written = unrisen comes.1.0.quiet
 
 -- ---- help, and the version
 
@@ -169,6 +181,9 @@ help_told i i' o o' used status run quiet = by run.outcome run.writing run.comes
     by overlong whole comes written held = absurd (not_none (sym comes.0.2))
     by (named e) whole comes written held = absurd (not_none (sym comes.0.1))
     by (summed rows) whole comes written held = absurd (not_none (sym (ap asked_rows comes.0)))
+    by (unkeyed top input r) whole comes written held = absurd (true≢false (sym (ap reads_request comes.0)))
+    by (top_broken cause input a ask) whole comes written held = absurd (true≢false (sym (ap reads_request comes.0)))
+    by (topped input a ask) whole comes written held = absurd (true≢false (sym (ap reads_request comes.0)))
 
 pub version_told : (i i' o o' : End) (used : Option StoreSeen) (status : ℕ) → IsRun (Some version_form) i i' o o' used status → ¬ (HasRisen o o')
     → IsTold version_text i i' o o' used status
@@ -202,6 +217,9 @@ version_told i i' o o' used status run quiet = by run.outcome run.writing run.co
     by overlong whole comes written held = absurd (not_none (sym comes.0.2))
     by (named e) whole comes written held = absurd (not_none (sym comes.0.1))
     by (summed rows) whole comes written held = absurd (not_none (sym (ap asked_rows comes.0)))
+    by (unkeyed top input r) whole comes written held = absurd (true≢false (sym (ap reads_request comes.0)))
+    by (top_broken cause input a ask) whole comes written held = absurd (true≢false (sym (ap reads_request comes.0)))
+    by (topped input a ask) whole comes written held = absurd (true≢false (sym (ap reads_request comes.0)))
 
 -- ---- words and queries that are refused
 
@@ -213,6 +231,7 @@ word_reads_none (Some explain_form) word shows = absurd (not_none (sym shows))
 word_reads_none (Some (show_form showing other)) word shows = refl
 word_reads_none (Some (text_form other)) word shows = refl
 word_reads_none (Some (gen_form rows)) word shows = absurd (not_none (sym shows))
+word_reads_none (Some (top_form top)) word shows = absurd (not_none (sym shows))
 word_reads_none (Some help_form) word shows = refl
 word_reads_none (Some version_form) word shows = refl
 
@@ -223,6 +242,7 @@ word_scans_none (Some explain_form) word shows = refl
 word_scans_none (Some (show_form showing other)) word shows = refl
 word_scans_none (Some (text_form other)) word shows = refl
 word_scans_none (Some (gen_form rows)) word shows = refl
+word_scans_none (Some (top_form top)) word shows = refl
 word_scans_none (Some help_form) word shows = refl
 word_scans_none (Some version_form) word shows = refl
 
@@ -233,8 +253,20 @@ word_asks_none (Some explain_form) word shows = refl
 word_asks_none (Some (show_form showing other)) word shows = refl
 word_asks_none (Some (text_form other)) word shows = refl
 word_asks_none (Some (gen_form rows)) word shows = absurd (not_none (sym shows))
+word_asks_none (Some (top_form top)) word shows = refl
 word_asks_none (Some help_form) word shows = refl
 word_asks_none (Some version_form) word shows = refl
+
+word_tops_none : (form : Option Form) (word : Bytes) → shown_word form ≡ Some word → asked_top form ≡ None
+word_tops_none None word shows = refl
+word_tops_none (Some (scan_form chosen)) word shows = refl
+word_tops_none (Some explain_form) word shows = refl
+word_tops_none (Some (show_form showing other)) word shows = refl
+word_tops_none (Some (text_form other)) word shows = refl
+word_tops_none (Some (gen_form rows)) word shows = refl
+word_tops_none (Some (top_form top)) word shows = absurd (not_none (sym shows))
+word_tops_none (Some help_form) word shows = refl
+word_tops_none (Some version_form) word shows = refl
 
 pub no_digits_told : (form : Option Form) (word : Bytes) (i i' o o' : End) (used : Option StoreSeen) → shown_word form ≡ Some word
     → IsRun form i i' o o' used 3 → IsUndigited word i i' o o' used
@@ -247,7 +279,7 @@ no_digits_told form word i i' o o' used shows run = by (words.word_end form word
       cause = none;
       written = written;
       untaken = others_take_nothing form i i' o o' used 3 (word_reads_none form word shows) run;
-      unheld = scans_hold form i i' o o' used 3 (word_scans_none form word shows) (word_asks_none form word shows) run;
+      unheld = scans_hold form i i' o o' used 3 (word_scans_none form word shows) (word_asks_none form word shows) (word_tops_none form word shows) run;
     }
     by (words.no_expression e s why written) = absurd (omega (arith, s))
     by (words.told showing e s is spells untaken written held) = absurd (omega (arith, s))
@@ -265,7 +297,7 @@ refused_word_told form word i i' o o' used shows run = by (words.word_end form w
       cause = why;
       written = written;
       untaken = others_take_nothing form i i' o o' used 4 (word_reads_none form word shows) run;
-      unheld = scans_hold form i i' o o' used 4 (word_scans_none form word shows) (word_asks_none form word shows) run;
+      unheld = scans_hold form i i' o o' used 4 (word_scans_none form word shows) (word_asks_none form word shows) (word_tops_none form word shows) run;
     }
     by (words.told showing e s is spells untaken written held) = absurd (omega (arith, s))
 
@@ -277,7 +309,7 @@ refused_query_told query i i' o o' used run = by (queries.query_end query i i' o
     untaken = others_take_nothing (Some (text_form query)) i i' o o' used 4 refl run
 
     unheld : used ≡ None
-    unheld = scans_hold (Some (text_form query)) i i' o o' used 4 refl refl run
+    unheld = scans_hold (Some (text_form query)) i i' o o' used 4 refl refl refl run
 
     by : queries.QueryEnd query i i' o o' used 4 → IsUnnamed query i i' o o' used
     by (queries.cut_off s risen) = absurd (omega (arith, s))

@@ -18,11 +18,12 @@ use Rattle.vx_scan.specs.declared.errors.ScanError.TheVariants as scans
 use Rattle.vx_request.specs.Requests.{RequestedScan}
 use Rattle.vx_request.specs.declared.errors.RequestError.{RequestError}
 use Rattle.vx_query.specs.Refusals.{request_refusal_name, scan_refusal_name}
-use Rattle.vx_query.specs.Running.{HoldsRefused, IsScanRefused, type_of_scan}
+use Rattle.vx_query.specs.Running.{Form, HasNoKey, HoldsRefused, IsScanRefused, type_of_scan}
 use Rattle.vx_query.specs.WireLaws.{WireLaws}
 use Rattle.vx_query.specs.RequestCauses.{IsNoRequest}
 use Rattle.vx_query.specs.ExpressionCauses.{HoldsBadText, IsTyped, IsUntyped, IsBoolean, IsNoBoolean, IsIllTyped, HoldsExpressions, HoldsIllTyped, HoldsNoBoolean}
-use Rattle.vx_query.specs.Exactly.{RequestsEndSo, taken_of}
+use Rattle.vx_query.specs.Exactly.{RequestsEndSo, ExpressionsEndSo, taken_of}
+use Rattle.vx_query.proofs.KeyLemmas.{text_free}
 use Rattle.vx_query.proofs.CauseLemmas.{told_request, told_expressions, says_why, says_refusal}
 use Rattle.vx_query.proofs.RequestCauseLemmas.{why_refused, refused_so}
 
@@ -40,13 +41,25 @@ request_row e = record {
 
 -- the row of a refusal of its expressions, by a cause that is the same
 pub expression_row : WireLaws → (e : ScanError) (Cause : Bytes → Type 0) → ((input : Bytes) → HoldsRefused input e → Cause input)
-    → ((input : Bytes) → Cause input → HoldsRefused input e) → RequestsEndSo 4 (scan_refusal_name e) Cause
-expression_row laws e Cause forth back = record {
+    → ((input : Bytes) → Cause input → HoldsRefused input e) → ((form : Option Form) (input : Bytes) → Cause input → ¬ (HasNoKey form input))
+    → RequestsEndSo 4 (scan_refusal_name e) Cause
+expression_row laws e Cause forth back free = record {
   only = λ form i i' o o' used reads tells.
       let found = told_expressions e form i i' o o' used reads tells in
       (found.0, found.1, forth found.0 found.2);
   always = λ form i i' o o' used status input reads told cause well still.
-      says_refusal laws e form i i' o o' used status input reads told (back (taken_of input) cause) well still;
+      says_refusal laws e form i i' o o' used status input reads told (back (taken_of input) cause) (free form (taken_of input) cause) well still;
+}
+
+-- the row of one that comes behind the key
+keyed_row : WireLaws → (e : ScanError) (Cause : Bytes → Type 0) → ((input : Bytes) → HoldsRefused input e → Cause input)
+    → ((input : Bytes) → Cause input → HoldsRefused input e) → ExpressionsEndSo 4 (scan_refusal_name e) Cause
+keyed_row laws e Cause forth back = record {
+  only = λ form i i' o o' used reads tells.
+      let found = told_expressions e form i i' o o' used reads tells in
+      (found.0, found.1, forth found.0 found.2, found.3);
+  always = λ form i i' o o' used status input reads told cause keyed well still.
+      says_refusal laws e form i i' o o' used status input reads told (back (taken_of input) cause) keyed well still;
 }
 
 -- ---- typing
@@ -185,7 +198,7 @@ refused_text : (e : ScanError) (input : Bytes) → HoldsBadText e input → Hold
 refused_text e input h = record { asked = h.asked; held = h.held; refused = inl h.refused }
 
 pub text_row : WireLaws → (e : ScanError) → is_of_text e ≡ true → RequestsEndSo 4 (scan_refusal_name e) (HoldsBadText e)
-text_row laws e text = expression_row laws e (HoldsBadText e) (bad_text e text) (refused_text e)
+text_row laws e text = expression_row laws e (HoldsBadText e) (bad_text e text) (refused_text e) (text_free e)
 
 pub of_text : (side : Side) → (is_of_text (scans.BadWire side) ≡ true) × (is_of_text (scans.TooDeep side) ≡ true)
     × (is_of_text (scans.TooManyNodes side) ≡ true) × (is_of_text (scans.UnknownExpr side) ≡ true) × (is_of_text (scans.BadMetadata side) ≡ true)
@@ -235,9 +248,9 @@ to_typing Filter r a f p own = refused_filter a f p r own
 to_typing Projection r a f p own = refused_projection a f p r own.0 own.1
 to_typing Text r a f p own = absurd own
 
-pub typing_row : WireLaws → (side : Side) (r : Refusal) → RequestsEndSo 4 (scan_refusal_name (typing_error side r)) (HoldsIllTyped side r)
+pub typing_row : WireLaws → (side : Side) (r : Refusal) → ExpressionsEndSo 4 (scan_refusal_name (typing_error side r)) (HoldsIllTyped side r)
 typing_row laws side r =
-    expression_row laws (typing_error side r) (HoldsIllTyped side r)
+    keyed_row laws (typing_error side r) (HoldsIllTyped side r)
     (holds_so (IsIllTyped side r) (typing_error side r) (λ a. untyped_text a side r) (by_typing side r))
     (refused_typing (IsIllTyped side r) (typing_error side r) (to_typing side r))
 
@@ -249,8 +262,8 @@ by_boolean a f p h = by (ill_typed a f p scans.FilterNotBool h)
     by (no_boolean own same) = own
     by (projection_refused r bool own same) = absurd (no_typing Projection r (sym same))
 
-pub boolean_row : WireLaws → RequestsEndSo 4 (scan_refusal_name scans.FilterNotBool) HoldsNoBoolean
+pub boolean_row : WireLaws → ExpressionsEndSo 4 (scan_refusal_name scans.FilterNotBool) HoldsNoBoolean
 boolean_row laws =
-    expression_row laws scans.FilterNotBool HoldsNoBoolean
+    keyed_row laws scans.FilterNotBool HoldsNoBoolean
     (holds_so (λ a f p. IsNoBoolean a f) scans.FilterNotBool no_boolean_text by_boolean)
     (refused_typing (λ a f p. IsNoBoolean a f) scans.FilterNotBool refused_boolean)

@@ -1,7 +1,8 @@
 -- What the status of a run tells of the form of its arguments: none, which forms break, hold stores and take nothing; and of faults.
-use Rattle.std.proofs.Common.{◌≡◌, ◌∙◌, sym, ap, refl, ℕ, true, false, Option, Some, None, inl, inr, arith, true≢false}
+use Rattle.std.proofs.Common.{◌≡◌, ◌⊎◌, ◌∙◌, sym, ap, refl, ℕ, true, false, Option, Some, None, inl, inr, arith, true≢false}
 use Rattle.vx_scan.specs.Stores.{StoreSeen}
-use Rattle.vx_query.specs.Running.{End, Form, Statistics, scan_form, explain_form, reads_request, asked_rows, asked_statistics, Outcome, misused, helped, versioned, out_of_memory, unread, refused, unscanned, broken, answered, explained, undecoded, unshown, shown, unnamed, unserialized, overlong, named, summed, Writing, whole, cut, IsOutcome, IsWriting, IsRun, status_of, outcome_text, used_by}
+use Rattle.vx_query.specs.TopWords.{AskedTop}
+use Rattle.vx_query.specs.Running.{End, Form, Statistics, scan_form, explain_form, top_form, words_of, reads_request, asked_rows, asked_statistics, asked_top, Outcome, misused, helped, versioned, out_of_memory, unread, refused, unscanned, broken, answered, explained, undecoded, unshown, shown, unnamed, unserialized, overlong, named, summed, unkeyed, top_broken, topped, Writing, whole, cut, IsOutcome, IsWriting, IsRun, status_of, outcome_text, used_by}
 use Rattle.vx_query.specs.Causes.{HasRisen, IsMisuse}
 use Rattle.vx_query.proofs.RequestEnds.{not_none}
 
@@ -30,6 +31,9 @@ unformed form i i' o o' used run = by run.outcome run.writing run.comes run.writ
     by overlong whole comes written = absurd (omega (arith, written.0))
     by (named e) whole comes written = absurd (omega (arith, written.0))
     by (summed rows) whole comes written = absurd (omega (arith, written.0))
+    by (unkeyed top input r) whole comes written = absurd (omega (arith, written.0))
+    by (top_broken cause input a ask) whole comes written = absurd (omega (arith, written.0))
+    by (topped input a ask) whole comes written = absurd (omega (arith, written.0))
 
 pub misuses : (i i' o o' : End) (used : Option StoreSeen) (status : ℕ) → IsRun None i i' o o' used status → ¬ (HasRisen o o')
     → IsMisuse i i' o o' used status
@@ -64,16 +68,23 @@ misuses i i' o o' used status run quiet = by run.outcome run.writing run.comes r
     by overlong whole comes written held = absurd (not_none (sym comes.0.2))
     by (named e) whole comes written held = absurd (not_none (sym comes.0.1))
     by (summed rows) whole comes written held = absurd (not_none (sym comes.0))
+    by (unkeyed top input r) whole comes written held = absurd (not_none (sym comes.0))
+    by (top_broken cause input a ask) whole comes written held = absurd (not_none (sym comes.0))
+    by (topped input a ask) whole comes written held = absurd (not_none (sym comes.0))
 
 -- ---- which forms break, hold stores and take nothing
 
+-- arguments of a scan, or of first rows
+abbrev pub BreaksSo : Option Form → Type 0
+BreaksSo form = ((s : Statistics) × (form ≡ Some (scan_form s))) ⊎ ((top : AskedTop) × (form ≡ Some (top_form top)))
+
 pub broken_scans : (form : Option Form) (i i' o o' : End) (used : Option StoreSeen) → IsRun form i i' o o' used 5
-    → (s : Statistics) × (form ≡ Some (scan_form s))
+    → BreaksSo form
 broken_scans form i i' o o' used run = by run.outcome run.writing run.comes run.written
   where
     by : (outcome : Outcome) (writing : Writing) → IsOutcome form i i' outcome
         → IsWriting o o' (outcome_text outcome) (status_of outcome) 5 writing
-        → (s : Statistics) × (form ≡ Some (scan_form s))
+        → BreaksSo form
     by outcome cut comes written = absurd (omega (arith, written.0))
     by misused whole comes written = absurd (omega (arith, written.0))
     by helped whole comes written = absurd (omega (arith, written.0))
@@ -82,7 +93,7 @@ broken_scans form i i' o o' used run = by run.outcome run.writing run.comes run.
     by unread whole comes written = absurd (omega (arith, written.0))
     by (refused input e) whole comes written = absurd (omega (arith, written.0))
     by (unscanned input e) whole comes written = absurd (omega (arith, written.0))
-    by (broken chosen cause input a f p) whole comes written = (chosen, comes.0)
+    by (broken chosen cause input a f p) whole comes written = inl (chosen, comes.0)
     by (answered chosen input a f p) whole comes written = absurd (omega (arith, written.0))
     by (explained input a f p) whole comes written = absurd (omega (arith, written.0))
     by undecoded whole comes written = absurd (omega (arith, written.0))
@@ -93,13 +104,17 @@ broken_scans form i i' o o' used run = by run.outcome run.writing run.comes run.
     by overlong whole comes written = absurd (omega (arith, written.0))
     by (named e) whole comes written = absurd (omega (arith, written.0))
     by (summed rows) whole comes written = absurd (omega (arith, written.0))
+    by (unkeyed top input r) whole comes written = absurd (omega (arith, written.0))
+    by (top_broken cause input a ask) whole comes written = inr (words_of ask, comes.0)
+    by (topped input a ask) whole comes written = absurd (omega (arith, written.0))
 
 pub broken_reads : (form : Option Form) (i i' o o' : End) (used : Option StoreSeen) → IsRun form i i' o o' used 5 → reads_request form ≡ true
-broken_reads form i i' o o' used run = ap reads_request (broken_scans form i i' o o' used run).1
+broken_reads form i i' o o' used run =
+    elim (broken_scans form i i' o o' used run) [ inl scans ↦ ap reads_request scans.1 | inr asks ↦ ap reads_request asks.1 ]
 
 pub scans_hold : (form : Option Form) (i i' o o' : End) (used : Option StoreSeen) (status : ℕ) → asked_statistics form ≡ None → asked_rows form ≡ None
-    → IsRun form i i' o o' used status → used ≡ None
-scans_hold form i i' o o' used status no_scan none run = by run.outcome run.comes run.held
+    → asked_top form ≡ None → IsRun form i i' o o' used status → used ≡ None
+scans_hold form i i' o o' used status no_scan none no_top run = by run.outcome run.comes run.held
   where
     by : (outcome : Outcome) → IsOutcome form i i' outcome → used ≡ used_by outcome → used ≡ None
     by misused comes held = held
@@ -120,6 +135,9 @@ scans_hold form i i' o o' used status no_scan none run = by run.outcome run.come
     by overlong comes held = held
     by (named e) comes held = held
     by (summed rows) comes held = absurd (not_none (sym (ap asked_rows comes.0) ∙ none))
+    by (unkeyed top input r) comes held = held
+    by (top_broken cause input a ask) comes held = absurd (not_none (sym (ap asked_top comes.0) ∙ no_top))
+    by (topped input a ask) comes held = absurd (not_none (sym (ap asked_top comes.0) ∙ no_top))
 
 pub others_take_nothing : (form : Option Form) (i i' o o' : End) (used : Option StoreSeen) (status : ℕ) → reads_request form ≡ false
     → IsRun form i i' o o' used status → i' ≡ i
@@ -147,3 +165,6 @@ others_take_nothing form i i' o o' used status none run = by run.outcome run.com
     by overlong comes = comes.1
     by (named e) comes = comes.1
     by (summed rows) comes = comes.1
+    by (unkeyed top input r) comes = absurd (differs (Some (top_form top)) refl comes.0)
+    by (top_broken cause input a ask) comes = absurd (differs (Some (top_form (words_of ask))) refl comes.0)
+    by (topped input a ask) comes = absurd (differs (Some (top_form (words_of ask))) refl comes.0)

@@ -52,7 +52,7 @@ blocks_all t (b ∷ bs) h =
 agreeing : (input : Bytes) (a : RequestedScan) → request_of input ≡ Ok a → agree (Ok a) ≡ true
 agreeing input a asked = ap agree (sym asked) ∙ agree_in input
 
-request_table : (input : Bytes) (a : RequestedScan) → request_of input ≡ Ok a → IsTable (scan_table a)
+pub request_table : (input : Bytes) (a : RequestedScan) → request_of input ≡ Ok a → IsTable (scan_table a)
 request_table input a asked =
     let made = scan_made input a asked in
     let agrees = agreeing input a asked in

@@ -19,9 +19,14 @@ mod ExpressionCauseLemmas
 mod WordLemmas
 mod ReadLemmas
 mod EndLemmas
+mod KeyLemmas
+mod SlotLemmas
 mod ExclusionLemmas
 mod QueryLemmas
 mod ByteLemmas
 mod TextLemmas
-mod RowWordLemmas
+mod NumberWordLemmas
 mod GeneratedEnds
+mod TopAnswerLemmas
+mod TopReadLemmas
+mod TopCauseLemmas

@@ -17,7 +17,9 @@ use Rattle.vx_request.specs.declared.errors.RequestError.{RequestError}
 use Rattle.vx_request.specs.declared.errors.RequestError.TheVariants as requests
 use Rattle.vx_text.specs.declared.errors.TextError.{TextError}
 use Rattle.vx_text.specs.declared.errors.TextError.TheVariants as texts
-use Rattle.vx_query.specs.Refusals.{request_refusal_name, scan_refusal_name, text_refusal_name, break_name, refusal_line}
+use Rattle.vx_query.specs.Refusals.{request_refusal_name, scan_refusal_name, text_refusal_name, key_refusal_name, break_name, refusal_line}
+use Rattle.vx_query.specs.TopWords.{KeyRefusal, unknown_key, bad_key}
+use Rattle.vx_query.proofs.RequestEnds.{not_none}
 
 -- the first of some values that has this name
 named_so : {E : Type 0} → (E → Bytes) → List E → Bytes → Option E
@@ -131,6 +133,23 @@ unfolding named_so all_causes
 finds_cause by_sum = refl
 finds_cause by_cast = refl
 
+all_keys : List KeyRefusal
+all_keys = unknown_key ∷ bad_key ∷ []
+
+finds_key : (r : KeyRefusal) → named_so key_refusal_name all_keys (key_refusal_name r) ≡ Some r
+unfolding named_so all_keys
+finds_key unknown_key = refl
+finds_key bad_key = refl
+
+-- the refusals of a key have names of their own
+finds_no_scan : (r : KeyRefusal) → named_so scan_refusal_name all_scans (key_refusal_name r) ≡ None
+unfolding named_so all_scans of_sides
+finds_no_scan unknown_key = refl
+finds_no_scan bad_key = refl
+
+pub no_key_name : (e : ScanError) (r : KeyRefusal) → ¬ (scan_refusal_name e ≡ key_refusal_name r)
+no_key_name e r same = not_none (sym (finds_scan e) ∙ ap (named_so scan_refusal_name all_scans) same ∙ finds_no_scan r)
+
 -- ---- what a line tells
 
 pub one_request : (e g : RequestError) → request_refusal_name e ≡ request_refusal_name g → e ≡ g
@@ -141,6 +160,9 @@ one_scan_error = one_named scan_refusal_name all_scans finds_scan
 
 pub one_text : (e g : TextError) → text_refusal_name e ≡ text_refusal_name g → e ≡ g
 one_text = one_named text_refusal_name all_texts finds_text
+
+pub one_key : (r q : KeyRefusal) → key_refusal_name r ≡ key_refusal_name q → r ≡ q
+one_key = one_named key_refusal_name all_keys finds_key
 
 pub one_cause : (e g : Cause) → break_name e ≡ break_name g → e ≡ g
 one_cause = one_named break_name all_causes finds_cause

@@ -14,7 +14,10 @@ use Rattle.vx_generated.specs.GeneratedBlocks.{generated_store}
 use Rattle.vx_request.specs.Requests.{most_bytes}
 use Rattle.vx_request.specs.declared.errors.RequestError.TheVariants as requests
 use Rattle.vx_query.specs.EndingViews.{ending_status, ending_text, EndsBy, IsAnswered}
-use Rattle.vx_query.specs.Running.{End, Form, Showing, Statistics, shown_text, scan_form, explain_form, show_form, text_form, gen_form, reads_request, shown_word, scan_by, Outcome, out_of_memory, unread, refused, unscanned, broken, answered, explained, undecoded, unshown, shown, unnamed, unserialized, overlong, named, summed, Writing, IsOutcome, IsTaken, IsPartTaken, IsWriting, IsRun, status_of, outcome_text, used_by}
+use Rattle.vx_laws_topk.specs.TopRows.{TopAsk}
+use Rattle.vx_query.specs.TopWords.{AskedTop, unknown_key, bad_key}
+use Rattle.vx_query.specs.TopViews.{ask_of, TopEndsBy, IsTopAnswered, IsTopUnanswered}
+use Rattle.vx_query.specs.Running.{End, Form, HasNoKey, Showing, Statistics, shown_text, scan_form, explain_form, show_form, text_form, gen_form, top_form, reads_request, shown_word, scan_by, Outcome, out_of_memory, unread, refused, unscanned, broken, answered, explained, undecoded, unshown, shown, unnamed, unserialized, overlong, named, summed, unkeyed, top_broken, topped, Writing, IsOutcome, IsTaken, IsPartTaken, IsWriting, IsRun, status_of, outcome_text, used_by}
 use Rattle.vx_query.specs.RefusalViews.{refusal_status, refusal_text, input_refusal, IsUnanswered, IsWordUnshown, IsQueryRefused}
 use Rattle.vx_query.specs.TextViews.{answer_status, answer_text, ExplainsInput, ShowsWord, AnswersQuery, IsAnsweredBy}
 use Rattle.vx_io.specs.declared.reading.InputError.{InputError}
@@ -22,7 +25,7 @@ use Rattle.vx_io.specs.declared.reading.InputError.TheVariants as inputs
 use Rattle.vx_query.specs.declared.endings.Ending.{Ending}
 use Rattle.vx_query.specs.declared.endings.Ending.TheVariants.{Report, Overflow, BadCast}
 use Rattle.vx_query.specs.declared.refusals.Refusal.{Refusal}
-use Rattle.vx_query.specs.declared.refusals.Refusal.TheVariants.{NoMemory, ReadFault, InputTooLong, BadJson, BadRequest, BadHex, BadTable, BadHexText, Scan, Query, NotSerializable, LongPart}
+use Rattle.vx_query.specs.declared.refusals.Refusal.TheVariants.{NoMemory, ReadFault, InputTooLong, BadJson, BadRequest, BadHex, BadTable, BadHexText, Scan, Query, NotSerializable, LongPart, UnknownKey, BadKey}
 
 -- an outcome that a refusal stands for
 abbrev pub EndsRefused : Option Form → End → End → Refusal → Type 0
@@ -36,22 +39,24 @@ refused_unread form reads before after inputs.NoMemory part quiet cause = (out_o
 refused_unread form reads before after inputs.ReadFault part quiet cause = (unread, (reads, (part, cause refl)), refl, refl, refl)
 
 -- an input that is taken and has no report
-pub refused_taken : (form : Option Form) → reads_request form ≡ true → (before after : End) (input : Bytes) (r : Refusal) → IsPartTaken before after
-    → IsTaken before after input → IsUnanswered input r → EndsRefused form before after r
-refused_taken form reads before after input NoMemory part taken told = (out_of_memory, inl (reads, (part, taken.quiet)), refl, refl, refl)
-refused_taken form reads before after input ReadFault part taken told = absurd told
-refused_taken form reads before after input InputTooLong part taken told = (refused input requests.InputTooLong, (reads, (taken, told)), refl, refl, refl)
-refused_taken form reads before after input BadJson part taken told = (refused input requests.BadJson, (reads, (taken, told)), refl, refl, refl)
-refused_taken form reads before after input (BadRequest place) part taken told =
+pub refused_taken : (form : Option Form) → reads_request form ≡ true → (before after : End) (input : Bytes) (r : Refusal) → ¬ (HasNoKey form input)
+    → IsPartTaken before after → IsTaken before after input → IsUnanswered input r → EndsRefused form before after r
+refused_taken form reads before after input NoMemory keyed part taken told = (out_of_memory, inl (reads, (part, taken.quiet)), refl, refl, refl)
+refused_taken form reads before after input ReadFault keyed part taken told = absurd told
+refused_taken form reads before after input InputTooLong keyed part taken told = (refused input requests.InputTooLong, (reads, (taken, told)), refl, refl, refl)
+refused_taken form reads before after input BadJson keyed part taken told = (refused input requests.BadJson, (reads, (taken, told)), refl, refl, refl)
+refused_taken form reads before after input (BadRequest place) keyed part taken told =
     (refused input (requests.BadRequest place), (reads, (taken, told)), refl, refl, refl)
-refused_taken form reads before after input (BadHex side) part taken told = (refused input (requests.BadHex side), (reads, (taken, told)), refl, refl, refl)
-refused_taken form reads before after input (BadTable refusal) part taken told =
+refused_taken form reads before after input (BadHex side) keyed part taken told = (refused input (requests.BadHex side), (reads, (taken, told)), refl, refl, refl)
+refused_taken form reads before after input (BadTable refusal) keyed part taken told =
     (refused input (requests.BadTable refusal), (reads, (taken, told)), refl, refl, refl)
-refused_taken form reads before after input BadHexText part taken told = absurd told
-refused_taken form reads before after input (Scan e) part taken told = (unscanned input e, (reads, (taken, told)), refl, refl, refl)
-refused_taken form reads before after input (Query e) part taken told = absurd told
-refused_taken form reads before after input NotSerializable part taken told = absurd told
-refused_taken form reads before after input LongPart part taken told = absurd told
+refused_taken form reads before after input BadHexText keyed part taken told = absurd told
+refused_taken form reads before after input (Scan e) keyed part taken told = (unscanned input e, (reads, (taken, (told, keyed))), refl, refl, refl)
+refused_taken form reads before after input (Query e) keyed part taken told = absurd told
+refused_taken form reads before after input NotSerializable keyed part taken told = absurd told
+refused_taken form reads before after input LongPart keyed part taken told = absurd told
+refused_taken form reads before after input UnknownKey keyed part taken told = absurd told
+refused_taken form reads before after input BadKey keyed part taken told = absurd told
 
 -- a word that is not shown
 word_refused : (form : Option Form) (word : Bytes) → shown_word form ≡ Some word → (source : End) (r : Refusal) → IsWordUnshown word r
@@ -68,6 +73,8 @@ word_refused form word is source (Scan e) told = (unshown e, ((word, is, told), 
 word_refused form word is source (Query e) told = absurd told
 word_refused form word is source NotSerializable told = absurd told
 word_refused form word is source LongPart told = absurd told
+word_refused form word is source UnknownKey told = absurd told
+word_refused form word is source BadKey told = absurd told
 
 -- a query that has no bytes
 query_refused : (query : Bytes) (source : End) (r : Refusal) → IsQueryRefused query r → EndsRefused (Some (text_form query)) source source r
@@ -83,6 +90,8 @@ query_refused query source (Scan e) told = absurd told
 query_refused query source (Query e) told = (unnamed e, ((query, refl, told), refl), refl, refl, refl)
 query_refused query source NotSerializable told = (unserialized, ((query, told.0, refl, told.1, told.2), refl), refl, refl, refl)
 query_refused query source LongPart told = (overlong, ((query, told.0, refl, told.1, told.2, told.3), refl), refl, refl, refl)
+query_refused query source UnknownKey told = absurd told
+query_refused query source BadKey told = absurd told
 
 -- an answer that is a refusal
 answered_refusal : (form : Option Form) (before after : End) (r : Refusal) → EndsRefused form before after r → IsAnsweredBy form before after (Err r)
@@ -104,7 +113,7 @@ explained_taken before after input (Ok text) part taken h = record {
   unheld = refl;
 }
 explained_taken before after input (Err r) part taken h =
-    answered_refusal (Some explain_form) before after r (refused_taken (Some explain_form) refl before after input r part taken h)
+    answered_refusal (Some explain_form) before after r (refused_taken (Some explain_form) refl before after input r (λ none. none) part taken h)
 
 pub word_shown : (showing : Showing) (word : Bytes) (source : End) (answer : Result (String Global) Refusal) → ShowsWord (shown_text showing) word answer
     → IsAnsweredBy (Some (show_form showing word)) source source answer
@@ -136,21 +145,54 @@ taken_as before after bytes input e took within quiet = record {
   quiet = quiet;
 }
 
--- an outcome that an ending stands for, of a scan by these statistics
-abbrev pub IsEnded : Statistics → End → End → Ending → Option StoreSeen → Type 0
-IsEnded chosen before after ending used =
-    (o : Outcome) × IsOutcome (Some (scan_form chosen)) before after o × (status_of o ≡ ending_status ending) × (outcome_text o ≡ ending_text ending)
+-- an outcome that an ending stands for
+abbrev pub IsEnded : Option Form → End → End → Ending → Option StoreSeen → Type 0
+IsEnded form before after ending used =
+    (o : Outcome) × IsOutcome form before after o × (status_of o ≡ ending_status ending) × (outcome_text o ≡ ending_text ending)
     × (used ≡ used_by o)
 
 -- an input that holds a scan
 pub told_taken : (chosen : Statistics) (before after : End) (input : Bytes) (ending : Ending) (seen : StoreSeen) → IsTaken before after input
-    → IsAnswered chosen input ending seen → IsEnded chosen before after ending (Some seen)
+    → IsAnswered chosen input ending seen → IsEnded (Some (scan_form chosen)) before after ending (Some seen)
 told_taken chosen before after input ending seen taken found = by ending found.ends
   where
-    by : (e : Ending) → EndsBy (scan_by chosen found.asked) found.filter found.projection e seen → IsEnded chosen before after e (Some seen)
+    by : (e : Ending) → EndsBy (scan_by chosen found.asked) found.filter found.projection e seen → IsEnded (Some (scan_form chosen)) before after e (Some seen)
     by (Report text) ends = (answered chosen input found.asked found.filter found.projection, (refl, (taken, (found.holds, ends.0))), refl, sym ends.1, ap Some ends.2)
     by Overflow ends = (broken chosen by_sum input found.asked found.filter found.projection, (refl, (taken, (found.holds, ends.0))), refl, refl, ap Some ends.1)
     by BadCast ends = (broken chosen by_cast input found.asked found.filter found.projection, (refl, (taken, (found.holds, ends.0))), refl, refl, ap Some ends.1)
+
+-- an input that holds a search for first rows
+pub searched_taken : (top : AskedTop) (before after : End) (input : Bytes) (ending : Ending) (seen : StoreSeen) → IsTaken before after input
+    → IsTopAnswered top input ending seen → IsEnded (Some (top_form top)) before after ending (Some seen)
+searched_taken top before after input ending seen taken found = by ending found.ends
+  where
+    ask : TopAsk
+    ask = ask_of top found.filter found.projection found.key_type
+
+    by : (e : Ending) → TopEndsBy found.asked ask e seen → IsEnded (Some (top_form top)) before after e (Some seen)
+    by (Report text) ends = (topped input found.asked ask, (refl, (taken, (found.holds, ends.0))), refl, sym ends.1, ap Some ends.2)
+    by Overflow ends = (top_broken by_sum input found.asked ask, (refl, (taken, (found.holds, ends.0))), refl, refl, ap Some ends.1)
+    by BadCast ends = (top_broken by_cast input found.asked ask, (refl, (taken, (found.holds, ends.0))), refl, refl, ap Some ends.1)
+
+-- and one of which first rows are asked and not found
+pub unsearched_taken : (top : AskedTop) (before after : End) (input : Bytes) (r : Refusal) → IsPartTaken before after → IsTaken before after input
+    → IsTopUnanswered top input r → EndsRefused (Some (top_form top)) before after r
+unsearched_taken top before after input NoMemory part taken told = (out_of_memory, inl (refl, (part, taken.quiet)), refl, refl, refl)
+unsearched_taken top before after input ReadFault part taken told = absurd told
+unsearched_taken top before after input InputTooLong part taken told = (refused input requests.InputTooLong, (refl, (taken, told)), refl, refl, refl)
+unsearched_taken top before after input BadJson part taken told = (refused input requests.BadJson, (refl, (taken, told)), refl, refl, refl)
+unsearched_taken top before after input (BadRequest place) part taken told =
+    (refused input (requests.BadRequest place), (refl, (taken, told)), refl, refl, refl)
+unsearched_taken top before after input (BadHex side) part taken told = (refused input (requests.BadHex side), (refl, (taken, told)), refl, refl, refl)
+unsearched_taken top before after input (BadTable refusal) part taken told =
+    (refused input (requests.BadTable refusal), (refl, (taken, told)), refl, refl, refl)
+unsearched_taken top before after input BadHexText part taken told = absurd told
+unsearched_taken top before after input (Scan e) part taken told = (unscanned input e, (refl, (taken, told)), refl, refl, refl)
+unsearched_taken top before after input (Query e) part taken told = absurd told
+unsearched_taken top before after input NotSerializable part taken told = absurd told
+unsearched_taken top before after input LongPart part taken told = absurd told
+unsearched_taken top before after input UnknownKey part taken told = (unkeyed top input unknown_key, (refl, (taken, told)), refl, refl, refl)
+unsearched_taken top before after input BadKey part taken told = (unkeyed top input bad_key, (refl, (taken, told)), refl, refl, refl)
 
 -- a run of an outcome
 pub run_of : (form : Option Form) (i i' o o' : End) (used : Option StoreSeen) (status : ℕ) (outcome : Outcome) → IsOutcome form i i' outcome
@@ -166,6 +208,11 @@ pub run_told : (form other : Option Form) (i i' o o' : End) (used : Option Store
 run_told form other i i' o o' used status outcome is comes held written =
     run_of form i i' o o' used status outcome (subst (λ f. IsOutcome f i i' outcome) (sym is) comes) held written
 
+-- and of one of this form
+pub run_same : (form other : Option Form) (i i' o o' : End) (used : Option StoreSeen) (status : ℕ) → form ≡ other → IsRun other i i' o o' used status
+    → IsRun form i i' o o' used status
+run_same form other i i' o o' used status is run = subst (λ f. IsRun f i i' o o' used status) (sym is) run
+
 -- a run whose answer is a text or a line, and holds no store
 pub run_answered : (form other : Option Form) (i i' o o' : End) (status : ℕ) (answer : Result (String Global) Refusal) → form ≡ other
     → IsAnsweredBy other i i' answer
@@ -178,16 +225,28 @@ run_answered form other i i' o o' status answer is by (writing, written) = recor
   held = sym by.unheld;
 }
 
--- a run whose scan ended
-pub run_ended : (chosen : Statistics) (form : Option Form) (i i' o o' : End) (used : Option StoreSeen) (status told : ℕ) (text : Bytes) (ending : Ending)
-    → form ≡ Some (scan_form chosen) → IsEnded chosen i i' ending used → told ≡ ending_status ending → text ≡ ending_text ending
+-- a run whose scan or search ended
+pub run_ended : (other form : Option Form) (i i' o o' : End) (used : Option StoreSeen) (status told : ℕ) (text : Bytes) (ending : Ending)
+    → form ≡ other → IsEnded other i i' ending used → told ≡ ending_status ending → text ≡ ending_text ending
     → (writing : Writing) × IsWriting o o' text told status writing → IsRun form i i' o o' used status
-run_ended chosen form i i' o o' used status told text ending is by tells texts (writing, written) = record {
+run_ended other form i i' o o' used status told text ending is by tells texts (writing, written) = record {
   outcome = by.0;
   comes = subst (λ f. IsOutcome f i i' by.0) (sym is) by.1;
   writing = writing;
   written = subst (λ k. k) (λ j. IsWriting o o' ((texts ∙ sym by.3) j) ((tells ∙ sym by.2) j) status writing) written;
   held = by.4;
+}
+
+-- a run that is refused
+pub run_refused : (form : Option Form) (i i' o o' : End) (used : Option StoreSeen) (status told : ℕ) (text : Bytes) (r : Refusal)
+    → EndsRefused form i i' r → used ≡ None → told ≡ refusal_status r → text ≡ refusal_text r
+    → (writing : Writing) × IsWriting o o' text told status writing → IsRun form i i' o o' used status
+run_refused form i i' o o' used status told text r by unused tells texts (writing, written) = record {
+  outcome = by.0;
+  comes = by.1;
+  writing = writing;
+  written = subst (λ k. k) (λ j. IsWriting o o' ((texts ∙ sym by.3) j) ((tells ∙ sym by.2) j) status writing) written;
+  held = unused ∙ sym by.4;
 }
 
 -- what is told of the scan of a generated table

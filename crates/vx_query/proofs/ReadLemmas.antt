@@ -1,5 +1,5 @@
 -- Each read of the scan of a request is of a kept block and of a column that the filter or the projection asks.
-use Rattle.std.proofs.Common.{◌≡◌, ◌∙◌, sym, ap, refl, subst, ℕ, Bool, true, false, cond, not, ◌&&◌, ◌||◌, nat_eq, List, [], ◌∷◌, ◌++◌, length, map, Option, Some, Ok, inl, inr, true≢false}
+use Rattle.std.proofs.Common.{◌≡◌, ◌∙◌, sym, ap, refl, subst, ℕ, Bool, true, false, cond, not, ◌&&◌, ◌||◌, nat_eq, List, [], ◌∷◌, ◌++◌, length, map, Option, Some, None, Ok, inl, inr, true≢false}
 use Rattle.std.specs.List.{flat_map, list_all, list_any, AllByRecursion}
 use Rattle.std.specs.Str.{bytes_eq}
 use Rattle.std.proofs.lemmas.Bool.{and_from, or_left, or_right}
@@ -27,7 +27,7 @@ use Rattle.vx_scan.proofs.AskedLemmas.{all_so, all_passing, all_here, number_its
 use Rattle.vx_tables.proofs.BlockLemmas.{table_lengths}
 use Rattle.vx_request.specs.Requests.{RequestedScan}
 use Rattle.vx_query.specs.BlockAgreement.{agree}
-use Rattle.vx_query.specs.Running.{End, Form, Statistics, reads_request, scan_form, scan_by, IsTaken, HoldsScan, scan_table, scan_reads, scanned_store, broken_store, Outcome, misused, helped, versioned, out_of_memory, unread, refused, unscanned, broken, answered, explained, undecoded, unshown, shown, unnamed, unserialized, overlong, named, summed, IsOutcome, IsRun, used_by}
+use Rattle.vx_query.specs.Running.{End, Form, Statistics, reads_request, asked_top, scan_form, scan_by, IsTaken, HoldsScan, scan_table, scan_reads, scanned_store, broken_store, Outcome, misused, helped, versioned, out_of_memory, unread, refused, unscanned, broken, answered, explained, undecoded, unshown, shown, unnamed, unserialized, overlong, named, summed, unkeyed, top_broken, topped, IsOutcome, IsRun, used_by}
 use Rattle.vx_query.specs.Causes.{store_after, is_needed_read, HasAskedReads}
 use Rattle.vx_query.proofs.CellLemmas.{and_left}
 use Rattle.vx_query.proofs.CauseLemmas.{breaks_by_one}
@@ -38,7 +38,7 @@ use Rattle.vx_query.proofs.RequestEnds.{not_none}
 
 -- ---- reads that are some of others
 
-among_trans : (xs ys zs : List Read) → AreAmong xs ys → AreAmong ys zs → AreAmong xs zs
+pub among_trans : (xs ys zs : List Read) → AreAmong xs ys → AreAmong ys zs → AreAmong xs zs
 among_trans [] ys zs h k = tt
 among_trans (x ∷ xs) [] zs h k = absurd h
 among_trans (x ∷ xs) (y ∷ ys) [] h k = absurd k
@@ -81,7 +81,7 @@ blocks_among a f p (b ∷ bs) =
     (among_append own (cond some further []) own further (among_all own) (further_among some further)) (blocks_among a f p bs)
 
 -- a table whose blocks agree with its zones has as many as these have lengths
-as_many : (a : RequestedScan) → agree (Ok a) ≡ true → length (scan_table a).blocks ≡ length a.zones.lengths
+pub as_many : (a : RequestedScan) → agree (Ok a) ≡ true → length (scan_table a).blocks ≡ length a.zones.lengths
 as_many a agreeing =
     let lengths : have_lengths a.zones a.blocks ≡ true = and_left (have_lengths a.zones a.blocks) (have_types a.zones a.blocks) agreeing in
     let same = table_lengths a.zones.columns (length (field_names a.zones.columns)) a.zones.lengths a.blocks lengths in
@@ -169,8 +169,8 @@ reads_needed a f p =
 -- ---- the store of a run
 
 pub asked_alone : KeptNumbersAreKeptBlocks → (form : Option Form) (i i' o o' : End) (store : StoreSeen) (status : ℕ)
-    → reads_request form ≡ true → IsRun form i i' o o' (Some store) status → HasAskedReads form i i' store
-asked_alone kept form i i' o o' store status reads run = by run.outcome run.comes run.held
+    → reads_request form ≡ true → asked_top form ≡ None → IsRun form i i' o o' (Some store) status → HasAskedReads form i i' store
+asked_alone kept form i i' o o' store status reads no_top run = by run.outcome run.comes run.held
   where
     store_of : (chosen : Statistics) → form ≡ Some (scan_form chosen) → (input : Bytes) (a : RequestedScan) (f p : Tree) → IsTaken i i' input
         → HoldsScan input a f p → store ≡ store_after (scan_by chosen a) f p → AreAmong store.log (scan_reads (scan_by chosen a) f p)
@@ -224,3 +224,6 @@ asked_alone kept form i i' o o' store status reads run = by run.outcome run.come
     by overlong comes held = absurd (not_none held)
     by (named e) comes held = absurd (not_none held)
     by (summed rows) comes held = absurd (true≢false (sym reads ∙ ap reads_request comes.0))
+    by (unkeyed top input r) comes held = absurd (not_none held)
+    by (top_broken cause input a ask) comes held = absurd (not_none (sym (ap asked_top comes.0) ∙ no_top))
+    by (topped input a ask) comes held = absurd (not_none (sym (ap asked_top comes.0) ∙ no_top))

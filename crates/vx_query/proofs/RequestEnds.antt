@@ -4,13 +4,15 @@ use Rattle.vx_dtype.specs.Types.{Bytes}
 use Rattle.vx_expr.specs.Trees.{Tree}
 use Rattle.vx_semantics.specs.Breaks.{Cause}
 use Rattle.vx_io.specs.Ends.{Added}
+use Rattle.vx_laws_topk.specs.TopRows.{TopAsk}
 use Rattle.vx_scan.specs.Stores.{StoreSeen}
 use Rattle.vx_scan.specs.declared.errors.ScanError.{ScanError}
 use Rattle.vx_explain.specs.Explanations.{explain_text}
 use Rattle.vx_request.specs.Requests.{RequestedScan, request_of}
 use Rattle.vx_request.specs.declared.errors.RequestError.{RequestError}
-use Rattle.vx_query.specs.Refusals.{request_refusal_name, scan_refusal_name, break_name, refusal_line}
-use Rattle.vx_query.specs.Running.{End, Form, Statistics, HoldsScan, HoldsRefused, scan_by, scan_breaks, scan_breaks_by, scan_report, scanned_store, broken_store, scan_form, explain_form, show_form, text_form, gen_form, help_form, version_form, reads_request, shown_word, asked_query, IsTaken, Outcome, misused, helped, versioned, out_of_memory, unread, refused, unscanned, broken, answered, explained, undecoded, unshown, shown, unnamed, unserialized, overlong, named, summed, Writing, whole, cut, IsOutcome, IsWriting, IsRun, status_of, outcome_text, used_by}
+use Rattle.vx_query.specs.Refusals.{request_refusal_name, scan_refusal_name, key_refusal_name, break_name, refusal_line}
+use Rattle.vx_query.specs.TopWords.{AskedTop, KeyRefusal}
+use Rattle.vx_query.specs.Running.{End, Form, Statistics, HoldsScan, HoldsRefused, HoldsNoKey, HasNoKey, HoldsTop, words_of, top_breaks, top_breaks_by, top_report, topped_store, top_broken_store, scan_by, scan_breaks, scan_breaks_by, scan_report, scanned_store, broken_store, scan_form, explain_form, show_form, text_form, gen_form, top_form, help_form, version_form, reads_request, shown_word, asked_query, IsTaken, Outcome, misused, helped, versioned, out_of_memory, unread, refused, unscanned, broken, answered, explained, undecoded, unshown, shown, unnamed, unserialized, overlong, named, summed, unkeyed, top_broken, topped, Writing, whole, cut, IsOutcome, IsWriting, IsRun, status_of, outcome_text, used_by}
 use Rattle.vx_query.specs.Causes.{HasRisen}
 
 pub not_none : {X : Type 0} {x : X} → Some x ≡ None → ⊥
@@ -23,7 +25,7 @@ pub data RequestEnd (form : Option Form) (i i' o o' : End) (used : Option StoreS
   not_read : status ≡ 6 → HasRisen i i' → used ≡ None → RequestEnd form i i' o o' used status
   no_request : (input : Bytes) (e : RequestError) → status ≡ 3 → IsTaken i i' input → request_of input ≡ Err e
       → Added o.bytes o'.bytes (refusal_line (request_refusal_name e)) → used ≡ None → RequestEnd form i i' o o' used status
-  no_scan : (input : Bytes) (e : ScanError) → status ≡ 4 → IsTaken i i' input → HoldsRefused input e
+  no_scan : (input : Bytes) (e : ScanError) → status ≡ 4 → IsTaken i i' input → HoldsRefused input e → ¬ (HasNoKey form input)
       → Added o.bytes o'.bytes (refusal_line (scan_refusal_name e)) → used ≡ None → RequestEnd form i i' o o' used status
   breaks : (chosen : Statistics) (cause : Cause) (input : Bytes) (a : RequestedScan) (f p : Tree) → status ≡ 5 → form ≡ Some (scan_form chosen)
       → IsTaken i i' input → HoldsScan input a f p → scan_breaks_by cause (scan_by chosen a) f p ≡ true
@@ -34,6 +36,14 @@ pub data RequestEnd (form : Option Form) (i i' o o' : End) (used : Option StoreS
       → used ≡ Some (scanned_store (scan_by chosen a) f p) → RequestEnd form i i' o o' used status
   explains : (input : Bytes) (a : RequestedScan) (f p : Tree) → status ≡ 0 → form ≡ Some explain_form → IsTaken i i' input → HoldsScan input a f p
       → Added o.bytes o'.bytes (explain_text a.zones f p) → used ≡ None → RequestEnd form i i' o o' used status
+  no_key : (top : AskedTop) (input : Bytes) (r : KeyRefusal) → status ≡ 4 → form ≡ Some (top_form top) → IsTaken i i' input → HoldsNoKey r top.key input
+      → Added o.bytes o'.bytes (refusal_line (key_refusal_name r)) → used ≡ None → RequestEnd form i i' o o' used status
+  top_stops : (cause : Cause) (input : Bytes) (a : RequestedScan) (ask : TopAsk) → status ≡ 5 → form ≡ Some (top_form (words_of ask)) → IsTaken i i' input
+      → HoldsTop input a ask → top_breaks_by cause a ask ≡ true → Added o.bytes o'.bytes (refusal_line (break_name cause))
+      → used ≡ Some (top_broken_store a ask) → RequestEnd form i i' o o' used status
+  tops : (input : Bytes) (a : RequestedScan) (ask : TopAsk) → status ≡ 0 → form ≡ Some (top_form (words_of ask)) → IsTaken i i' input
+      → HoldsTop input a ask → top_breaks a ask ≡ false → Added o.bytes o'.bytes (top_report a ask) → used ≡ Some (topped_store a ask)
+      → RequestEnd form i i' o o' used status
 
 -- such arguments are of no other form, show no word, and ask no query
 reads_other : (form other : Option Form) → reads_request form ≡ true → reads_request other ≡ false → ¬ (form ≡ other)
@@ -46,6 +56,7 @@ shows_none (Some explain_form) word reads h = not_none (sym h)
 shows_none (Some (show_form showing other)) word reads h = true≢false (sym reads)
 shows_none (Some (text_form other)) word reads h = true≢false (sym reads)
 shows_none (Some (gen_form rows)) word reads h = true≢false (sym reads)
+shows_none (Some (top_form top)) word reads h = not_none (sym h)
 shows_none (Some help_form) word reads h = true≢false (sym reads)
 shows_none (Some version_form) word reads h = true≢false (sym reads)
 
@@ -56,6 +67,7 @@ asks_none (Some explain_form) query reads h = not_none (sym h)
 asks_none (Some (show_form showing other)) query reads h = true≢false (sym reads)
 asks_none (Some (text_form other)) query reads h = true≢false (sym reads)
 asks_none (Some (gen_form rows)) query reads h = true≢false (sym reads)
+asks_none (Some (top_form top)) query reads h = not_none (sym h)
 asks_none (Some help_form) query reads h = true≢false (sym reads)
 asks_none (Some version_form) query reads h = true≢false (sym reads)
 
@@ -72,7 +84,7 @@ request_end form i i' o o' used status reads run = by run.outcome run.writing ru
     by out_of_memory whole comes written held = without_memory written.0 held
     by unread whole comes written held = not_read written.0 comes.1.1 held
     by (refused input e) whole comes written held = no_request input e written.0 comes.1.0 comes.1.1 written.1.0 held
-    by (unscanned input e) whole comes written held = no_scan input e written.0 comes.1.0 comes.1.1 written.1.0 held
+    by (unscanned input e) whole comes written held = no_scan input e written.0 comes.1.0 comes.1.1.0 comes.1.1.1 written.1.0 held
     by (broken chosen cause input a f p) whole comes written held =
         breaks chosen cause input a f p written.0 comes.0 comes.1.0 comes.1.1.0 comes.1.1.1 written.1.0 held
     by (answered chosen input a f p) whole comes written held =
@@ -86,3 +98,7 @@ request_end form i i' o o' used status reads run = by run.outcome run.writing ru
     by overlong whole comes written held = absurd (asks_none form comes.0.0 reads comes.0.2)
     by (named e) whole comes written held = absurd (asks_none form comes.0.0 reads comes.0.1)
     by (summed rows) whole comes written held = absurd (reads_other form (Some (gen_form rows)) reads refl comes.0)
+    by (unkeyed top input r) whole comes written held = no_key top input r written.0 comes.0 comes.1.0 comes.1.1 written.1.0 held
+    by (top_broken cause input a ask) whole comes written held =
+        top_stops cause input a ask written.0 comes.0 comes.1.0 comes.1.1.0 comes.1.1.1 written.1.0 held
+    by (topped input a ask) whole comes written held = tops input a ask written.0 comes.0 comes.1.0 comes.1.1.0 comes.1.1.1 written.1.0 held

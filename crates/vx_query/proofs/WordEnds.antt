@@ -8,7 +8,7 @@ use Rattle.vx_scan.specs.Stores.{StoreSeen}
 use Rattle.vx_scan.specs.declared.errors.ScanError.{ScanError}
 use Rattle.vx_request.specs.Requests.{hex_bytes}
 use Rattle.vx_query.specs.Refusals.{scan_refusal_name, refusal_line}
-use Rattle.vx_query.specs.Running.{End, Form, Showing, shown_text, WordSpells, WordIsRefused, scan_form, explain_form, show_form, text_form, gen_form, help_form, version_form, reads_request, shown_word, asked_query, Outcome, misused, helped, versioned, out_of_memory, unread, refused, unscanned, broken, answered, explained, undecoded, unshown, shown, unnamed, unserialized, overlong, named, summed, Writing, whole, cut, IsOutcome, IsWriting, IsRun, status_of, outcome_text, used_by}
+use Rattle.vx_query.specs.Running.{End, Form, Showing, shown_text, WordSpells, WordIsRefused, scan_form, explain_form, show_form, text_form, gen_form, top_form, words_of, help_form, version_form, reads_request, shown_word, asked_query, Outcome, misused, helped, versioned, out_of_memory, unread, refused, unscanned, broken, answered, explained, undecoded, unshown, shown, unnamed, unserialized, overlong, named, summed, unkeyed, top_broken, topped, Writing, whole, cut, IsOutcome, IsWriting, IsRun, status_of, outcome_text, used_by}
 use Rattle.vx_query.specs.Causes.{HasRisen}
 use Rattle.vx_query.proofs.RequestEnds.{not_none, shows_none}
 
@@ -34,6 +34,7 @@ shows_no_query (Some explain_form) word query shows h = not_none (sym shows)
 shows_no_query (Some (show_form showing other)) word query shows h = not_none (sym h)
 shows_no_query (Some (text_form other)) word query shows h = not_none (sym shows)
 shows_no_query (Some (gen_form rows)) word query shows h = not_none (sym shows)
+shows_no_query (Some (top_form top)) word query shows h = not_none (sym shows)
 shows_no_query (Some help_form) word query shows h = not_none (sym shows)
 shows_no_query (Some version_form) word query shows h = not_none (sym shows)
 
@@ -73,3 +74,6 @@ word_end form word i i' o o' used status shows run = by run.outcome run.writing 
     by overlong whole comes written held = absurd (shows_no_query form word comes.0.0 shows comes.0.2)
     by (named e) whole comes written held = absurd (shows_no_query form word comes.0.0 shows comes.0.1)
     by (summed rows) whole comes written held = absurd (shows_other form (Some (gen_form rows)) word shows refl comes.0)
+    by (unkeyed top input r) whole comes written held = absurd (shows_other form (Some (top_form top)) word shows refl comes.0)
+    by (top_broken cause input a ask) whole comes written held = absurd (shows_other form (Some (top_form (words_of ask))) word shows refl comes.0)
+    by (topped input a ask) whole comes written held = absurd (shows_other form (Some (top_form (words_of ask))) word shows refl comes.0)

@@ -5,7 +5,8 @@ use Rattle.vx_io.specs.Ends.{Added}
 use Rattle.vx_scan.specs.Stores.{StoreSeen}
 use Rattle.vx_request.specs.Requests.{most_bytes}
 use Rattle.vx_query.specs.Refusals.{refusal_line}
-use Rattle.vx_query.specs.Running.{End, Form, IsTaken, IsRun, reads_request, shown_word, text_form}
+use Rattle.vx_query.specs.TopWords.{AskedTop}
+use Rattle.vx_query.specs.Running.{End, Form, IsTaken, IsRun, HasNoKey, reads_request, shown_word, text_form, top_form}
 use Rattle.vx_query.specs.Causes.{HasRisen}
 
 -- a run whose sink tells what it wrote: this text
@@ -36,6 +37,22 @@ pub record RequestsEndSo (told : ℕ) (name : Bytes) (Cause : Bytes → Type 0) 
       → Tells form i i' o o' used told (refusal_line name) → (input : Bytes) × IsTaken i i' input × Cause input
   pub always : (form : Option Form) (i i' o o' : End) (used : Option StoreSeen) (status : ℕ) (input : Bytes) → reads_request form ≡ true
       → i.bytes ≡ Some input → Cause (taken_of input) → RunsWell form i i' o o' used status → ¬ (HasRisen i i')
+      → EndsWith told (refusal_line name) o o' status
+
+-- the same of a cause that comes behind the key, where the arguments ask one: it is told where the key isn't refused, and a run ends so where that is so
+pub record ExpressionsEndSo (told : ℕ) (name : Bytes) (Cause : Bytes → Type 0) : Type 0 where
+  pub only : (form : Option Form) (i i' o o' : End) (used : Option StoreSeen) → reads_request form ≡ true
+      → Tells form i i' o o' used told (refusal_line name) → (input : Bytes) × IsTaken i i' input × Cause input × (¬ (HasNoKey form input))
+  pub always : (form : Option Form) (i i' o o' : End) (used : Option StoreSeen) (status : ℕ) (input : Bytes) → reads_request form ≡ true
+      → i.bytes ≡ Some input → Cause (taken_of input) → ¬ (HasNoKey form (taken_of input)) → RunsWell form i i' o o' used status → ¬ (HasRisen i i')
+      → EndsWith told (refusal_line name) o o' status
+
+-- the same of arguments that ask first rows, by the key and the input
+pub record KeysEndSo (told : ℕ) (name : Bytes) (Cause : Bytes → Bytes → Type 0) : Type 0 where
+  pub only : (top : AskedTop) (i i' o o' : End) (used : Option StoreSeen) → Tells (Some (top_form top)) i i' o o' used told (refusal_line name)
+      → (input : Bytes) × IsTaken i i' input × Cause top.key input
+  pub always : (top : AskedTop) (i i' o o' : End) (used : Option StoreSeen) (status : ℕ) (input : Bytes) → i.bytes ≡ Some input
+      → Cause top.key (taken_of input) → RunsWell (Some (top_form top)) i i' o o' used status → ¬ (HasRisen i i')
       → EndsWith told (refusal_line name) o o' status
 
 -- the same of arguments that show a word, by the word

@@ -5,7 +5,10 @@ use Rattle.vx_expr.specs.Trees.{Tree}
 use Rattle.vx_scan.specs.declared.errors.ScanError.{ScanError}
 use Rattle.vx_request.specs.Requests.{RequestedScan, hex_bytes}
 use Rattle.vx_request.specs.declared.errors.RequestError.{RequestError}
-use Rattle.vx_query.specs.Running.{HoldsScan, HoldsRefused, WordSpells, WordIsRefused, Names, HasBytes}
+use Rattle.vx_laws_topk.specs.TopRows.{TopAsk}
+use Rattle.vx_query.specs.TopWords.{KeyRefusal}
+use Rattle.vx_query.specs.Running.{HoldsScan, HoldsRefused, HoldsNoKey, HoldsTop, words_of, WordSpells, WordIsRefused, Names, HasBytes}
+use Rattle.vx_query.specs.ExpressionCauses.{HoldsBadText}
 use Rattle.vx_query.specs.RequestCauses.{IsNoRequest}
 use Rattle.vx_query.specs.Causes.{HasNoBytes}
 
@@ -23,6 +26,21 @@ pub record InputsMeanOne : Type 0 where
   pub no_request_refused : (input : Bytes) (e : RequestError) (g : ScanError) → IsNoRequest e input → ¬ (HoldsRefused input g)
   pub no_request_scanned : (input : Bytes) (e : RequestError) (a : RequestedScan) (f p : Tree) → IsNoRequest e input → ¬ (HoldsScan input a f p)
   pub none_refused_scanned : (input : Bytes) (e : ScanError) (a : RequestedScan) (f p : Tree) → HoldsRefused input e → ¬ (HoldsScan input a f p)
+
+-- two searches for first rows are in one table, and of one thing asked
+pub record IsSameTop (a : RequestedScan) (ask : TopAsk) (b : RequestedScan) (other : TopAsk) : Type 0 where
+  pub asked : a ≡ b
+  pub search : ask ≡ other
+
+-- of an input that holds two texts that spell expressions a key is refused for one reason, or is that of one search by the same words; and only one of
+-- the two, and neither of an input that is no request or whose texts are refused
+pub record KeysMeanOne : Type 0 where
+  pub one_reason : (key input : Bytes) (r q : KeyRefusal) → HoldsNoKey r key input → HoldsNoKey q key input → r ≡ q
+  pub one_search : (input : Bytes) (a b : RequestedScan) (ask other : TopAsk) → words_of ask ≡ words_of other → HoldsTop input a ask → HoldsTop input b other
+      → IsSameTop a ask b other
+  pub none_refused_searched : (input : Bytes) (r : KeyRefusal) (a : RequestedScan) (ask : TopAsk) → HoldsNoKey r ask.key input → ¬ (HoldsTop input a ask)
+  pub no_request_refused : (key input : Bytes) (e : RequestError) (r : KeyRefusal) → IsNoRequest e input → ¬ (HoldsNoKey r key input)
+  pub no_text_refused : (key input : Bytes) (e : ScanError) (r : KeyRefusal) → HoldsBadText e input → ¬ (HoldsNoKey r key input)
 
 -- a word is no hexadecimal text, is refused for one reason, or spells one expression; and only one of the three
 pub record WordsMeanOne : Type 0 where

@@ -1,12 +1,15 @@
 pub mod Reports
 pub mod BlockAgreement
 pub mod Refusals
+pub mod NumberWords
 pub mod GeneratedWords
+pub mod TopWords
 pub mod Running
 pub mod RunViews
 pub mod RefusalViews
 pub mod EndingViews
 pub mod TextViews
+pub mod TopViews
 pub mod Causes
 pub mod RequestCauses
 pub mod ExpressionCauses
@@ -14,3 +17,4 @@ pub mod Exactly
 pub mod Exclusions
 pub mod WireLaws
 pub mod GeneratedCauses
+pub mod TopCauses

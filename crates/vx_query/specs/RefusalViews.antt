@@ -12,11 +12,12 @@ use Rattle.vx_io.specs.declared.reading.InputError.TheVariants as inputs
 use Rattle.vx_text.specs.Reading.{reading_of}
 use Rattle.vx_text.specs.declared.errors.TextError.{TextError}
 use Rattle.vx_text.specs.declared.errors.TextError.TheVariants as texts
-use Rattle.vx_query.specs.Refusals.{request_refusal_name, scan_refusal_name, text_refusal_name, refusal_line}
+use Rattle.vx_query.specs.Refusals.{request_refusal_name, scan_refusal_name, text_refusal_name, key_refusal_name, refusal_line}
+use Rattle.vx_query.specs.TopWords.{unknown_key, bad_key}
 use Rattle.vx_query.specs.Running.{HoldsRefused, IsScanRefused, WordIsRefused, Names, IsShallow, IsOverlong}
 use Rattle.vx_query.specs.declared.refusals.Refusal.{Refusal}
 use Rattle.vx_query.specs.declared.refusals.Refusal.TheVariants.{NoMemory, ReadFault, InputTooLong, BadJson, BadRequest, BadHex, BadTable, BadHexText, Scan}
-use Rattle.vx_query.specs.declared.refusals.Refusal.TheVariants.{Query, NotSerializable, LongPart}
+use Rattle.vx_query.specs.declared.refusals.Refusal.TheVariants.{Query, NotSerializable, LongPart, UnknownKey, BadKey}
 
 -- the exit status of a refusal
 abbrev pub refusal_status : Refusal → ℕ
@@ -26,6 +27,8 @@ refusal_status (Scan e) = 4
 refusal_status (Query e) = 4
 refusal_status NotSerializable = 4
 refusal_status LongPart = 4
+refusal_status UnknownKey = 4
+refusal_status BadKey = 4
 refusal_status _ = 3
 
 -- what is told of a refusal
@@ -42,6 +45,8 @@ refusal_name (Scan e) = scan_refusal_name e
 refusal_name (Query e) = text_refusal_name e
 refusal_name NotSerializable = codes "NotSerializable"
 refusal_name LongPart = codes "TooLong"
+refusal_name UnknownKey = key_refusal_name unknown_key
+refusal_name BadKey = key_refusal_name bad_key
 
 -- the line of a refusal
 abbrev pub refusal_text : Refusal → Bytes
@@ -75,6 +80,8 @@ IsUnanswered input (Scan e) = HoldsRefused input e
 IsUnanswered input (Query e) = ⊥
 IsUnanswered input NotSerializable = ⊥
 IsUnanswered input LongPart = ⊥
+IsUnanswered input UnknownKey = ⊥
+IsUnanswered input BadKey = ⊥
 
 -- a scan is answered by this refusal: want of memory at any time, else why its expressions are refused
 abbrev pub IsUnscanned : RequestedScan → Refusal → Type 0

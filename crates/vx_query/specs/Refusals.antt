@@ -17,6 +17,7 @@ use Rattle.vx_scan.specs.declared.errors.ScanError.TheVariants as scans
 use Rattle.vx_request.specs.declared.errors.RequestError.TheVariants.{NoMemory, InputTooLong, BadJson, BadRequest, BadHex, BadTable}
 use Rattle.vx_text.specs.declared.errors.TextError.{TextError}
 use Rattle.vx_text.specs.declared.errors.TextError.TheVariants as texts
+use Rattle.vx_query.specs.TopWords.{KeyRefusal, unknown_key, bad_key}
 
 -- the name of a place of a request
 abbrev pub place_name : Place → Bytes
@@ -86,6 +87,11 @@ text_refusal_name texts.TooManyTokens = codes "TooManyTokens"
 text_refusal_name texts.BadQuery = codes "BadQuery"
 text_refusal_name texts.BadValue = codes "BadValue"
 text_refusal_name texts.NotWritable = codes "NotWritable"
+
+-- what is told of a name that is no key
+abbrev pub key_refusal_name : KeyRefusal → Bytes
+key_refusal_name unknown_key = codes "UnknownKey"
+key_refusal_name bad_key = codes "BadKey"
 
 -- what is told of a phase that breaks by a cause
 abbrev pub break_name : Cause → Bytes

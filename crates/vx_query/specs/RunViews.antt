@@ -7,8 +7,10 @@ use Rattle.vx_query.specs.declared.forms.Showing.{Showing}
 use Rattle.vx_query.specs.declared.forms.Showing.TheVariants.{Line, Tree, Query}
 use Rattle.vx_query.specs.declared.forms.Statistics.{Statistics}
 use Rattle.vx_query.specs.declared.forms.Statistics.TheVariants.{Given, Built}
+use Rattle.vx_query.specs.declared.forms.Top.{Top as AskedRows}
 use Rattle.vx_query.specs.declared.forms.Form.{Form}
-use Rattle.vx_query.specs.declared.forms.Form.TheVariants.{Scan, Explain, Show, Text, Generated, Help, Version}
+use Rattle.vx_query.specs.declared.forms.Form.TheVariants.{Scan, Explain, Show, Text, Generated, Top, Help, Version}
+use Rattle.vx_query.specs.TopWords.{AskedTop}
 
 -- how an expression is shown, as a value of the code says
 abbrev pub showing_view : Showing → running.Showing
@@ -21,6 +23,10 @@ abbrev pub statistics_view : Statistics → running.Statistics
 statistics_view Given = running.given
 statistics_view Built = running.built
 
+-- what first rows are asked, as a value of the code says
+abbrev pub top_view : AskedRows → AskedTop
+top_view top = record { key = top.key.now; descending = top.descending; count = top.count }
+
 -- the form that a value of the code stands for
 abbrev pub form_view : Form → running.Form
 form_view (Scan statistics) = running.scan_form (statistics_view statistics)
@@ -28,6 +34,7 @@ form_view Explain = running.explain_form
 form_view (Show showing hex) = running.show_form (showing_view showing) hex.now
 form_view (Text query) = running.text_form query.now
 form_view (Generated rows) = running.gen_form rows
+form_view (Top top) = running.top_form (top_view top)
 form_view Help = running.help_form
 form_view Version = running.version_form
 

@@ -3,6 +3,7 @@ use Rattle.std.specs.Prelude.{◌≡◌, ◌⊎◌, ℕ, ◌+◌, ◌≤◌, Boo
 use Rattle.std.specs.Prelude.{Err, option_map}
 use Rattle.std.specs.Str.{bytes_eq}
 use Rattle.vx_dtype.specs.Types.{Bytes, Ty}
+use Rattle.vx_dtype.specs.TypeRules.{field_type, is_plain}
 use Rattle.vx_expr.specs.Trees.{Tree}
 use Rattle.vx_semantics.specs.Breaks.{Cause}
 use Rattle.vx_semantics.specs.Tables.{Table, row_type}
@@ -28,12 +29,15 @@ use Rattle.vx_scan.specs.declared.errors.ScanError.{ScanError}
 use Rattle.vx_io.specs.Ends.{TookPart, TookUpTo, Added, AddedPrefix}
 use Rattle.vx_laws_generated.specs.GeneratedLine.{gen_line}
 use Rattle.vx_laws_stats.specs.BuiltStatistics.{built_zones}
+use Rattle.vx_laws_topk.specs.TopRows.{TopAsk, top_rows_of, top_skipped}
+use Rattle.vx_laws_topk.specs.TopPhases.{top_reads, top_reads_to_break, some_top_phase_breaks, first_top_breaks_by}
 use Rattle.vx_generated.specs.GeneratedBlocks.{generated_store}
 use Rattle.vx_query.specs.GeneratedWords.{rows_of_word}
+use Rattle.vx_query.specs.TopWords.{AskedTop, KeyRefusal, IsNoKey, count_of_word}
 use Rattle.vx_query.specs.Reports.{report_text}
 use Rattle.vx_request.specs.Requests.{RequestedScan, request_of, most_bytes, hex_bytes}
 use Rattle.vx_request.specs.declared.errors.RequestError.{RequestError}
-use Rattle.vx_query.specs.Refusals.{request_refusal_name, scan_refusal_name, text_refusal_name, break_name, refusal_line}
+use Rattle.vx_query.specs.Refusals.{request_refusal_name, scan_refusal_name, text_refusal_name, key_refusal_name, break_name, refusal_line}
 
 -- how an expression is shown: in a line, as a tree, or as the query that names it
 pub data Showing : Type 0 where
@@ -59,6 +63,7 @@ pub data Form : Type 0 where
   show_form : Showing → Bytes → Form
   text_form : Bytes → Form
   gen_form : ℕ → Form
+  top_form : AskedTop → Form
   help_form : Form
   version_form : Form
 
@@ -70,8 +75,18 @@ form_named argument =
     (cond (bytes_eq argument (codes "--help")) (Some help_form)
     (cond (bytes_eq argument (codes "--version")) (Some version_form) None)))
 
--- the form that arguments have; `built` may stand behind `scan`, any one word behind `show`, `show tree`, `show query` and `text`, and one that
--- tells a number of rows behind `gen`
+-- the form that asks the first so many rows by this key
+abbrev pub top_of : Bytes → Bool → ℕ → Form
+top_of key descending count = top_form (record { key = key; descending = descending; count = count })
+
+-- where a word is a direction, and another one tells a number of rows
+abbrev pub top_worded : Bytes → Bytes → Bytes → Option Form
+top_worded direction key word =
+    cond (bytes_eq direction (codes "asc")) (option_map (top_of key false) (count_of_word word))
+    (cond (bytes_eq direction (codes "desc")) (option_map (top_of key true) (count_of_word word)) None)
+
+-- the form that arguments have; `built` may stand behind `scan`, any one word behind `show`, `show tree`, `show query` and `text`, one that
+-- tells a number of rows behind `gen`, and any one word and a number of rows behind `top asc` and `top desc`
 abbrev pub form_of : List Bytes → Option Form
 form_of (argument ∷ []) = form_named argument
 form_of (first ∷ word ∷ []) =
@@ -82,12 +97,14 @@ form_of (first ∷ word ∷ []) =
 form_of (first ∷ second ∷ word ∷ []) =
     cond (bytes_eq first (codes "show") && bytes_eq second (codes "tree")) (Some (show_form as_tree word))
     (cond (bytes_eq first (codes "show") && bytes_eq second (codes "query")) (Some (show_form as_query word)) None)
+form_of (first ∷ direction ∷ key ∷ word ∷ []) = cond (bytes_eq first (codes "top")) (top_worded direction key word) None
 form_of _ = None
 
 -- whether arguments of this form read a request
 abbrev pub reads_request : Option Form → Bool
 reads_request (Some (scan_form s)) = true
 reads_request (Some explain_form) = true
+reads_request (Some (top_form top)) = true
 reads_request _ = false
 
 -- the statistics of a scan of a request, where the arguments have that form
@@ -109,6 +126,11 @@ asked_query _ = None
 abbrev pub asked_rows : Option Form → Option ℕ
 asked_rows (Some (gen_form rows)) = Some rows
 asked_rows _ = None
+
+-- the first rows that are asked of a request, where the arguments have that form
+abbrev pub asked_top : Option Form → Option AskedTop
+asked_top (Some (top_form top)) = Some top
+asked_top _ = None
 
 -- an end of the program: its bytes, to come or written, where they are told, and how many of its faults were counted
 pub record End : Type 0 where
@@ -150,6 +172,31 @@ scanned_store a f p = store_with a (scan_reads a f p)
 abbrev pub broken_store : RequestedScan → Tree → Tree → StoreSeen
 broken_store a f p = store_with a (reads_to_break (scan_table a) a.zones [] f p)
 
+-- the words that ask this
+abbrev pub words_of : TopAsk → AskedTop
+words_of ask = record { key = ask.key; descending = ask.descending; count = ask.count }
+
+-- the report of the first rows that are asked of a scan's table: these rows, over the blocks that aren't skipped, the skipped ones, and the reads
+abbrev pub top_report : RequestedScan → TopAsk → Bytes
+top_report a ask =
+    report_text (map value_text (top_rows_of ask (scan_table a) a.zones)) (top_skipped ask (scan_table a) a.zones)
+    (read_columns (scan_table a) (top_reads ask (scan_table a) a.zones)) (length (top_reads ask (scan_table a) a.zones))
+
+-- the store in which they were found: its reads are those by which they are; and the store of a search that broke: they are those up to the first phase
+-- that breaks
+abbrev pub topped_store : RequestedScan → TopAsk → StoreSeen
+topped_store a ask = store_with a (top_reads ask (scan_table a) a.zones)
+
+abbrev pub top_broken_store : RequestedScan → TopAsk → StoreSeen
+top_broken_store a ask = store_with a (top_reads_to_break ask (scan_table a) a.zones)
+
+-- whether a phase breaks in which they are found, and whether the first that does so breaks by this cause
+abbrev pub top_breaks : RequestedScan → TopAsk → Bool
+top_breaks a ask = some_top_phase_breaks ask (scan_table a) a.zones
+
+abbrev pub top_breaks_by : Cause → RequestedScan → TopAsk → Bool
+top_breaks_by cause a ask = first_top_breaks_by cause ask (scan_table a) a.zones
+
 -- the type of a scan's rows, or the refusal of its expressions
 abbrev pub type_of_scan : RequestedScan → Tree → Tree → Result Ty ScanError
 type_of_scan a f p = scan_type (row_type a.zones.columns) [] f p
@@ -175,6 +222,26 @@ pub record HoldsRefused (input : Bytes) (e : ScanError) : Type 0 where
   pub asked : RequestedScan
   pub held : request_of input ≡ Ok asked
   pub refused : IsScanRefused asked e
+
+-- an input that holds a scan whose texts spell two expressions, and of whose table a name is no key
+pub record HoldsNoKey (refusal : KeyRefusal) (key input : Bytes) : Type 0 where
+  pub asked : RequestedScan
+  pub held : request_of input ≡ Ok asked
+  pub filter : Tree
+  pub projection : Tree
+  pub spelled : SpellsScan asked filter projection
+  pub no_key : IsNoKey refusal key asked
+
+-- the key that the arguments ask is refused; those that ask no first rows ask none
+abbrev pub HasNoKey : Option Form → Bytes → Type 0
+HasNoKey (Some (top_form top)) input = (refusal : KeyRefusal) × HoldsNoKey refusal top.key input
+HasNoKey _ input = ⊥
+
+-- an input that holds the scan of a filter and a projection, of whose table the first rows are asked so: the key is a column of a plain type
+pub record HoldsTop (input : Bytes) (a : RequestedScan) (ask : TopAsk) : Type 0 where
+  pub scan : HoldsScan input a ask.filter_expr ask.projection
+  pub column : field_type ask.key a.zones.columns ≡ Some ask.key_type
+  pub plain : is_plain ask.key_type ≡ true
 
 -- a word of hexadecimal digits, two for each byte, whose bytes spell this expression
 pub record WordSpells (word : Bytes) (e : Tree) : Type 0 where
@@ -223,7 +290,8 @@ scan_breaks_by cause a f p = first_breaks_by cause (row_type a.zones.columns) []
 -- expressions are refused, one whose scan by some statistics breaks by a sum or a cast, one that is answered by the report of its scan by some statistics
 -- and one by an explanation; a word to be shown that is no hexadecimal text, one whose bytes spell no expression, and one that is shown; a query that names
 -- no expression, one of whose expression there are no bytes, for a type that is too deep or a part that is too long, and one of whose expression the bytes
--- are written; and a generated table of so many rows that is scanned
+-- are written; a generated table of so many rows that is scanned; and of those that ask first rows, one of whose table the key is refused, one that breaks
+-- where they are searched, and one that is answered by their report
 pub data Outcome : Type 0 where
   misused : Outcome
   helped : Outcome
@@ -243,6 +311,9 @@ pub data Outcome : Type 0 where
   overlong : Outcome
   named : Tree → Outcome
   summed : ℕ → Outcome
+  unkeyed : AskedTop → Bytes → KeyRefusal → Outcome
+  top_broken : Cause → Bytes → RequestedScan → TopAsk → Outcome
+  topped : Bytes → RequestedScan → TopAsk → Outcome
 
 -- the input was taken to its end, or to one byte more than the most, and no read failed; that many bytes are no request
 pub record IsTaken (before after : End) (input : Bytes) : Type 0 where
@@ -270,7 +341,8 @@ IsOutcome form before after versioned = (form ≡ Some version_form) × (after �
 IsOutcome form before after out_of_memory = IsCutShort form before after
 IsOutcome form before after unread = (reads_request form ≡ true) × (IsPartTaken before after × (one_more before.faults ≤ after.faults))
 IsOutcome form before after (refused input e) = (reads_request form ≡ true) × (IsTaken before after input × (request_of input ≡ Err e))
-IsOutcome form before after (unscanned input e) = (reads_request form ≡ true) × (IsTaken before after input × HoldsRefused input e)
+IsOutcome form before after (unscanned input e) =
+    (reads_request form ≡ true) × (IsTaken before after input × (HoldsRefused input e × (¬ (HasNoKey form input))))
 IsOutcome form before after (broken s cause input a f p) =
     (form ≡ Some (scan_form s)) × (IsTaken before after input × (HoldsScan input a f p × (scan_breaks_by cause (scan_by s a) f p ≡ true)))
 IsOutcome form before after (answered s input a f p) =
@@ -286,6 +358,12 @@ IsOutcome form before after overlong =
     ((query : Bytes) × (e : Tree) × (asked_query form ≡ Some query) × Names query e × IsShallow e × IsOverlong e) × (after ≡ before)
 IsOutcome form before after (named e) = ((query : Bytes) × (asked_query form ≡ Some query) × Names query e × HasBytes e) × (after ≡ before)
 IsOutcome form before after (summed rows) = (form ≡ Some (gen_form rows)) × (after ≡ before)
+IsOutcome form before after (unkeyed top input refusal) =
+    (form ≡ Some (top_form top)) × (IsTaken before after input × HoldsNoKey refusal top.key input)
+IsOutcome form before after (top_broken cause input a ask) =
+    (form ≡ Some (top_form (words_of ask))) × (IsTaken before after input × (HoldsTop input a ask × (top_breaks_by cause a ask ≡ true)))
+IsOutcome form before after (topped input a ask) =
+    (form ≡ Some (top_form (words_of ask))) × (IsTaken before after input × (HoldsTop input a ask × (top_breaks a ask ≡ false)))
 
 -- the text of `--version`
 abbrev pub version_text : Bytes
@@ -302,10 +380,11 @@ help_text =
     ++ (codes "vx show query HEX      prints the query that names it, as in: vx show query 04726f6f740000\n"
     ++ (codes "vx text QUERY          prints the bytes of the expression that a query names, as in: vx text 'x > 10i32'\n"
     ++ (codes "vx gen ROWS            prints what the scan of a generated table of so many rows gives, as in: vx gen 200\n"
+    ++ (codes "vx top asc KEY K < REQ prints the first K rows by a column (desc: greatest first), as in: vx top desc price 2 < examples/catalog.json\n"
     ++ (codes "vx --help              prints this text\n"
     ++ (codes "vx --version           prints the version\n"
     ++ (codes "exit status: 0 written whole, 2 wrong arguments, 3 no request or no hex, 4 refused expressions or query, 5 overflow or bad cast,\n"
-    ++ (codes "6 input not read, 7 output not written, 8 no memory\n")))))))))))
+    ++ (codes "6 input not read, 7 output not written, 8 no memory\n"))))))))))))
 
 -- the exit status of an outcome
 abbrev pub status_of : Outcome → ℕ
@@ -327,6 +406,9 @@ status_of unserialized = 4
 status_of overlong = 4
 status_of (named e) = 0
 status_of (summed rows) = 0
+status_of (unkeyed top input refusal) = 4
+status_of (top_broken cause input a ask) = 5
+status_of (topped input a ask) = 0
 
 -- the text that an outcome writes
 abbrev pub outcome_text : Outcome → Bytes
@@ -348,12 +430,17 @@ outcome_text unserialized = refusal_line (codes "NotSerializable")
 outcome_text overlong = refusal_line (codes "TooLong")
 outcome_text (named e) = bytes_line e
 outcome_text (summed rows) = gen_line rows
+outcome_text (unkeyed top input refusal) = refusal_line (key_refusal_name refusal)
+outcome_text (top_broken cause input a ask) = refusal_line (break_name cause)
+outcome_text (topped input a ask) = top_report a ask
 
 -- the store that is held after an outcome: the one that was scanned, where a report or the line of a generated table was made, or a phase broke
 abbrev pub used_by : Outcome → Option StoreSeen
 used_by (broken s cause input a f p) = Some (broken_store (scan_by s a) f p)
 used_by (answered s input a f p) = Some (scanned_store (scan_by s a) f p)
 used_by (summed rows) = Some (generated_store rows)
+used_by (top_broken cause input a ask) = Some (top_broken_store a ask)
+used_by (topped input a ask) = Some (topped_store a ask)
 used_by _ = None
 
 -- how a text is written: whole, or only a first part of it

@@ -94,7 +94,11 @@ fn built_of(alloc: Global, zones: &ZoneMap, blocks: &[Vec<ColumnRef>]) -> Mem<Zo
 }
 
 /// The store of blocks of columns that are a table with these zones. No read of it fails.
-fn store_of(alloc: Global, zones: ZoneMap, blocks: Vec<Vec<ColumnRef>>) -> Mem<MemoryStore>
+pub(crate) fn store_of(
+    alloc: Global,
+    zones: ZoneMap,
+    blocks: Vec<Vec<ColumnRef>>,
+) -> Mem<MemoryStore>
     requires { table_refusal zones (map block_view blocks.items) ≡ None }
     ensures { IfOk result (λ store. store ≡ new_store zones (map block_view blocks.items) []) }
 {
@@ -178,7 +182,7 @@ fn text_of(alloc: Global, report: &ScanReport, store: &MemoryStore) -> Mem<Strin
 }
 
 /// The names of the columns that were read at least once, in the table's order.
-fn columns_read(alloc: Global, store: &MemoryStore) -> Mem<Vec<FieldName>>
+pub(crate) fn columns_read(alloc: Global, store: &MemoryStore) -> Mem<Vec<FieldName>>
     ensures { IfOk result (λ names. names.items ≡ read_columns (table_of_blocks store.now.zones store.now.blocks) store.now.reads) }
 {
     let columns = store.zones().dtype().as_struct_fields_opt().unwrap();
@@ -186,7 +190,7 @@ fn columns_read(alloc: Global, store: &MemoryStore) -> Mem<Vec<FieldName>>
 }
 
 /// The texts of rows of a type.
-fn row_texts(alloc: Global, dtype: &DType, rows: &[ScalarValue]) -> Mem<Vec<String>>
+pub(crate) fn row_texts(alloc: Global, dtype: &DType, rows: &[ScalarValue]) -> Mem<Vec<String>>
     requires { values_fit (type_view dtype.now) rows.now ≡ true }
     ensures { IfOk result (λ texts. map string_bytes texts.items ≡ map value_text (seen_rows (type_view dtype.now) rows.now)) }
 {

@@ -1,5 +1,5 @@
 // What the exit status of a run tells.
-ghost use Rattle.std.specs.Prelude.{◌≡◌, ℕ, ◌<◌, ◌-◌, ◌^◌, true, false, Option, Some};
+ghost use Rattle.std.specs.Prelude.{◌≡◌, ℕ, ◌<◌, ◌-◌, ◌^◌, true, false, Option, Some, None};
 ghost use Rattle.vx_dtype.specs.Types.{Bytes};
 ghost use Rattle.vx_expr.specs.Trees.{Tree};
 ghost use Rattle.vx_semantics.specs.Breaks.{Cause};
@@ -14,7 +14,7 @@ ghost use Rattle.vx_query.specs.Causes.{told_breaks, told_breaks_by, whole_repor
 ghost use Rattle.vx_query.specs.Exactly.{Tells, RunsWell, EndsWith};
 ghost use Rattle.vx_query.specs.Refusals.{refusal_line, break_name};
 ghost use Rattle.vx_query.specs.WireLaws.{WireLaws};
-ghost use Rattle.vx_query.specs.Running.{End, Form, IsRun, reads_request, scan_by, scan_table, scan_report, scanned_store, broken_store, bytes_line};
+ghost use Rattle.vx_query.specs.Running.{End, Form, IsRun, asked_top, reads_request, scan_by, scan_table, scan_report, scanned_store, broken_store, bytes_line};
 ghost use Rattle.vx_query.specs.Running.{Showing, Statistics, given, scan_form, explain_form, show_form, text_form, gen_form, shown_text, WordSpells, Names, HasBytes};
 
 use vx_laws_scan::{kept_numbers_are_kept_blocks, kept_rows_are_all};
@@ -22,22 +22,23 @@ use vx_wire::{one_expression, one_tree};
 
 /// 3 and 4 of `scan`, `scan built` and `explain` mean that the input was taken and that the line of its one cause was written: it is no
 /// request; the expressions of its scan are refused. No store is held then. Which refusal a line tells is said by the laws of
-/// `refusal_causes`.
+/// `refusal_causes`. 3 of `top` means the same; what 4 of it means is said by `refused_searches_have_their_causes`.
 pub fn statuses_have_their_causes()
     ensures refused { (form : Option Form) (i i' o o' : End) (used : Option StoreSeen) → reads_request form ≡ true → IsRun form i i' o o' used 3
         → IsUnasked i i' o o' used }
-    ensures unscanned { (form : Option Form) (i i' o o' : End) (used : Option StoreSeen) → reads_request form ≡ true → IsRun form i i' o o' used 4
-        → IsUnscanned i i' o o' used }
+    ensures unscanned { (form : Option Form) (i i' o o' : End) (used : Option StoreSeen) → reads_request form ≡ true → asked_top form ≡ None
+        → IsRun form i i' o o' used 4 → IsUnscanned i i' o o' used }
 {}
 
-/// 5 means that the arguments are `scan` or `scan built`, that the input holds a scan of which a phase breaks by the statistics
+/// 5 of other arguments than `top` means that they are `scan` or `scan built`, that the input holds a scan of which a phase breaks by the statistics
 /// of these arguments, that the line of a cause was written by which the first phase that breaks does so, and that the store is
 /// held with the reads up to there. Where the sink tells the line, this is its cause. And a run of `scan` or `scan built` over a
 /// source that tells its bytes, which hold a scan some phase of which so breaks, ends so where there is memory and no end counts
-/// a fault.
+/// a fault. Of `top` `searches_break_exactly` says the same.
 pub fn breaks_exactly()
-    ensures only { (form : Option Form) (i i' o o' : End) (used : Option StoreSeen) → IsRun form i i' o o' used 5 → IsStopped form i i' o o' used }
-    ensures told { (cause : Cause) (form : Option Form) (i i' o o' : End) (used : Option StoreSeen)
+    ensures only { (form : Option Form) (i i' o o' : End) (used : Option StoreSeen) → asked_top form ≡ None → IsRun form i i' o o' used 5
+        → IsStopped form i i' o o' used }
+    ensures told { (cause : Cause) (form : Option Form) (i i' o o' : End) (used : Option StoreSeen) → asked_top form ≡ None
         → Tells form i i' o o' used 5 (refusal_line (break_name cause)) → HasBroken cause form i i' }
     ensures always { (s : Statistics) (i i' o o' : End) (used : Option StoreSeen) (status : ℕ) (told : TellsScan i) → told_breaks s told ≡ true
         → RunsWell (Some (scan_form s)) i i' o o' used status → ¬ (HasRisen i i')
@@ -74,12 +75,12 @@ pub fn reports_are_typed()
     ensures { (s : Statistics) (i i' o o' : End) (used : Option StoreSeen) → IsRun (Some (scan_form s)) i i' o o' used 0 → IsReported s i i' o o' used }
 {}
 
-/// The store that is held after the scan of a request has just the reads of the scan that the arguments and the input ask, up to the end of its first phase that
+/// The store that is held after `scan` or `scan built` has just the reads of the scan that the arguments and the input ask, up to the end of its first phase that
 /// breaks where one does: each is of a block that its statistics don't rule out, and of a column that the filter asks or, where
-/// this means true at some row of the block, the projection; and none stands twice.
+/// this means true at some row of the block, the projection; and none stands twice. Of `top` `searches_ask_their_reads` says which reads it has.
 pub fn reads_are_asked()
-    ensures { (form : Option Form) (i i' o o' : End) (store : StoreSeen) (status : ℕ) → reads_request form ≡ true → IsRun form i i' o o' (Some store) status
-        → HasAskedReads form i i' store }
+    ensures { (form : Option Form) (i i' o o' : End) (store : StoreSeen) (status : ℕ) → reads_request form ≡ true → asked_top form ≡ None
+        → IsRun form i i' o o' (Some store) status → HasAskedReads form i i' store }
 {
     kept_numbers_are_kept_blocks();
 }

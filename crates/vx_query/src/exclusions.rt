@@ -1,13 +1,15 @@
 // Of one input, of one word and of one query at most one thing is told.
-ghost use Rattle.vx_query.specs.Exclusions.{InputsMeanOne, WordsMeanOne, QueriesMeanOne};
+ghost use Rattle.vx_query.specs.Exclusions.{InputsMeanOne, KeysMeanOne, WordsMeanOne, QueriesMeanOne};
 
 use crate::causes::wire_laws;
 
 /// The causes of what a run tells exclude one another: an input is no request for one reason, is one whose expressions are
-/// refused for one reason, or holds one scan, and only one of the three; a word is no hexadecimal text, is refused for one
+/// refused for one reason, or holds one scan, and only one of the three; a key is refused for one reason, or is that of one search,
+/// and only where the input is a request whose texts spell expressions; a word is no hexadecimal text, is refused for one
 /// reason, or spells one expression; a query names one expression, and isn't refused where this has bytes.
 pub fn causes_exclude_one_another()
     ensures inputs { InputsMeanOne }
+    ensures keys { KeysMeanOne }
     ensures words { WordsMeanOne }
     ensures queries { QueriesMeanOne }
 {

@@ -1,11 +1,12 @@
 // What the exit status of a run tells of the form of its arguments.
-ghost use Rattle.std.specs.Prelude.{◌≡◌, ℕ, false, Option, None, Some};
+ghost use Rattle.std.specs.Prelude.{◌≡◌, ◌⊎◌, ℕ, false, Option, None, Some};
 ghost use Rattle.vx_dtype.specs.Types.{Bytes};
 ghost use Rattle.vx_io.specs.Ends.{Added};
 ghost use Rattle.vx_scan.specs.Stores.{StoreSeen};
 ghost use Rattle.vx_explain.specs.Explanations.{explain_text};
 ghost use Rattle.vx_query.specs.Causes.{HasRisen, IsExplained, IsShown, IsMisuse, IsTold, IsUndigited, IsUnshown, IsUnnamed, TellsScan};
-ghost use Rattle.vx_query.specs.Running.{End, Form, IsRun, Showing, Statistics, asked_rows, asked_statistics, reads_request, shown_word, scan_form, explain_form, show_form, text_form, shown_text};
+ghost use Rattle.vx_query.specs.Running.{End, Form, IsRun, Showing, Statistics, asked_rows, asked_statistics, asked_top, reads_request, shown_word, scan_form, explain_form, show_form, text_form, top_form, shown_text};
+ghost use Rattle.vx_query.specs.TopWords.{AskedTop};
 ghost use Rattle.vx_query.specs.Running.{help_form, version_form, help_text, version_text};
 
 use crate::causes::wire_laws;
@@ -18,12 +19,12 @@ pub fn usage_exactly()
         → IsMisuse i i' o o' used status }
 {}
 
-/// Only `scan` and `scan built` end with 5, and they and `gen` alone hold a store; arguments that read no request take nothing of the source.
+/// Only `scan`, `scan built` and `top` end with 5, and they and `gen` alone hold a store; arguments that read no request take nothing of the source.
 pub fn scans_alone_break_and_hold()
     ensures breaks { (form : Option Form) (i i' o o' : End) (used : Option StoreSeen) → IsRun form i i' o o' used 5
-        → (s : Statistics) × (form ≡ Some (scan_form s)) }
+        → ((s : Statistics) × (form ≡ Some (scan_form s))) ⊎ ((top : AskedTop) × (form ≡ Some (top_form top))) }
     ensures holds { (form : Option Form) (i i' o o' : End) (used : Option StoreSeen) (status : ℕ) → asked_statistics form ≡ None
-        → asked_rows form ≡ None → IsRun form i i' o o' used status → used ≡ None }
+        → asked_rows form ≡ None → asked_top form ≡ None → IsRun form i i' o o' used status → used ≡ None }
     ensures takes { (form : Option Form) (i i' o o' : End) (used : Option StoreSeen) (status : ℕ) → reads_request form ≡ false
         → IsRun form i i' o o' used status → i' ≡ i }
 {}

@@ -2,10 +2,11 @@
 ghost use Rattle.std.specs.Prelude.{◌≡◌, map, option_map};
 ghost use Rattle.std.specs.String.{string_bytes};
 ghost use Rattle.vx_query.specs.GeneratedWords.{rows_of_word};
-ghost use Rattle.vx_query.specs.Running.{form_of, gen_form};
+ghost use Rattle.vx_query.specs.TopWords.{count_of_word};
+ghost use Rattle.vx_query.specs.Running.{form_of, gen_form, top_of, top_worded};
 ghost use Rattle.vx_query.specs.RunViews.{form_view};
 
-use crate::row_words::rows_of_word;
+use crate::number_words::{count_of_word, rows_of_word};
 
 /// How an expression is shown.
 #[derive(Clone, Copy)]
@@ -27,6 +28,14 @@ pub(crate) enum Statistics {
     Built,
 }
 
+/// The first so many rows by the column of this name, with the greatest keys first where the order descends.
+#[derive(Clone, Copy)]
+pub(crate) struct Top<'a> {
+    pub(crate) key: &'a str,
+    pub(crate) descending: bool,
+    pub(crate) count: u32,
+}
+
 /// A form of arguments: what the program is to do.
 #[derive(Drop)]
 pub(crate) enum Form<'a> {
@@ -40,6 +49,8 @@ pub(crate) enum Form<'a> {
     Text(&'a str),
     /// Scans the generated table of this many rows.
     Generated(u32),
+    /// Finds the first rows of a request's table by a key.
+    Top(Top<'a>),
     /// Tells the forms.
     Help,
     /// Tells the version.
@@ -69,6 +80,9 @@ pub(crate) fn form_of(arguments: &[String]) -> Option<Form<'_>>
         [first, second, hex] if first.as_str() == "show" && second.as_str() == "query" => {
             Some(Form::Show(Showing::Query, hex.as_str()))
         }
+        [first, direction, key, word] if first.as_str() == "top" => {
+            first_rows_form(direction.as_str(), key.as_str(), word.as_str())
+        }
         _ => None,
     }
 }
@@ -79,6 +93,31 @@ fn generated_form<'a>(word: &str) -> Option<Form<'a>>
 {
     match rows_of_word(word) {
         Some(rows) => Some(Form::Generated(rows)),
+        None => None,
+    }
+}
+
+/// The form of `top` with this direction, key and word, none where there is no such direction, or the word tells no number of rows.
+fn first_rows_form<'a>(direction: &str, key: &'a str, word: &str) -> Option<Form<'a>>
+    ensures { option_map form_view result ≡ top_worded direction.now key.now word.now }
+{
+    match direction {
+        "asc" => counted_form(key, false, word),
+        "desc" => counted_form(key, true, word),
+        _ => None,
+    }
+}
+
+/// The form of `top` with this key, direction and word, none where the word tells no number of rows.
+fn counted_form<'a>(key: &'a str, descending: bool, word: &str) -> Option<Form<'a>>
+    ensures { option_map form_view result ≡ option_map (top_of key.now descending) (count_of_word word.now) }
+{
+    match count_of_word(word) {
+        Some(count) => Some(Form::Top(Top {
+            key,
+            descending,
+            count,
+        })),
         None => None,
     }
 }

@@ -1,4 +1,5 @@
-//! The program as a call over two ends: the scan that an input holds, its report and its explanation, expressions that are shown, queries, and refusals.
+//! The program as a call over two ends: the scan that an input holds, its report, its explanation and its first rows, expressions that are shown, queries,
+//! and refusals.
 #![tactic(auto)]
 
 mod answers;
@@ -10,15 +11,17 @@ mod exclusions;
 mod form_causes;
 mod forms;
 mod generated_causes;
+mod number_words;
 mod queries;
 mod query_causes;
 mod refusal_causes;
 mod refusals;
 mod reports;
-mod row_words;
 mod running;
 mod statuses;
 mod texts;
+mod top_causes;
+mod tops;
 
 pub use block_agreement::requested_blocks_agree;
 pub use built_causes::built_reports_are_whole;
@@ -33,6 +36,7 @@ pub use form_causes::{
     scans_alone_break_and_hold, shown_texts_are_spelled, usage_exactly,
 };
 pub use generated_causes::generated_scans_are_summed;
+pub use number_words::{words_tell_counts, words_tell_rows};
 pub use query_causes::{text_is_named_exactly, texts_say_why};
 pub use refusal_causes::{
     bad_hex_exactly, bad_json_exactly, bad_request_exactly, bad_table_exactly,
@@ -40,6 +44,10 @@ pub use refusal_causes::{
     typing_refusals_exactly, wire_refusals_exactly,
 };
 pub use reports::report_text;
-pub use row_words::words_tell_rows;
 pub use running::run;
+pub use top_causes::{
+    first_rows_are_complete, first_rows_are_of_the_request, honest_first_rows_are_of_all_rows,
+    keys_are_refused_exactly, refused_searches_have_their_causes, searches_ask_their_reads,
+    searches_break_exactly, searches_find_typed_rows,
+};
 pub use vx_io::{Sink, Source};

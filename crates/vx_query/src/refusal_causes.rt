@@ -12,7 +12,7 @@ ghost use Rattle.vx_request.specs.declared.errors.TableRefusal.{TableRefusal};
 ghost use Rattle.vx_query.specs.Refusals.{place_name, side_name, table_refusal_name, scanned_side_name, scan_refusal_name};
 ghost use Rattle.vx_query.specs.RequestCauses.{IsTooLong, IsNoJson, IsMisformed, HasBadHex, HasBadTable};
 ghost use Rattle.vx_query.specs.ExpressionCauses.{HoldsBadText, HoldsIllTyped, HoldsNoBoolean};
-ghost use Rattle.vx_query.specs.Exactly.{RequestsEndSo, WordsEndSo};
+ghost use Rattle.vx_query.specs.Exactly.{RequestsEndSo, ExpressionsEndSo, WordsEndSo};
 ghost use Rattle.vx_query.specs.Running.{WordIsRefused};
 
 use crate::causes::wire_laws;
@@ -76,16 +76,17 @@ pub fn build_refusals_exactly()
 }
 
 /// NotStruct, NullableSelect, UnknownField, DuplicateField and TypeMismatch are told with a side exactly where the strict
-/// typing of this expression over the rows of the table refuses so; of the projection, where the filter is a boolean.
+/// typing of this expression over the rows of the table refuses so; of the projection, where the filter is a boolean. With `top` they come behind the
+/// key: where this is refused they aren't told.
 pub fn typing_refusals_exactly()
-    ensures { (side : ScannedSide) (r : Refusal) → RequestsEndSo 4 (scan_refusal_name (typing_error side r)) (HoldsIllTyped side r) }
+    ensures { (side : ScannedSide) (r : Refusal) → ExpressionsEndSo 4 (scan_refusal_name (typing_error side r)) (HoldsIllTyped side r) }
 {
     wire_laws();
 }
 
-/// FilterNotBool is told exactly where the filter has a strict type that isn't the boolean one.
+/// FilterNotBool is told exactly where the filter has a strict type that isn't the boolean one; with `top` behind the key, likewise.
 pub fn filter_not_bool_exactly()
-    ensures { RequestsEndSo 4 (codes "FilterNotBool") HoldsNoBoolean }
+    ensures { ExpressionsEndSo 4 (codes "FilterNotBool") HoldsNoBoolean }
 {
     wire_laws();
 }

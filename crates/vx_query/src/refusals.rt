@@ -11,7 +11,7 @@ use vx_request::{Place, RequestError, Side, TableRefusal};
 use vx_scan::{ScanError, Side as ScannedSide};
 use vx_text::TextError;
 
-/// Why an input has no report or explanation, a word is not shown, or a query has no bytes.
+/// Why an input has no report, no first rows or no explanation, a word is not shown, or a query has no bytes.
 #[derive(PartialEq, Eq, Debug, Drop)]
 pub(crate) enum Refusal {
     /// There was no memory.
@@ -38,6 +38,10 @@ pub(crate) enum Refusal {
     NotSerializable,
     /// A part of the expression that the query names is longer than the wire form allows.
     LongPart,
+    /// The request's table has no column of the name of the key.
+    UnknownKey,
+    /// The type of the column of this name isn't plain: it is a list or a struct.
+    BadKey,
 }
 
 impl Refusal {
@@ -54,9 +58,12 @@ impl Refusal {
             | Refusal::BadHex(_)
             | Refusal::BadTable(_)
             | Refusal::BadHexText => NO_REQUEST,
-            Refusal::Scan(_) | Refusal::Query(_) | Refusal::NotSerializable | Refusal::LongPart => {
-                REFUSED
-            }
+            Refusal::Scan(_)
+            | Refusal::Query(_)
+            | Refusal::NotSerializable
+            | Refusal::LongPart
+            | Refusal::UnknownKey
+            | Refusal::BadKey => REFUSED,
         }
     }
 
@@ -78,6 +85,8 @@ impl Refusal {
             Refusal::Query(error) => query_line(*error),
             Refusal::NotSerializable => "error: NotSerializable\n",
             Refusal::LongPart => "error: TooLong\n",
+            Refusal::UnknownKey => "error: UnknownKey\n",
+            Refusal::BadKey => "error: BadKey\n",
         }
     }
 }

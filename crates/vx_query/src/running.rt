@@ -1,20 +1,21 @@
 // The program as a call.
 ghost use Rattle.std.specs.Prelude.{◌≡◌, map, option_map, Some, None, IfOk, IfErr, IsErr};
 ghost use Rattle.std.specs.String.{string_bytes};
-ghost use Rattle.vx_query.specs.Running.{End, Outcome, Writing, IsOutcome, IsRun, IsWriting, end_by, form_of, explain_form, gen_form, scan_form, status_of, outcome_text, used_by};
+ghost use Rattle.vx_query.specs.Running.{End, Outcome, Writing, IsOutcome, IsRun, IsWriting, end_by, form_of, explain_form, gen_form, scan_form, top_form, status_of, outcome_text, used_by};
 ghost use Rattle.vx_scan.specs.StoreViews.{store_seen};
 ghost use Rattle.vx_query.specs.EndingViews.{ending_status, ending_text};
-ghost use Rattle.vx_query.specs.RunViews.{statistics_view};
+ghost use Rattle.vx_query.specs.RunViews.{statistics_view, top_view};
 ghost use Rattle.vx_query.specs.RefusalViews.{refusal_status, refusal_text};
 ghost use Rattle.vx_query.specs.TextViews.{IsAnsweredBy, answer_status, answer_text};
 
 use crate::answers::answer;
 use crate::endings::Ending;
-use crate::forms::{Form, Statistics, form_of};
+use crate::forms::{Form, Statistics, Top, form_of};
 use crate::queries::query_bytes;
 use crate::refusals::Refusal;
 use crate::statuses::{MISUSED, UNWRITTEN, WRITTEN};
 use crate::texts::{explanation, shown};
+use crate::tops::top_answer;
 use std::alloc::Global;
 use vx_dtype::NoMemory;
 use vx_generated::{GeneratedScan, scan_generated};
@@ -25,7 +26,7 @@ use vx_scan::MemoryStore;
 const USAGE: &str = "error: Usage\n";
 
 const HELP: &str =
-    "vx scan < REQUEST      prints the selected rows, the skipped blocks and the columns read, as in: vx scan < examples/first.json\nvx scan built < REQ    prints the same by the statistics that the table has, as in: vx scan built < examples/built.json\nvx explain < REQUEST   prints what a scan does with its filter and its projection, as in: vx explain < examples/explain.json\nvx show HEX            prints the expression that the bytes spell, as in: vx show 04726f6f740000\nvx show tree HEX       prints it as a tree, as in: vx show tree 04726f6f740000\nvx show query HEX      prints the query that names it, as in: vx show query 04726f6f740000\nvx text QUERY          prints the bytes of the expression that a query names, as in: vx text 'x > 10i32'\nvx gen ROWS            prints what the scan of a generated table of so many rows gives, as in: vx gen 200\nvx --help              prints this text\nvx --version           prints the version\nexit status: 0 written whole, 2 wrong arguments, 3 no request or no hex, 4 refused expressions or query, 5 overflow or bad cast,\n6 input not read, 7 output not written, 8 no memory\n";
+    "vx scan < REQUEST      prints the selected rows, the skipped blocks and the columns read, as in: vx scan < examples/first.json\nvx scan built < REQ    prints the same by the statistics that the table has, as in: vx scan built < examples/built.json\nvx explain < REQUEST   prints what a scan does with its filter and its projection, as in: vx explain < examples/explain.json\nvx show HEX            prints the expression that the bytes spell, as in: vx show 04726f6f740000\nvx show tree HEX       prints it as a tree, as in: vx show tree 04726f6f740000\nvx show query HEX      prints the query that names it, as in: vx show query 04726f6f740000\nvx text QUERY          prints the bytes of the expression that a query names, as in: vx text 'x > 10i32'\nvx gen ROWS            prints what the scan of a generated table of so many rows gives, as in: vx gen 200\nvx top asc KEY K < REQ prints the first K rows by a column (desc: greatest first), as in: vx top desc price 2 < examples/catalog.json\nvx --help              prints this text\nvx --version           prints the version\nexit status: 0 written whole, 2 wrong arguments, 3 no request or no hex, 4 refused expressions or query, 5 overflow or bad cast,\n6 input not read, 7 output not written, 8 no memory\n";
 
 const VERSION: &str = "vx 0.1.0\n";
 
@@ -39,16 +40,20 @@ const VERSION: &str = "vx 0.1.0\n";
 /// writes it as a tree, and `show query` with one as the query that names it. `text` with a query behind it writes the bytes of the expression that the query names, two
 /// hexadecimal digits for each. `gen` with a number of rows behind it, at most 200,000 in decimal digits, scans the generated table of so many rows and
 /// writes how many blocks it has and how many were skipped, how many rows were answered, and the sum of their numbers. `--help` and `--version` write
-/// their texts. These take nothing. The exit status is
+/// their texts. These take nothing.
+///
+/// `top asc` with a column's name and a number of rows behind it, at most 1,048,576 in decimal digits, takes the input likewise and writes the report of
+/// so many rows of the scan: those with the least values of the column, the key, in its order, and rows of one key in the table's; with `top desc` those
+/// with the greatest. Null stands behind all other keys. Blocks that can't hold such a row behind those that were found are skipped too. The exit status is
 ///
 /// - 0 where the text was written whole;
 /// - 2 where the arguments have none of these forms;
 /// - 3 exactly where the input is no request, or the word to be shown is no hexadecimal text;
-/// - 4 exactly where the request's byte texts spell no two expressions, or these are not strictly typed for its table,
-///   the filter a boolean; where the bytes to be shown spell no expression; or where the query names no expression, or one
+/// - 4 exactly where the request's byte texts spell no two expressions, where the key that is asked is no column of a
+///   plain type, or where the expressions are not strictly typed for the request's table, the filter a boolean; where the bytes to be shown spell no expression; or where the query names no expression, or one
 ///   that has no bytes;
 /// - 5 only where a phase of the scan breaks, and by a cause by which the first one that does so breaks, never for other
-///   arguments than `scan` and `scan built`;
+///   arguments than `scan`, `scan built` and `top`;
 /// - 6 only where the source counted a fault;
 /// - 7 only where the sink did, and then the first bytes of the text or line were written;
 /// - 8 where there was no memory.
@@ -60,7 +65,7 @@ const VERSION: &str = "vx 0.1.0\n";
 /// place, BadHex with `filter`, `projection` or `text`, and BadTable with the name of the table's refusal; BadWire, TooDeep,
 /// TooManyNodes, UnknownExpr, BadMetadata and WrongChildren, each with `filter`, `projection` or `text`, NotStruct,
 /// NullableSelect, UnknownField, DuplicateField and TypeMismatch, each with `filter` or `projection`, and FilterNotBool;
-/// Overflow and BadCast. What is shown is refused with `text`. A query is refused with TooLong, BadToken, TooManyTokens,
+/// UnknownKey and BadKey; Overflow and BadCast. What is shown is refused with `text`. A query is refused with TooLong, BadToken, TooManyTokens,
 /// BadQuery or BadValue, and NotSerializable where a type deeper than 64 stands in it. The lines take no memory.
 ///
 /// Afterwards `used` holds the store that was scanned where a report or the line of a generated table was made or a phase broke, also where the writing
@@ -89,6 +94,25 @@ pub fn run<I: Source, O: Sink>(
             Ok(ending) => write(output, ending.text(), ending.status()),
             Err(refusal) => write(output, refusal.line(), refusal.status()),
         },
+        Some(Form::Top(top)) => write_top(alloc, top, input, output, used),
+    }
+}
+
+/// Takes the input, finds the first rows that are asked of it, writes their report or the line of its refusal, and holds the store that was searched.
+fn write_top<I: Source, O: Sink>(
+    alloc: Global,
+    top: Top<'_>,
+    input: &mut I,
+    output: &mut O,
+    used: &mut Option<MemoryStore>,
+) -> u8
+    requires { used.old ≡ None }
+    ensures { let source = end_by I.left I.faults in let sink = end_by O.written O.faults in IsRun (Some (top_form (top_view top.entry)))
+        (source input.old) (source input.new) (sink output.old) (sink output.new) (option_map store_seen used.new) result }
+{
+    match top_input(alloc, top, input, used) {
+        Ok(ended) => write(output, ended.text(), ended.status()),
+        Err(refusal) => write(output, refusal.line(), refusal.status()),
     }
 }
 
@@ -144,6 +168,27 @@ fn scan_input<I: Source>(
     let scanned = answer(alloc, bytes.as_slice(), statistics)?;
     *used = Some(scanned.store);
     Ok(scanned.ending)
+}
+
+/// Takes the input and finds the first rows that are asked of what it holds.
+fn top_input<I: Source>(
+    alloc: Global,
+    top: Top<'_>,
+    input: &mut I,
+    used: &mut Option<MemoryStore>,
+) -> Result<Ending, Refusal>
+    ensures told { let source = end_by I.left I.faults in IfOk result (λ ending. (outcome : Outcome)
+        × IsOutcome (Some (top_form (top_view top.entry))) (source input.old) (source input.new) outcome × (status_of outcome ≡ ending_status ending)
+        × (outcome_text outcome ≡ ending_text ending) × (option_map store_seen used.new ≡ used_by outcome)) }
+    ensures refused { let source = end_by I.left I.faults in IfErr result
+        (λ refusal. (outcome : Outcome) × IsOutcome (Some (top_form (top_view top.entry))) (source input.old) (source input.new) outcome
+        × (status_of outcome ≡ refusal_status refusal) × (outcome_text outcome ≡ refusal_text refusal) × (used_by outcome ≡ None)) }
+    ensures unused { IsErr result → used.new ≡ used.old }
+{
+    let bytes = read_up_to(alloc, MOST_BYTES + 1, input)?;
+    let searched = top_answer(alloc, bytes.as_slice(), top)?;
+    *used = Some(searched.store);
+    Ok(searched.ending)
 }
 
 /// Writes the text of an answer, or the line of its refusal, as [`write`] does.

@@ -1,9 +1,9 @@
 use Rattle.std.proofs.Common.{◌∙◌, sym, ap, refl, map, option_map, Some, None}
 use Rattle.std.specs.String.{string_bytes}
-use Rattle.vx_query.specs.Running.{end_by, form_of, explain_form, show_form, text_form, gen_form, misused, helped, versioned}
+use Rattle.vx_query.specs.Running.{end_by, form_of, explain_form, show_form, text_form, gen_form, scan_form, top_form, misused, helped, versioned}
 use Rattle.vx_scan.specs.StoreViews.{store_seen}
-use Rattle.vx_query.specs.RunViews.{form_view, showing_view, statistics_view}
-use Rattle.vx_query.proofs.OutcomeLemmas.{run_of, run_told, run_answered, run_ended, word_shown, query_answered}
+use Rattle.vx_query.specs.RunViews.{form_view, showing_view, statistics_view, top_view}
+use Rattle.vx_query.proofs.OutcomeLemmas.{run_of, run_told, run_same, run_answered, run_ended, word_shown, query_answered}
 use Rattle.vx_query.proofs.running.run.Goals as goal
 
 pub returns-in-None : goal.returns-in-None
@@ -58,7 +58,7 @@ pub returns-in-Ok : goal.returns-in-Ok
 returns-in-Ok g c =
     let source = end_by g.I.Source.left g.I.Source.faults in
     let sink = end_by g.O.Sink.written g.O.Sink.faults in
-    run_ended (statistics_view c.in-Some-Scan.statistics) (form_of (map string_bytes c.args.arguments.now)) (source c.args.input.now) (source c.scan_input.new.input) (sink c.args.output.now) (sink c.write-in-Ok.new.output)
+    run_ended (Some (scan_form (statistics_view c.in-Some-Scan.statistics))) (form_of (map string_bytes c.args.arguments.now)) (source c.args.input.now) (source c.scan_input.new.input) (sink c.args.output.now) (sink c.write-in-Ok.new.output)
     (option_map store_seen c.scan_input.new.used) c.write-in-Ok.result c.status.result c.text.result.now c.in-Ok.ending
     (sym c.form_of.ensures ∙ ap (option_map form_view) (c.in-Some-Scan.is ∙ ap Some c.in-Some-Scan.field-0-is)) c.in-Ok.ensures.told c.status.ensures c.text.ensures
     c.write-in-Ok.ensures
@@ -72,3 +72,11 @@ returns-in-Some-Generated g c =
     run_told (form_of (map string_bytes c.args.arguments.now)) (Some (gen_form rows)) source source (sink c.args.output.now) (sink c.write_generated.new.output)
     (option_map store_seen c.write_generated.new.used) c.write_generated.result told.0
     (sym c.form_of.ensures ∙ ap (option_map form_view) (c.in-Some-Generated.is ∙ ap Some c.in-Some-Generated.field-0-is)) told.1 told.2 told.3
+
+pub returns-in-Some-Top : goal.returns-in-Some-Top
+returns-in-Some-Top g c =
+    let source = end_by g.I.Source.left g.I.Source.faults in
+    let sink = end_by g.O.Sink.written g.O.Sink.faults in
+    run_same (form_of (map string_bytes c.args.arguments.now)) (Some (top_form (top_view c.in-Some-Top.top))) (source c.args.input.now) (source c.write_top.new.input)
+    (sink c.args.output.now) (sink c.write_top.new.output) (option_map store_seen c.write_top.new.used) c.write_top.result
+    (sym c.form_of.ensures ∙ ap (option_map form_view) (c.in-Some-Top.is ∙ ap Some c.in-Some-Top.field-0-is)) c.write_top.ensures

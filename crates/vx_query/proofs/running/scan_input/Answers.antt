@@ -23,7 +23,7 @@ returns-in_err-scanned-clause-refused g c =
     let taken = taken_as before after c.in_ok-bytes.bytes.items c.as_slice.result.now c.as_slice.ensures.value c.in_ok-bytes.ensures.taken c.in_ok-bytes.ensures.within c.in_ok-bytes.ensures.quiet in
     let form = Some (scan_form (statistics_view c.args.statistics)) in
     refused_by form before after c.in_err-scanned.field-0.0 c.from_residual-in_err-scanned.result c.from_residual-in_err-scanned.ensures.1
-    (refused_taken form refl before after c.as_slice.result.now c.in_err-scanned.field-0.0 c.in_ok-bytes.ensures.part taken c.in_err-scanned.ensures.refused)
+    (refused_taken form refl before after c.as_slice.result.now c.in_err-scanned.field-0.0 (λ none. none) c.in_ok-bytes.ensures.part taken c.in_err-scanned.ensures.refused)
 
 pub returns-clause-told : goal.returns-clause-told
 returns-clause-told g c =

@@ -1,0 +1,34 @@
+use Rattle.std.proofs.Common.{ap, refl, Some, Err}
+use Rattle.vx_scan.specs.StoreViews.{store_seen}
+use Rattle.vx_query.specs.RefusalViews.{input_refusal}
+use Rattle.vx_query.specs.Running.{end_by, top_form}
+use Rattle.vx_query.specs.RunViews.{top_view}
+use Rattle.vx_query.proofs.OutcomeLemmas.{refused_unread, refused_by, taken_as, searched_taken, unsearched_taken}
+use Rattle.vx_query.proofs.running.top_input.Goals as goal
+
+pub returns-in_err-bytes-clause-refused : goal.returns-in_err-bytes-clause-refused
+returns-in_err-bytes-clause-refused g c =
+    let source = end_by g.I.Source.left g.I.Source.faults in
+    let before = source c.args.input.now in
+    let after = source c.read_up_to.new.input in
+    let form = Some (top_form (top_view c.args.top)) in
+    refused_by form before after (input_refusal c.in_err-bytes.field-0.0) c.from_residual.result c.from_residual.ensures.1
+    (refused_unread form refl before after c.in_err-bytes.field-0.0 c.in_err-bytes.ensures.part (λ e. c.in_err-bytes.ensures.memory (ap Err e)) (λ e. c.in_err-bytes.ensures.cause (ap Err e)))
+
+pub returns-in_err-searched-clause-refused : goal.returns-in_err-searched-clause-refused
+returns-in_err-searched-clause-refused g c =
+    let source = end_by g.I.Source.left g.I.Source.faults in
+    let before = source c.args.input.now in
+    let after = source c.read_up_to.new.input in
+    let taken = taken_as before after c.in_ok-bytes.bytes.items c.as_slice.result.now c.as_slice.ensures.value c.in_ok-bytes.ensures.taken c.in_ok-bytes.ensures.within c.in_ok-bytes.ensures.quiet in
+    let top = top_view c.args.top in
+    refused_by (Some (top_form top)) before after c.in_err-searched.field-0.0 c.from_residual-in_err-searched.result c.from_residual-in_err-searched.ensures.1
+    (unsearched_taken top before after c.as_slice.result.now c.in_err-searched.field-0.0 c.in_ok-bytes.ensures.part taken c.in_err-searched.ensures.refused)
+
+pub returns-clause-told : goal.returns-clause-told
+returns-clause-told g c =
+    let source = end_by g.I.Source.left g.I.Source.faults in
+    let before = source c.args.input.now in
+    let after = source c.read_up_to.new.input in
+    let taken = taken_as before after c.in_ok-bytes.bytes.items c.as_slice.result.now c.as_slice.ensures.value c.in_ok-bytes.ensures.taken c.in_ok-bytes.ensures.within c.in_ok-bytes.ensures.quiet in
+    searched_taken (top_view c.args.top) before after c.as_slice.result.now c.in_ok-searched.searched.ending (store_seen c.in_ok-searched.searched.store) taken c.in_ok-searched.ensures.answered
