@@ -12,6 +12,7 @@ import subprocess
 import sys
 
 import generated
+import tops
 from wire import ROOT, TRUE, binary, cast, contains, item, like, lit, merge, negated, node, pack, request, select, struct
 
 CRATES = os.path.dirname(os.path.dirname(os.path.dirname(os.path.abspath(__file__))))
@@ -302,12 +303,88 @@ WORDS = [
     ("the version", ["--version"], b"", "vx 0.1.0", 0),
 ]
 
+# the first rows by a key: the columns, their blocks, the statistics
+X64 = [("x", "i64")]
+FIVE_ONE = request(X64, [[[5, 1]], [[7, 9]], [[3]]], TRUE, X, [(["x"], "min", [1, 7, 3]), (["x"], "max", [5, 9, 3])])
+NULL_TWO = request([("x", "i32?")], [[[None, 2]]], TRUE, X)
+XV = [("x", "i32?"), ("v", "u8")]
+V = item("v")
+TIED = request(XV, [[[2, 1], [10, 11]], [[2, 2], [12, 13]], [[2, 1], [14, 15]], [[2], [16]]], TRUE, V,
+               [(["x"], "min", [1, 2, 1, 2]), (["x"], "max", [2, 2, 2, 2])])
+NULLS = request(XV, [[[None, None], [10, 11]], [[3], [12]], [[None, 1], [13, 14]]], TRUE, V, [(["x"], "min", [None, 3, 1]), (["x"], "max", [None, 3, 1])])
+TEXTS = request([("s", "utf8"), ("v", "u8")], [[["b", "a"], [1, 2]], [["c", "Z"], [3, 4]], [["ab", ""], [5, 6]]], TRUE, V)
+TRUTHS = request([("b", "bool?"), ("v", "u8")], [[[True, None, False, False], [1, 2, 3, 4]]], TRUE, V)
+KEYS = [("x", "i32"), ("l", {"list": "i32", "nullable": True}), ("s", struct(a="i32")), ("", "u8"), ("a b", "i8")]
+KEYED = request(KEYS, [[[1, 2], [None, []], [{"a": 1}, {"a": 2}], [9, 8], [3, 4]]], TRUE, X)
+SUMS = request(X8, [[[1]], [[127]]], TRUE, NEXT, [(["x"], "min", [1, 127]), (["x"], "max", [1, 127])])
+NAMED = request([("x", "i32"), ("v", "u8")], [[[1, 2], [10, 11]], [[5, 0], [12, 13]]], binary(X, ">", lit("i32", 0)), V)
+LOST = request(X32, [[[5]], [[1]]], TRUE, X, [(["x"], "min", [5, 9])])
+GENERATED, GENERATED_STATS = tops.generated(200)
+GENERATED_TABLE = request([("id", "i64"), ("v", "i32?")], [[[i for _, i in b], [v for v, _ in b]] for b in GENERATED], TRUE, item("id"), GENERATED_STATS)
+DIRECTIONS = [("asc", False), ("desc", True)]
+
+
+def top(direction, key, count):
+    return ["top", direction, key, str(count)]
+
+
+TOPS = [
+    ("the two least", top("asc", "x", 2), FIVE_ONE, 'rows 2 / 1 / 3 / skipped 1 / columns "x" / reads 2', 0),
+    ("the greatest", top("desc", "x", 1), FIVE_ONE, 'rows 1 / 9 / skipped 2 / columns "x" / reads 2', 0),
+    ("no row", top("asc", "x", 0), FIVE_ONE, "rows 0 / skipped 0 1 2 / columns - / reads 0", 0),
+    ("more rows than there are", top("desc", "x", 9), FIVE_ONE, 'rows 5 / 9 / 7 / 5 / 3 / 1 / skipped - / columns "x" / reads 3', 0),
+    ("the most rows that may be asked", top("asc", "x", 1048576), FIVE_ONE, 'rows 5 / 1 / 3 / 5 / 7 / 9 / skipped - / columns "x" / reads 3', 0),
+    ("null behind a number", top("asc", "x", 2), NULL_TWO, 'rows 2 / 2 / null / skipped - / columns "x" / reads 1', 0),
+    ("null behind a number, the greatest first", top("desc", "x", 2), NULL_TWO, 'rows 2 / 2 / null / skipped - / columns "x" / reads 1', 0),
+    # no bound behind the first block, 2 behind the second and the third
+    ("ties at the bound", top("asc", "x", 3), TIED, 'rows 3 / 11 / 15 / 10 / skipped 3 / columns "x" "v" / reads 6', 0),
+    ("ties of the greatest", top("desc", "x", 2), TIED, 'rows 2 / 10 / 12 / skipped 2 3 / columns "x" "v" / reads 4', 0),
+    ("nulls that give no bound", top("asc", "x", 2), NULLS, 'rows 2 / 14 / 12 / skipped - / columns "x" "v" / reads 6', 0),
+    ("nulls in their own order", top("desc", "x", 4), NULLS, 'rows 4 / 12 / 14 / 10 / 11 / skipped - / columns "x" "v" / reads 6', 0),
+    ("a bound before nulls", top("desc", "x", 1), NULLS, 'rows 1 / 12 / skipped 2 / columns "x" "v" / reads 4', 0),
+    ("texts by their bytes", top("asc", "s", 3), TEXTS, 'rows 3 / 6 / 4 / 2 / skipped - / columns "s" "v" / reads 6', 0),
+    ("the greatest texts", top("desc", "s", 2), TEXTS, 'rows 2 / 3 / 1 / skipped - / columns "s" "v" / reads 5', 0),
+    ("truths", top("asc", "b", 3), TRUTHS, 'rows 3 / 3 / 4 / 1 / skipped - / columns "b" "v" / reads 2', 0),
+    ("the greatest truths", top("desc", "b", 4), TRUTHS, 'rows 4 / 1 / 3 / 4 / 2 / skipped - / columns "b" "v" / reads 2', 0),
+    ("rows behind the bound", top("asc", "x", 1), NAMED, 'rows 1 / 10 / skipped - / columns "x" "v" / reads 3', 0),
+    ("statistics that lie of a key", top("asc", "x", 1), LOST, 'rows 1 / 5 / skipped 1 / columns "x" / reads 1', 0),
+    ("a catalog's dearest", top("desc", "price", 2), realistic(),
+     'rows 2 / {"id":16,"name":"aki","city":"Oslo"} / {"id":13,"name":"arne","city":"Oslo"}'
+     ' / skipped 0 4 / columns "id" "name" "price" "address" / reads 22', 0),
+    ("a key without a name", top("asc", "", 1), KEYED, 'rows 1 / 2 / skipped - / columns "x" "" / reads 2', 0),
+    ("a key of two words", top("desc", "a b", 1), KEYED, 'rows 1 / 2 / skipped - / columns "x" "a b" / reads 2', 0),
+    ("a key that no column has", top("asc", "y", 1), FIVE_ONE, "error: UnknownKey", 4),
+    ("a key that a field has", top("asc", "a", 1), KEYED, "error: UnknownKey", 4),
+    ("a key that is a list", top("asc", "l", 1), KEYED, "error: BadKey", 4),
+    ("a key that is a struct", top("desc", "s", 0), KEYED, "error: BadKey", 4),
+    ("no row by a key that no column has", top("asc", "y", 0), FIVE_ONE, "error: UnknownKey", 4),
+    ("a key before a filter of numbers", top("asc", "y", 1), bytes_of(X), "error: UnknownKey", 4),
+    ("a filter of numbers", top("asc", "x", 1), bytes_of(X), "error: FilterNotBool", 4),
+    ("no row by a filter of numbers", top("asc", "x", 0), bytes_of(X), "error: FilterNotBool", 4),
+    ("a projection before a key", top("asc", "y", 1), request(X32, TWO, TRUE, b"\0"), "error: BadWire projection", 4),
+    ("a kind that isn't registered before a key", top("asc", "y", 1), bytes_of(node("dynamic")), "error: UnknownExpr filter", 4),
+    ("a projection of an unknown field", top("asc", "x", 1), request(X32, TWO, TRUE, item("y")), "error: UnknownField projection", 4),
+    ("a cut request", top("asc", "x", 1), b"{", "error: BadJson", 3),
+    ("a request without columns", top("asc", "x", 1), {**bytes_of(X), "columns": 7}, "error: BadRequest columns", 3),
+    ("a sum in a block behind the bound", top("asc", "x", 1), SUMS, 'rows 1 / 2 / skipped 1 / columns "x" / reads 1', 0),
+    ("a sum in a block before it", top("desc", "x", 1), SUMS, "error: Overflow", 5),
+    ("a sum where no row is asked", top("desc", "x", 0), SUMS, "rows 0 / skipped 0 1 / columns - / reads 0", 0),
+    ("a cast of a first row", top("asc", "x", 1), request(X8, [[[-1]]], TRUE, cast(X, "u8")), "error: BadCast", 5),
+    *(("generated rows, %d %s" % (count, word), top(word, "v", count), GENERATED_TABLE,
+       tops.answer(["id", "v"], "v", "id", [[(v, str(i)) for v, i in b] for b in GENERATED], descending, count), 0)
+      for word, descending in DIRECTIONS for count in range(51)),
+    *(("first rows by %s" % " ".join(words), ["top", *words], FIVE_ONE, "error: Usage", 2)
+      for words in [[], ["asc"], ["asc", "x"], ["up", "x", "1"], ["x", "asc", "1"], ["asc", "x", "01"], ["asc", "x", "1048577"], ["asc", "x", "-1"],
+                    ["asc", "x", "+1"], ["asc", "x", ""], ["asc", "x", "x"], ["asc", "x", "1", "1"], ["ascending", "x", "1"], ["built", "x", "1"]]),
+]
+
 
 def rows():
     """All rows: a name, arguments, what is taken, the answer and the exit status."""
     for name, asked, told, status in ROWS:
         yield name, ["scan"], asked, told, status
     yield from WORDS
+    yield from TOPS
 
 
 def main():
