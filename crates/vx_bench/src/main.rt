@@ -1,4 +1,4 @@
-//! Times calls of the library. `vx_bench evaluate|prune|rewrite|scan REQUEST` times calls over the table of a request, beside the calls on
+//! Times calls of the library. `vx_bench evaluate|prune|rewrite|scan|top REQUEST` times calls over the table of a request, beside the calls on
 //! columns that they need: it prints a name and nanoseconds for each call, a line each, some rounds in turn. `vx_bench kernel 'KERNEL ROWS
 //! TIMES'` times a kernel of columns or of words of bits: it prints the kernel's name and nanoseconds for each call, a line each, and then
 //! how many rows the answer has, or has true. The kernel `build_stats` is the building of the statistics of a table of so many rows, and its
@@ -19,6 +19,7 @@ mod rewriting;
 mod scanning;
 mod statistics;
 mod timing;
+mod topping;
 mod types;
 mod word_lists;
 mod works;
@@ -37,7 +38,7 @@ fn main(rt: HostRuntime) -> Result<()> {
 
 /// Prints how the program is called.
 fn print_usage(rt: &HostRuntime) -> Result<()> {
-    println!(rt; "usage: vx_bench evaluate|prune|rewrite|scan REQUEST")?;
+    println!(rt; "usage: vx_bench evaluate|prune|rewrite|scan|top REQUEST")?;
     println!(rt; "       vx_bench kernel|keep 'KERNEL ROWS TIMES'")?;
     println!(rt; "       vx_bench reads REQUEST")?;
     println!(rt; "       vx_bench deep 'left|right LINKS'")?;
@@ -68,6 +69,7 @@ fn time(rt: &HostRuntime, what: &str, opened: Opened) -> Result<()> {
         "prune" => pruning::time(rt, &opened),
         "rewrite" => rewriting::time(rt, &opened),
         "scan" => scanning::time(rt, opened),
+        "top" => topping::time(rt, opened),
         _ => Ok(()),
     }
 }

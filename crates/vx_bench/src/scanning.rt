@@ -39,7 +39,7 @@ fn time_request(
 }
 
 /// The table of a request.
-fn store_of(alloc: Global, request: ScanRequest) -> Result<MemoryStore> {
+pub(crate) fn store_of(alloc: Global, request: ScanRequest) -> Result<MemoryStore> {
     let ScanRequest { zones, blocks, .. } = request;
     match MemoryStore::try_new(alloc, zones, blocks, Vec::new(alloc)) {
         Ok(store) => Ok(store),
@@ -59,7 +59,7 @@ fn first_columns(alloc: Global, blocks: &[Vec<ColumnRef>]) -> Mem<Vec<ColumnRef>
 }
 
 /// Times a scan of a store.
-fn time_scan(
+pub(crate) fn time_scan(
     rt: &HostRuntime,
     filter: &ExprRef,
     projection: &ExprRef,
