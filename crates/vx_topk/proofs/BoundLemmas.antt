@@ -97,7 +97,7 @@ module _ (ask : TopAsk) {k : Ty} (v : Ty) (found : List Keyed) (next : RowPlace)
       → known_key k row.key ∷ [] ≡ bound_slots ask (bound_before ask found)
   bound-last full row value l =
       let before : bound_before ask found ≡ known (valued (key_raw row.key) k) =
-          ap (λ (b : Bool). cond b (known_last (first_rows ask found)) None) (enough full) ∙ ap known_last own-rows ∙ known-last k v first.rows.entries (row, value) l in
+      ap (λ (b : Bool). cond b (known_last (first_rows ask found)) None) (enough full) ∙ ap known_last own-rows ∙ known-last k v first.rows.entries (row, value) l in
       let plain : is_plain ask.key_type ≡ true = ap is_plain asked.ty ∙ h.plain in
       let fitting : fits (key_raw row.key) ask.key_type ≡ true = ap (fits (key_raw row.key)) asked.ty ∙ last-fits v found next first h row value l in
       ap (λ (t : Ty). known_key t row.key ∷ []) (sym asked.ty) ∙ key-slots ask row.key plain fitting

@@ -65,7 +65,7 @@ find-skips ask v i before middle after found was now agrees l s turn =
     let out : top_skips ask zones found i ≡ true = ap (λ (z : Zones). top_skips ask z found i) (sym s.same.zones) ∙ turn.out in
     let Told : Table → Type 0 = λ table. AgreesWith zones table × (found ≡ found_before ask table zones i) in
     let told : WhereTold before.held Told =
-        told_both before.held (AgreesWith zones) (λ table. found ≡ found_before ask table zones i) Told (λ table a b. (a, b)) agrees s.rows in
+    told_both before.held (AgreesWith zones) (λ table. found ≡ found_before ask table zones i) Told (λ table a b. (a, b)) agrees s.rows in
     subst (λ (seen : StoreSeen). IsFoundTo ask v (i + 1) before seen found now.first now.skipped.items) (sym turn.stays)
     (record {
       same = s.same;
@@ -109,10 +109,10 @@ run-with ask table zones found i middle after before rows result same kept h k =
     let slots = bound_slots ask (bound_before ask found) in
     let own = map (slotted slots) (block_phases t slots (bounded_filter ask) (keyed_projection ask) (i, k.held_rows)) in
     let phases : top_phases_before ask table zones (i + 1) ≡ top_phases_before ask table zones i ++ own =
-        phases-in ask table zones i k.held_rows k.there (found-test ask zones found (found_before ask table zones i) i false same kept)
-        ∙ ap (λ (rs : List Keyed). top_phases_before ask table zones i
-        ++ map (slotted (bound_slots ask (bound_before ask rs))) (block_phases t (bound_slots ask (bound_before ask rs)) (bounded_filter ask) (keyed_projection ask) (i, k.held_rows)))
-        (sym same) in
+    phases-in ask table zones i k.held_rows k.there (found-test ask zones found (found_before ask table zones i) i false same kept)
+    ∙ ap (λ (rs : List Keyed). top_phases_before ask table zones i
+    ++ map (slotted (bound_slots ask (bound_before ask rs))) (block_phases t (bound_slots ask (bound_before ask rs)) (bounded_filter ask) (keyed_projection ask) (i, k.held_rows)))
+    (sym same) in
     subst (λ (ps : List SlottedPhase). TopRuns t ps before after.log after.failed result) (sym phases)
     (top_run_on t (top_phases_before ask table zones i) own before middle.log after.log middle.failed after.failed result h
     (top_runs t slots (block_phases t slots (bounded_filter ask) (keyed_projection ask) (i, k.held_rows)) middle.log after.log after.failed result k.ran))
@@ -127,7 +127,7 @@ rows-with ask table zones found i middle after rows same kept k =
     let slots = bound_slots ask (bound_before ask found) in
     let keyed_rows = block_keyed ask t slots (bounded_filter ask) k.held_rows in
     let given : map unpacked rows ≡ keyed_rows =
-        ap (map unpacked) (k.adds ∙ block_rows_are_packed ask t slots (bounded_filter ask) k.held_rows) ∙ packed_is_unpacked keyed_rows in
+    ap (map unpacked) (k.adds ∙ block_rows_are_packed ask t slots (bounded_filter ask) k.held_rows) ∙ packed_is_unpacked keyed_rows in
     ap (λ (rs : List Keyed). found ++ rs) given
     ∙ ap (λ (rs : List Keyed). rs ++ block_keyed ask t (bound_slots ask (bound_before ask rs)) (bounded_filter ask) k.held_rows) same
     ∙ sym (found-in ask table zones i k.held_rows k.there (found-test ask zones found (found_before ask table zones i) i false same kept))
@@ -148,7 +148,7 @@ find-keeps ask v i before middle after found was now slotless l s turn =
     let r = turn.ran in
     let kept : top_skips ask zones found i ≡ false = ap (λ (z : Zones). top_skips ask z found i) (sym s.same.zones) ∙ turn.kept in
     let Block : Table → Type 0 =
-        λ table. RunsBlockOf (bound_slots ask (bound_before ask found)) (bounded_filter ask) (keyed_projection ask) i table middle after [] turn.given (Ok tt) in
+    λ table. RunsBlockOf (bound_slots ask (bound_before ask found)) (bounded_filter ask) (keyed_projection ask) i table middle after [] turn.given (Ok tt) in
     let block = told-block ask i before middle after found turn.given (Ok tt) s.same r in
     let Told : Table → Type 0 = λ table. Block table × (found ≡ found_before ask table zones i) in
     let told : WhereTold before.held Told = told_both before.held Block (λ table. found ≡ found_before ask table zones i) Told (λ table a b. (a, b)) block s.rows in
@@ -200,7 +200,7 @@ stops ask v i before middle after found was skips e slotless some l s turn =
     let r = turn.ran in
     let kept : top_skips ask zones found i ≡ false = ap (λ (z : Zones). top_skips ask z found i) (sym s.same.zones) ∙ turn.kept in
     let Block : Table → Type 0 =
-        λ table. RunsBlockOf (bound_slots ask (bound_before ask found)) (bounded_filter ask) (keyed_projection ask) i table middle after [] turn.given (Err e) in
+    λ table. RunsBlockOf (bound_slots ask (bound_before ask found)) (bounded_filter ask) (keyed_projection ask) i table middle after [] turn.given (Err e) in
     let block = told-block ask i before middle after found turn.given (Err e) s.same r in
     let Told : Table → Type 0 = λ table. Block table × (found ≡ found_before ask table zones i) in
     let told : WhereTold before.held Told = told_both before.held Block (λ table. found ≡ found_before ask table zones i) Told (λ table a b. (a, b)) block s.rows in
@@ -369,7 +369,7 @@ find-stops-behind ask v i before middle after found was skips ty e typed slotles
     let r = turn.ran in
     let kept : top_skips ask zones found i ≡ false = ap (λ (z : Zones). top_skips ask z found i) (sym s.same.zones) ∙ turn.kept in
     let Block : Table → Type 0 =
-        λ table. RunsBlockOf (bound_slots ask (bound_before ask found)) (bounded_filter ask) (keyed_projection ask) i table middle after [] turn.given (Ok tt) in
+    λ table. RunsBlockOf (bound_slots ask (bound_before ask found)) (bounded_filter ask) (keyed_projection ask) i table middle after [] turn.given (Ok tt) in
     let block = told-block ask i before middle after found turn.given (Ok tt) s.same r in
     let Told : Table → Type 0 = λ table. Block table × (found ≡ found_before ask table zones i) in
     let told : WhereTold before.held Told = told_both before.held Block (λ table. found ≡ found_before ask table zones i) Told (λ table a b. (a, b)) block s.rows in

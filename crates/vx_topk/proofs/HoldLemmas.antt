@@ -196,9 +196,9 @@ module _ (k v : Ty) (found : List Keyed) (p : RowPlace) (first : FirstRows) (h :
       let es = first.rows.entries in
       let d = first.descending in
       let here : IsHeld k v d (behind p) (row, value) =
-          record { direction = new.direction; key = new.key_fits; value = new.value_fits; earlier = ap (λ (q : RowPlace). place_cmp q (behind p)) new.place ∙ later } in
+      record { direction = new.direction; key = new.key_fits; value = new.value_fits; earlier = ap (λ (q : RowPlace). place_cmp q (behind p)) new.place ∙ later } in
       let all = all-taken (IsHeld k v d (behind p)) first.count (insert_entry row_cmp es row value)
-          (put-held k v d p h.plain row value new (behind p) es h.held here held-behind) in
+      (put-held k v d p h.plain row value new (behind p) es h.held here held-behind) in
       record {
         plain = h.plain;
         keys = all-both (OfType k) found (r ∷ []) h.keys own;

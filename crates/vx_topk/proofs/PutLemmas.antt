@@ -56,7 +56,7 @@ put-more first before after block i rows x h less e same puts =
           let t = keyed_type k v in
           let so_far = map unpacked (seen_rows t (take i rows)) in
           let more : found ++ map unpacked (seen_rows t (take (i + 1) rows)) ≡ (found ++ so_far) ++ unpacked (seen t x) ∷ [] =
-              ap (λ (rs : List Keyed). found ++ rs) (seen-more t rows i x less e) ∙ sym (append_assoc found so_far (unpacked (seen t x) ∷ [])) in
+          ap (λ (rs : List Keyed). found ++ rs) (seen-more t rows i x less e) ∙ sym (append_assoc found so_far (unpacked (seen t x) ∷ [])) in
           subst (λ (rs : List Keyed). HoldFirst k v rs (record { block = block; row = i + 1 }) after) (sym more)
           (puts k v (found ++ so_far) (h.holds k v found held f) (fits-at t rows i x less e f));
     }

@@ -52,11 +52,16 @@ honest_tops f p key descending count table before after report slotless told (t,
     let zones = before.zones in
     let column : field_type key table.columns ≡ Some t = ap (field_type key) told.agrees.columns ∙ h.typed.column in
     let fit : all_rows_fit (row_type table.columns) table.blocks ≡ true =
-        ap (λ fs. all_rows_fit (row_type fs) table.blocks) told.agrees.columns ∙ blocks-fit (row_type zones.columns) table.blocks told.agrees.fit in
+    ap (λ fs. all_rows_fit (row_type fs) table.blocks) told.agrees.columns ∙ blocks-fit (row_type zones.columns) table.blocks told.agrees.fit in
     let rows : (top_view report).rows ≡ top_rows_of ask table zones =
-        told-here before.held table (λ table. (top_view report).rows ≡ top_rows_of ask table zones) told.held h.rows in
-    (t, (column, rows
-    ∙ top_is_of_all_rows ask table zones (record { column = column; plain = h.typed.plain; filter_slots = slotless.filter; projection_slots = slotless.projection }) fit told.honest))
+    told-here before.held table (λ table. (top_view report).rows ≡ top_rows_of ask table zones) told.held h.rows in (
+      t,
+      (
+        column,
+        rows
+            ∙ top_is_of_all_rows ask table zones (record { column = column; plain = h.typed.plain; filter_slots = slotless.filter; projection_slots = slotless.projection }) fit told.honest,
+      ),
+    )
 
 -- ---- refusals
 
@@ -277,7 +282,11 @@ refusals_are_one f p key descending count before after other d e r s h k =
 
 pub breaks_are_of_one_phase : BothTopBreaksAreOfOnePhase
 breaks_are_of_one_phase f p key descending count table before after other held (t, h) (u, k) =
-    let same : u ≡ t = one-type (field_type key before.zones.columns) t u h.typed.column k.typed.column in
-    (t, (broke-first f p key descending count table before held by_sum t after h,
-    subst (λ (x : Ty). first_top_breaks_by by_cast (top_ask f p key descending count x) table before.zones ≡ true) same
-    (broke-first f p key descending count table before held by_cast u other k)))
+    let same : u ≡ t = one-type (field_type key before.zones.columns) t u h.typed.column k.typed.column in (
+      t,
+      (
+        broke-first f p key descending count table before held by_sum t after h,
+        subst (λ (x : Ty). first_top_breaks_by by_cast (top_ask f p key descending count x) table before.zones ≡ true) same
+            (broke-first f p key descending count table before held by_cast u other k),
+      ),
+    )

@@ -111,8 +111,7 @@ phases-end ask table zones i h = ap (phases_over ask (row_type table.columns) zo
 pub phases-split : (ask : TopAsk) (table : Table) (zones : Zones) (i : ℕ) → (rest : List SlottedPhase) × (top_phases ask table zones ≡ top_phases_before ask table zones i ++ rest)
 phases-split ask table zones i =
     let split = numbered-split i table.blocks in
-    let t = row_type table.columns in
-    (
+    let t = row_type table.columns in (
       phases_over ask t zones (found_before ask table zones i) split.0,
       ap (phases_over ask t zones []) split.1 ∙ phases_over_more ask t zones [] (numbered_from 0 (take i table.blocks)) split.0,
     )
@@ -180,9 +179,9 @@ among-all ask zones i made some h =
     let g = block_asked zones (bounded_filter ask) (keyed_projection ask) in
     let split = kept_numbers_split zones [] ask.filter_expr i in
     let all : top_asked ask zones ≡ top_asked_before ask zones i ++ flat_map g split.0 =
-        all-asked ask zones some
-        ∙ ap (λ (b : Bool). flat_map g (cond b [] (top_kept ask zones))) some
-        ∙ ap (flat_map g) split.1 ∙ flat_map-append g (kept_numbers_before zones [] ask.filter_expr i) split.0 in
+    all-asked ask zones some
+    ∙ ap (λ (b : Bool). flat_map g (cond b [] (top_kept ask zones))) some
+    ∙ ap (flat_map g) split.1 ∙ flat_map-append g (kept_numbers_before zones [] ask.filter_expr i) split.0 in
     subst (λ (rs : List Read). AreAmong made rs) (sym all) (among_more made (top_asked_before ask zones i) (flat_map g split.0) h)
 
 pub block-there : (ask : TopAsk) (zones : Zones) (i : ℕ) → nat_eq ask.count 0 ≡ false → i < length zones.lengths → rules_out zones [] i ask.filter_expr ≡ false

@@ -20,8 +20,7 @@ rules_out-requires-clause-rule g c =
     let first = c.args.finding.now.first in
     let place = start_of c.args.block in
     let slots = c.in_ok-bound.field-0 ∷ [] in
-    let same = bound-there zones h.0 h.1 top h.2 place first h.3 h.5 slots h.4 c.in_ok-bound.ensures in
-    (
+    let same = bound-there zones h.0 h.1 top h.2 place first h.3 h.5 slots h.4 c.in_ok-bound.ensures in (
       bounded_filter h.0,
       rule-there zones h.0 h.1 top h.2 place first h.3 h.5 c.zones.result.now c.zones.ensures.zones,
       slots-fine zones h.0 h.1 top h.2 place first h.3 h.5 slots same,
@@ -49,8 +48,8 @@ returns-then-branch-clause-turn g c = λ ask v found ready asked held some.
     let slots = c.in_ok-bound.field-0 ∷ [] in
     let same = bound-there seen.zones ask v top found place was.first ready held slots asked c.in_ok-bound.ensures in
     let out =
-        skips-as-ruled seen.zones ask v top found place was.first ready held block c.zones.result.now slots c.in_ok-rules_out.field-0 true some same c.zones.ensures.zones
-        c.in_ok-rules_out.ensures c.if-branch.true in
+    skips-as-ruled seen.zones ask v top found place was.first ready held block c.zones.result.now slots c.in_ok-rules_out.field-0 true some same c.zones.ensures.zones
+    c.in_ok-rules_out.ensures c.if-branch.true in
     turn-out ask v found block seen was now tt out held refl c.in_ok-push.ensures.items
 
 pub returns-in_err-rows-clause-turn : goal.returns-in_err-rows-clause-turn
@@ -65,8 +64,8 @@ returns-in_err-rows-clause-turn g c = λ ask v found ready asked held some.
     let slots = c.in_ok-bound.field-0 ∷ [] in
     let same = bound-there seen.zones ask v top found place was.first ready held slots asked c.in_ok-bound.ensures in
     let kept =
-        skips-as-ruled seen.zones ask v top found place was.first ready held block c.zones.result.now slots c.in_ok-rules_out.field-0 false some same c.zones.ensures.zones
-        c.in_ok-rules_out.ensures c.if-branch.false in
+    skips-as-ruled seen.zones ask v top found place was.first ready held block c.zones.result.now slots c.in_ok-rules_out.field-0 false some same c.zones.ensures.zones
+    c.in_ok-rules_out.ensures c.if-branch.false in
     let err = c.in_err-rows.field-0.0 in
     let ran = c.in_err-rows.ensures.runs (bounded_filter ask) (keyed_projection ask) (scan-fine seen.zones ask v top found place was.first ready held slots same) in
     let end = the-error c.from_residual-in_err-rows.result err c.from_residual-in_err-rows.ensures.0 c.from_residual-in_err-rows.ensures.1 in
@@ -84,8 +83,8 @@ returns-in_err-put_rows-clause-turn g c = λ ask v found ready asked held some.
     let slots = c.in_ok-bound.field-0 ∷ [] in
     let same = bound-there seen.zones ask v top found place was.first ready held slots asked c.in_ok-bound.ensures in
     let kept =
-        skips-as-ruled seen.zones ask v top found place was.first ready held block c.zones.result.now slots c.in_ok-rules_out.field-0 false some same c.zones.ensures.zones
-        c.in_ok-rules_out.ensures c.if-branch.false in
+    skips-as-ruled seen.zones ask v top found place was.first ready held block c.zones.result.now slots c.in_ok-rules_out.field-0 false some same c.zones.ensures.zones
+    c.in_ok-rules_out.ensures c.if-branch.false in
     let ran = c.in_ok-rows.ensures.runs (bounded_filter ask) (keyed_projection ask) (scan-fine seen.zones ask v top found place was.first ready held slots same) in
     let end = the-error c.from_residual-in_err-put_rows.result errors.NoMemory c.from_residual-in_err-put_rows.ensures.0 c.from_residual-in_err-put_rows.ensures.1 in
     subst (λ r. TakesTurn ask v found block seen last was now r) (sym end)
@@ -103,8 +102,8 @@ returns-clause-turn g c = λ ask v found ready asked held some.
     let slots = c.in_ok-bound.field-0 ∷ [] in
     let same = bound-there seen.zones ask v top found place was.first ready held slots asked c.in_ok-bound.ensures in
     let kept =
-        skips-as-ruled seen.zones ask v top found place was.first ready held block c.zones.result.now slots c.in_ok-rules_out.field-0 false some same c.zones.ensures.zones
-        c.in_ok-rules_out.ensures c.if-branch.false in
+    skips-as-ruled seen.zones ask v top found place was.first ready held block c.zones.result.now slots c.in_ok-rules_out.field-0 false some same c.zones.ensures.zones
+    c.in_ok-rules_out.ensures c.if-branch.false in
     let ran = c.in_ok-rows.ensures.runs (bounded_filter ask) (keyed_projection ask) (scan-fine seen.zones ask v top found place was.first ready held slots same) in
     let t = keyed_type ask.key_type v in
     let fit : values_fit t c.as_slice.result.now ≡ true = ap₂ values_fit (sym ready.rows) c.as_slice.ensures.value ∙ c.in_ok-rows.ensures.fit in

@@ -16,8 +16,11 @@ loop-block-init g c =
       same_store seen,
       c.new-first.ensures.asked.0,
       c.new-first.ensures.asked.1,
-      λ ask v ready ec ed. ([], subst (λ (ns : List ℕ). IsFoundTo ask v 0 seen seen [] first ns) (sym c.new-skipped.ensures.items)
-          (find-start ask v seen first (c.new-first.ensures.holds ask.key_type v ready.can.typed.plain))),
+      λ ask v ready ec ed. (
+        [],
+        subst (λ (ns : List ℕ). IsFoundTo ask v 0 seen seen [] first ns) (sym c.new-skipped.ensures.items)
+            (find-start ask v seen first (c.new-first.ensures.holds ask.key_type v ready.can.typed.plain)),
+      ),
     )
 
 pub find_or_skip-requires-clause-ready : goal.find_or_skip-requires-clause-ready

@@ -15,9 +15,11 @@ returns-in_err-scan_kept_block-clause-runs g c = λ f p h.
     let err = c.in_err-scan_kept_block.field-0.0 in
     let now = seen_rows u c.scan_kept_block.new.rows.items in
     let same = the-error c.from_residual.result err c.from_residual.ensures.0 c.from_residual.ensures.1 in
-    subst (λ r. GivesRows c.args.slots.now f p c.args.block u first last r) (sym same)
-    (now, subst (λ (xs : List ScalarValue). RunsBlock c.args.slots.now f p c.args.block first last (seen_rows u xs) now (Err err)) c.new-rows.ensures.items
-    (c.in_err-scan_kept_block.ensures.runs f p h))
+    subst (λ r. GivesRows c.args.slots.now f p c.args.block u first last r) (sym same) (
+      now,
+      subst (λ (xs : List ScalarValue). RunsBlock c.args.slots.now f p c.args.block first last (seen_rows u xs) now (Err err)) c.new-rows.ensures.items
+          (c.in_err-scan_kept_block.ensures.runs f p h),
+    )
 
 pub returns-clause-runs : goal.returns-clause-runs
 returns-clause-runs g c = λ f p h.

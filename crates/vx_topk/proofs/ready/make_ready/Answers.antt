@@ -22,7 +22,7 @@ new-requires c =
     record {
       typed = (
         bool_ty (union_of h.2.filter_type ask.key_type),
-        ap (typed_of t) same ∙ bounded_filter_is_boolean c.args.zones.now.columns ask h.2.filter_type h.1 h.2.typed
+        ap (typed_of t) same ∙ bounded_filter_is_boolean c.args.zones.now.columns ask h.2.filter_type h.1 h.2.typed,
       );
     }
 
@@ -34,8 +34,8 @@ returns c k v can =
     let bounded : c.in_ok-bounded.bounded ≡ bounded_filter ask = c.in_ok-bounded.ensures ask refl refl refl refl in
     let packed : c.in_ok-packed.packed ≡ keyed_projection ask = c.in_ok-packed.ensures ask refl refl in
     let prepared : IsPreparedScan zones (None ∷ []) (bounded_filter ask) (keyed_projection ask) scan =
-        subst (λ (f : Tree). IsPreparedScan zones (None ∷ []) f (keyed_projection ask) scan) bounded
-        (subst (λ (p : Tree). IsPreparedScan zones (None ∷ []) c.in_ok-bounded.bounded p scan) packed c.in_ok-scan.ensures) in
+    subst (λ (f : Tree). IsPreparedScan zones (None ∷ []) f (keyed_projection ask) scan) bounded
+    (subst (λ (p : Tree). IsPreparedScan zones (None ∷ []) c.in_ok-bounded.bounded p scan) packed c.in_ok-scan.ensures) in
     record {
       can = can;
       key = refl;

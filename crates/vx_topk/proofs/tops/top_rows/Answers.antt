@@ -15,6 +15,8 @@ returns-then-k-eq0-clause-ends g c =
     let v = type_view c.in_ok-dtype.dtype in
     let ask = top_ask c.args.filter.now c.args.projection.now c.args.key.now c.args.descending c.args.k t in
     let typed = typed-here c.args.filter.now c.args.projection.now c.args.key.now c.args.descending c.args.k seen c.zones.result.now c.zones-2.result.now t v c.zones.ensures.zones c.zones-2.ensures.zones
-        c.in_ok-key_dtype.ensures.0 c.in_ok-key_dtype.ensures.1 c.in_ok-dtype.ensures in
-    (t, none-report ask v seen c.in_ok-no_rows.field-0 (ap (λ (n : ℕ). nat_eq n 0) c.if-k-eq0.true) typed c.zones.ensures.agrees c.in_ok-no_rows.ensures.dtype c.in_ok-no_rows.ensures.rows
-    (c.in_ok-no_rows.ensures.skipped ∙ ap (λ (z : Zones). numbers_of z.lengths) c.zones-zones.ensures.zones))
+    c.in_ok-key_dtype.ensures.0 c.in_ok-key_dtype.ensures.1 c.in_ok-dtype.ensures in (
+      t,
+      none-report ask v seen c.in_ok-no_rows.field-0 (ap (λ (n : ℕ). nat_eq n 0) c.if-k-eq0.true) typed c.zones.ensures.agrees c.in_ok-no_rows.ensures.dtype c.in_ok-no_rows.ensures.rows
+          (c.in_ok-no_rows.ensures.skipped ∙ ap (λ (z : Zones). numbers_of z.lengths) c.zones-zones.ensures.zones),
+    )

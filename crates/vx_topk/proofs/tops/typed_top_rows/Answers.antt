@@ -27,8 +27,8 @@ find_rows-requires g c =
     let v = type_view c.args.dtype in
     let ask = top_ask c.args.filter.now c.args.projection.now c.args.key.now c.args.descending c.args.k (type_view c.args.key_dtype) in
     let ready =
-        ready-there seen.zones c.zones.result.now ask v c.in_ok-top.top c.zones.ensures.zones c.requires.typed c.requires.both c.requires.filter c.requires.projection
-        (c.in_ok-top.ensures c.args.k v) in
+    ready-there seen.zones c.zones.result.now ask v c.in_ok-top.top c.zones.ensures.zones c.requires.typed c.requires.both c.requires.filter c.requires.projection
+    (c.in_ok-top.ensures c.args.k v) in
     record { ready = (ask, v, ready, refl, refl, c.requires.some) }
 
 pub returns-in_err-finding-clause-ends : goal.returns-in_err-finding-clause-ends
@@ -38,8 +38,8 @@ returns-in_err-finding-clause-ends g c =
     let v = type_view c.args.dtype in
     let ask = top_ask c.args.filter.now c.args.projection.now c.args.key.now c.args.descending c.args.k (type_view c.args.key_dtype) in
     let ready =
-        ready-there seen.zones c.zones.result.now ask v c.in_ok-top.top c.zones.ensures.zones c.requires.typed c.requires.both c.requires.filter c.requires.projection
-        (c.in_ok-top.ensures c.args.k v) in
+    ready-there seen.zones c.zones.result.now ask v c.in_ok-top.top c.zones.ensures.zones c.requires.typed c.requires.both c.requires.filter c.requires.projection
+    (c.in_ok-top.ensures c.args.k v) in
     let err = c.in_err-finding.field-0.0 in
     let residual = c.from_residual-in_err-finding in
     let end = the-error residual.result (top_error err) residual.ensures.0 residual.ensures.1 in
@@ -53,8 +53,8 @@ returns-in_err-report-clause-ends g c =
     let v = type_view c.args.dtype in
     let ask = top_ask c.args.filter.now c.args.projection.now c.args.key.now c.args.descending c.args.k (type_view c.args.key_dtype) in
     let ready =
-        ready-there seen.zones c.zones.result.now ask v c.in_ok-top.top c.zones.ensures.zones c.requires.typed c.requires.both c.requires.filter c.requires.projection
-        (c.in_ok-top.ensures c.args.k v) in
+    ready-there seen.zones c.zones.result.now ask v c.in_ok-top.top c.zones.ensures.zones c.requires.typed c.requires.both c.requires.filter c.requires.projection
+    (c.in_ok-top.ensures c.args.k v) in
     let finding = c.in_ok-finding.finding in
     let f = c.in_ok-finding.ensures.ends ask v ready refl refl c.requires.some in
     let residual = c.from_residual-in_err-report in
@@ -69,12 +69,12 @@ returns-clause-ends g c =
     let v = type_view c.args.dtype in
     let ask = top_ask c.args.filter.now c.args.projection.now c.args.key.now c.args.descending c.args.k (type_view c.args.key_dtype) in
     let ready =
-        ready-there seen.zones c.zones.result.now ask v c.in_ok-top.top c.zones.ensures.zones c.requires.typed c.requires.both c.requires.filter c.requires.projection
-        (c.in_ok-top.ensures c.args.k v) in
+    ready-there seen.zones c.zones.result.now ask v c.in_ok-top.top c.zones.ensures.zones c.requires.typed c.requires.both c.requires.filter c.requires.projection
+    (c.in_ok-top.ensures c.args.k v) in
     let finding = c.in_ok-finding.finding in
     let f = c.in_ok-finding.ensures.ends ask v ready refl refl c.requires.some in
     let asked : IsAskedBy ask ask.key_type finding.first =
-        record { ty = refl; count = sym c.in_ok-finding.ensures.asked.0; descending = sym c.in_ok-finding.ensures.asked.1 } in
+    record { ty = refl; count = sym c.in_ok-finding.ensures.asked.0; descending = sym c.in_ok-finding.ensures.asked.1 } in
     find-report ask v seen last finding f.0 c.in_ok-report.field-0 c.requires.typed asked f.1 c.in_ok-report.ensures c.requires.some c.zones.ensures.agrees
 
 pub returns-clause-fit : goal.returns-clause-fit
@@ -84,10 +84,10 @@ returns-clause-fit g c =
     let v = type_view c.args.dtype in
     let ask = top_ask c.args.filter.now c.args.projection.now c.args.key.now c.args.descending c.args.k (type_view c.args.key_dtype) in
     let ready =
-        ready-there seen.zones c.zones.result.now ask v c.in_ok-top.top c.zones.ensures.zones c.requires.typed c.requires.both c.requires.filter c.requires.projection
-        (c.in_ok-top.ensures c.args.k v) in
+    ready-there seen.zones c.zones.result.now ask v c.in_ok-top.top c.zones.ensures.zones c.requires.typed c.requires.both c.requires.filter c.requires.projection
+    (c.in_ok-top.ensures c.args.k v) in
     let finding = c.in_ok-finding.finding in
     let f = c.in_ok-finding.ensures.ends ask v ready refl refl c.requires.some in
     let asked : IsAskedBy ask ask.key_type finding.first =
-        record { ty = refl; count = sym c.in_ok-finding.ensures.asked.0; descending = sym c.in_ok-finding.ensures.asked.1 } in
+    record { ty = refl; count = sym c.in_ok-finding.ensures.asked.0; descending = sym c.in_ok-finding.ensures.asked.1 } in
     report-fits ask v seen last finding f.0 c.in_ok-report.field-0 c.requires.typed asked f.1 c.in_ok-report.ensures

@@ -12,8 +12,11 @@ put_row-requires c =
     let less : i < length c.args.rows.now = omega arith in
     record {
       held = (
-        h.0, h.1, h.2 ++ map unpacked (seen_rows (keyed_type h.0 h.1) (take i c.args.rows.now)), c.loop-row.invariant.holds h.0 h.1 h.2 h.3 h.4,
-        fits-at (keyed_type h.0 h.1) c.args.rows.now i c.index-rows-row.result less c.index-rows-row.is h.4
+        h.0,
+        h.1,
+        h.2 ++ map unpacked (seen_rows (keyed_type h.0 h.1) (take i c.args.rows.now)),
+        c.loop-row.invariant.holds h.0 h.1 h.2 h.3 h.4,
+        fits-at (keyed_type h.0 h.1) c.args.rows.now i c.index-rows-row.result less c.index-rows-row.is h.4,
       );
     }
 
