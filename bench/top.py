@@ -4,7 +4,7 @@
 usage: bench/top.py             (first build the program: cd crates/vx_bench && rt run)
 
 Over keys in order just the first block must be read, so the time is told beside that of a scan of a table that has this block alone. Over keys
-in no order the bound rules out next to nothing, so it is told beside that of a scan of the whole table. The least of nine times counts.
+in no order it is told beside that of a scan of the whole table. The least of nine times counts.
 """
 from calls import X, told
 from wire import TRUE, request
