@@ -1,5 +1,5 @@
--- The columns of statistics whose values are of one type.
-use Rattle.std.proofs.Common.{◌≡◌, refl, ap, sym, ◌∙◌, Bool, true, subst, List, [], ◌∷◌, map, Result, Ok}
+-- The columns of statistics whose values are of one type, over a run of blocks.
+use Rattle.std.proofs.Common.{◌≡◌, ℕ, refl, ap, sym, ◌∙◌, Bool, true, subst, List, [], ◌∷◌, map, take, drop, Result, Ok}
 use Rattle.std.specs.List.{list_all}
 use Rattle.std.proofs.lemmas.Bool.{and_parts, and_from}
 use Rattle.vx_dtype.specs.Types.{Ty}
@@ -15,6 +15,7 @@ use Rattle.vx_column.specs.declared.errors.ColumnError.TheVariants.{WrongValue, 
 use Rattle.vx_column.specs.Columns.{Column, column, raws_fit, raw_rows}
 use Rattle.vx_column.specs.Answers.{Answers, unless, column_of_raws}
 use Rattle.vx_block_pruning.specs.StatisticColumns.{column_type, column_of, IsUniform}
+use Rattle.vx_block_pruning.proofs.RunLemmas.{run-all}
 
 -- what scalars hold
 abbrev pub held : List Typed → List Raw
@@ -34,14 +35,18 @@ held-valued t (s ∷ ss) h =
     let same = (ty_decides s.ty t).0 types.0 in
     λ i. valued s.value (sym same i) ∷ held-valued t ss types.1 i
 
--- the values of such a statistic make its column
-pub column_made : (z : ZoneStat) (t : Ty) (xs : List Raw) → IsUniform z → t ≡ column_type z → xs ≡ held z.values → column_of_raws t xs ≡ Ok (column_of z)
-column_made z t xs u e f =
+-- the values of such a statistic in a run of blocks make its column there
+pub column_made : (z : ZoneStat) (first count : ℕ) (t : Ty) (xs : List Raw) → IsUniform z → t ≡ column_type z → xs ≡ held (take count (drop first z.values))
+    → column_of_raws t xs ≡ Ok (column_of first count z)
+column_made z first count t xs u e f =
     let own = column_type z in
+    let run = take count (drop first z.values) in
+    let one_type = run-all (λ (s : Typed). ty_eq s.ty own) z.values first count u.one_type in
+    let fitting = run-all (λ (s : Typed). fits s.value s.ty) z.values first count u.fitting in
     (λ i. column_of_raws (e i) (f i))
-    ∙ (ap (λ (b : Bool). unless b WrongValue (unless (no_name_twice own) DuplicateField (Ok (column own (raw_rows own (held z.values)))))) (held-fit own z.values u.one_type u.fitting)
-    ∙ (ap (λ (b : Bool). unless b DuplicateField (Ok (column own (raw_rows own (held z.values))))) u.distinct
-    ∙ ap (λ (rows : _). Ok (column own rows)) (held-valued own z.values u.one_type)))
+    ∙ (ap (λ (b : Bool). unless b WrongValue (unless (no_name_twice own) DuplicateField (Ok (column own (raw_rows own (held run)))))) (held-fit own run one_type fitting)
+    ∙ (ap (λ (b : Bool). unless b DuplicateField (Ok (column own (raw_rows own (held run))))) u.distinct
+    ∙ ap (λ (rows : _). Ok (column own rows)) (held-valued own run one_type)))
 
 -- an answer that tells a column is this column, where it is one
 pub made_is : (answer : Result Column ColumnError) (told made : Column) → Answers answer (Ok told) → answer ≡ Ok made → made ≡ told
@@ -49,6 +54,7 @@ made_is answer told made h e =
     let both : Answers (Ok made) (Ok told) = subst (λ (a : Result Column ColumnError). Answers a (Ok told)) e h in
     cc
 
--- what is answered for the values of such a statistic tells its column
-pub column_told : (z : ZoneStat) (t : Ty) (xs : List Raw) (answer : Result Column ColumnError) → IsUniform z → t ≡ column_type z → xs ≡ held z.values → Answers answer (column_of_raws t xs) → Answers answer (Ok (column_of z))
-column_told z t xs answer u e f h = subst (Answers answer) (column_made z t xs u e f) h
+-- what is answered for the values of such a statistic in a run of blocks tells its column there
+pub column_told : (z : ZoneStat) (first count : ℕ) (t : Ty) (xs : List Raw) (answer : Result Column ColumnError) → IsUniform z → t ≡ column_type z
+    → xs ≡ held (take count (drop first z.values)) → Answers answer (column_of_raws t xs) → Answers answer (Ok (column_of first count z))
+column_told z first count t xs answer u e f h = subst (Answers answer) (column_made z first count t xs u e f) h

@@ -1,7 +1,8 @@
 pub mod TruthLemmas
 pub mod StandingLemmas
+pub mod AvailableLemmas
+pub mod RunLemmas
 pub mod ColumnLemmas
 pub mod TableLemmas
-pub mod BlockRowLemmas
 pub mod RulingLemmas
 pub mod RuleLemmas

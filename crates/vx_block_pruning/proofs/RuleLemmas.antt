@@ -1,6 +1,8 @@
--- What a rule over the statistics of a table says of a block.
-use Rattle.std.proofs.Common.{◌≡◌, ℕ, ap, sym, ◌∙◌, true, false, Option, Some, None, subst, List, refl}
+-- What a rule over the statistics of a table says of a run of blocks.
+use Rattle.std.proofs.Common.{◌≡◌, ℕ, ap, sym, ◌∙◌, true, false, Option, Some, None, subst, List, map, refl}
 use Rattle.std.specs.Prelude.{MatchOption, option_map}
+use Rattle.std.specs.List.{range_with_len}
+use Rattle.std.proofs.Math.ListN.{replicate}
 use Rattle.vx_dtype.specs.declared.Stat.{Stat}
 use Rattle.vx_dtype.specs.Types.{Bytes}
 use Rattle.vx_dtype.specs.Logic.{is_true_val}
@@ -17,10 +19,12 @@ use Rattle.vx_laws_pruning.specs.PruningLaws.{IsPrunable}
 use Rattle.vx_laws_pruning.proofs.Accepted.{follows_rules}
 use Rattle.vx_laws_pruning.proofs.AvailableStatistics.{distinct-paths}
 use Rattle.vx_laws_pruning.proofs.Ruling.{pruning_tree_rules_out}
-use Rattle.vx_block_pruning.specs.PruningTruths.{IsEvaluable}
+use Rattle.vx_block_pruning.specs.BlocksRuledOut.{run_ruled_out}
+use Rattle.vx_block_pruning.specs.PruningTruths.{IsEvaluable, pruning_truths}
 use Rattle.vx_block_pruning.specs.PruningRules.{IsRuleOf}
 use Rattle.vx_block_pruning.specs.declared.rules.PruningRule.{PruningRule}
 use Rattle.vx_block_pruning.proofs.RulingLemmas.{evaluable}
+use Rattle.vx_block_pruning.proofs.RunLemmas.{none-in-run}
 
 -- what is answered for a pruning expression tells the expression alone
 pub tree-told : (o : Option Pruning) (answer : Tree × Relation (List Bytes) Stat) → PrunesBy o (Some answer) → Some answer.0 ≡ option_map (λ p. p.tree) o
@@ -54,16 +58,22 @@ module _ (zones : Zones) (slots : Slots) (e : Tree) (rule : PruningRule) (h : Is
   rule-evaluable pruning is =
       at-tree (pruning_over (available_paths zones) e) (IsEvaluable zones slots) (Unit {0}) pruning (evaluable zones slots e prunable) (sym is ∙ over-available)
 
-  pub rule-truth : (block : ℕ) (pruning : Tree) → rule.pruning ≡ Some pruning
+  rule-truth : (block : ℕ) (pruning : Tree) → rule.pruning ≡ Some pruning
       → is_true_val (mean (row_type (pruning_fields zones)) slots (pruning_row zones block) pruning) ≡ rules_out zones slots block e
   rule-truth block pruning is =
       at-tree (pruning_over (available_paths zones) e)
       (λ p. is_true_val (mean (row_type (pruning_fields zones)) slots (pruning_row zones block) p) ≡ rules_out zones slots block e) (rules_out zones slots block e ≡ false) pruning
       (pruning_tree_rules_out zones slots e block prunable) (sym is ∙ over-available)
 
+  pub rule-truths : (first count : ℕ) (pruning : Tree) → rule.pruning ≡ Some pruning → pruning_truths zones slots first count pruning ≡ run_ruled_out zones slots first count e
+  rule-truths first count pruning is = λ i. map (λ block. rule-truth block pruning is i) (range_with_len first count)
+
   -- without a pruning expression it rules out no block
-  pub rule-none : (block : ℕ) → rule.pruning ≡ None → rules_out zones slots block e ≡ false
-  rule-none block is =
+  none-ruled : (block : ℕ) → rule.pruning ≡ None → rules_out zones slots block e ≡ false
+  none-ruled block is =
       at-none (pruning_over (available_paths zones) e)
       (λ p. is_true_val (mean (row_type (pruning_fields zones)) slots (pruning_row zones block) p) ≡ rules_out zones slots block e) (rules_out zones slots block e ≡ false)
       (pruning_tree_rules_out zones slots e block prunable) (sym is ∙ over-available)
+
+  pub rule-none : (first count : ℕ) → rule.pruning ≡ None → replicate count false ≡ run_ruled_out zones slots first count e
+  rule-none first count is = none-in-run (λ block. rules_out zones slots block e) (λ block. none-ruled block is) first count

@@ -1,5 +1,5 @@
+pub mod Available
 pub mod BlocksRuledOut
-pub mod BlockRows
 pub mod PruningRules
 pub mod PruningTruths
 pub mod Standing

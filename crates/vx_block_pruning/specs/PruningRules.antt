@@ -7,7 +7,7 @@ use Rattle.vx_semantics.specs.Tables.{Zones, row_type}
 use Rattle.vx_passes.specs.PruningTables.{pruning_over}
 use Rattle.vx_zones.specs.ZoneViews.{statistic_paths}
 use Rattle.vx_laws_pruning.specs.PruningLaws.{AreAccepted}
-use Rattle.vx_block_pruning.specs.BlockRows.{TellsAvailable}
+use Rattle.vx_block_pruning.specs.Available.{TellsAvailable}
 use Rattle.vx_block_pruning.specs.declared.rules.PruningRule.{PruningRule}
 
 -- the pruning expression of a filter over a table's available statistics, none where they tell of none

@@ -1,6 +1,6 @@
 -- For the checker: no public clause cites this.
--- The table of the available statistics, a row for each block, and the truths of an expression over it.
-use Rattle.std.specs.Prelude.{◌≡◌, ◌<◌, Bool, true, false, List, map, length, Ok}
+-- The table of the available statistics in a run of blocks, a row for each, and the truths of an expression over it.
+use Rattle.std.specs.Prelude.{◌≡◌, ℕ, ◌<◌, Bool, true, false, List, map, length, Ok}
 use Rattle.std.specs.List.{range_with_len}
 use Rattle.vx_dtype.specs.Types.{Ty}
 use Rattle.vx_dtype.specs.Values.{Raw, raw_bool, Val}
@@ -16,14 +16,14 @@ use Rattle.vx_column.specs.Columns.{Column, column}
 use Rattle.vx_eval.specs.Evaluating.{checked_type}
 use Rattle.vx_laws_pruning.specs.PruningTypes.{IsBooleanOver}
 
--- the table of the available statistics, a row for each block
-abbrev pub pruning_table : Zones → Column
-pruning_table zones = column (row_type (pruning_fields zones)) (map (pruning_row zones) (range_with_len 0 (length zones.lengths)))
+-- the table of the available statistics, a row for each block of a run, which begins at a block and is so long
+abbrev pub pruning_table : Zones → ℕ → ℕ → Column
+pruning_table zones first count = column (row_type (pruning_fields zones)) (map (pruning_row zones) (range_with_len first count))
 
--- of each block, whether an expression over the statistics is true there
-abbrev pub pruning_truths : Zones → Slots → Tree → List Bool
-pruning_truths zones slots e =
-    map (λ block. is_true_val (mean (row_type (pruning_fields zones)) slots (pruning_row zones block) e)) (range_with_len 0 (length zones.lengths))
+-- of each block of a run, whether an expression over the statistics is true there
+abbrev pub pruning_truths : Zones → Slots → ℕ → ℕ → Tree → List Bool
+pruning_truths zones slots first count e =
+    map (λ block. is_true_val (mean (row_type (pruning_fields zones)) slots (pruning_row zones block) e)) (range_with_len first count)
 
 -- an expression over the statistics that has a type where there are blocks, whose slots fit, and of which no node breaks
 pub record IsEvaluable (zones : Zones) (slots : Slots) (e : Tree) : Type 0 where

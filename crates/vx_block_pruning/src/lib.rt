@@ -1,7 +1,6 @@
 //! Which blocks of a table a filter rules out by the table's statistics: the filter's pruning expression, evaluated over them.
 #![tactic(auto)]
 
-mod block_rows;
 mod joined_names;
 mod made_columns;
 mod rules;

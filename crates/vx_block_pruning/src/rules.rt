@@ -1,37 +1,33 @@
-// A filter's rule over a table's statistics, made once and asked block by block.
-ghost use Rattle.std.specs.Prelude.{◌≡◌, ◌<◌, ◌∷◌, [], true, length, map, Ok, IfOk};
+// A filter's rule over a table's statistics, made once and asked of runs of blocks.
+ghost use Rattle.std.specs.Prelude.{◌≡◌, ◌+◌, ◌≤◌, true, false, length, map, Ok, IfOk};
 ghost use Rattle.std.specs.HashMap.{get};
 ghost use Rattle.std.specs.Str.{bytes_eq};
+ghost use Rattle.std.proofs.Math.ListN.{replicate};
 ghost use Rattle.vx_dtype.specs.Types.{Ty};
-ghost use Rattle.vx_dtype.specs.Values.{Val};
-ghost use Rattle.vx_dtype.specs.Logic.{is_true_val};
 ghost use Rattle.vx_expr.specs.Trees.{Tree};
-ghost use Rattle.vx_semantics.specs.Meaning.{mean};
 ghost use Rattle.vx_semantics.specs.Typing.{typed_of};
 ghost use Rattle.vx_semantics.specs.Slots.{slots_fit};
 ghost use Rattle.vx_semantics.specs.Tables.{row_type};
-ghost use Rattle.vx_semantics.specs.Pruning.{rules_out};
 ghost use Rattle.vx_zones.specs.ZoneViews.{stat_view};
+ghost use Rattle.vx_block_pruning.specs.Available.{TellsAvailable};
+ghost use Rattle.vx_block_pruning.specs.BlocksRuledOut.{run_ruled_out};
 ghost use Rattle.vx_block_pruning.specs.PruningRules.{IsRuleOf, pruning_tree};
-ghost use Rattle.vx_block_pruning.specs.PruningTruths.{GivesColumn};
+ghost use Rattle.vx_block_pruning.specs.PruningTruths.{IsEvaluable, pruning_truths};
 ghost use Rattle.vx_block_pruning.specs.Standing.{is_alone_by};
 
-use crate::block_rows::block_row;
 use crate::joined_names::{is_alone, standing};
-use crate::ruling::copied;
-use crate::tables::available_names;
-use crate::truths::{evaluated, is_true_at};
+use crate::tables::{available_names, statistics_table};
+use crate::truths::{evaluated, truths};
 use std::alloc::Global;
 use std::collections::HashMap;
-use vx_column::ColumnRef;
 use vx_dtype::{FieldName, FieldNames, Mem, Scalar};
 use vx_eval::Scope;
 use vx_expr::ExprRef;
 use vx_prune::checked_pruning_expr;
 use vx_zones::{ZoneMap, ZoneStat};
 
-/// A filter's rule over a table's statistics, made once and asked block by block: a block costs what its own statistics cost, however many
-/// blocks the table has, and the slots may change from one block to the next.
+/// A filter's rule over a table's statistics, made once and asked of runs of blocks: a run is one evaluation over its own blocks' statistics,
+/// however many blocks the table has, and the slots may change from one run to the next.
 #[derive(Debug, Drop)]
 pub struct PruningRule {
     // The filter's pruning expression, none where the statistics tell of none.
@@ -60,27 +56,51 @@ impl PruningRule {
         })
     }
 
-    /// Whether the filter rules a block out, with these slots: the block's statistics show that the filter is true at no row there. The
-    /// statistics are those that the rule was made of, blocks are counted from 0, and the slots fit the filter.
+    /// Which blocks of a run the filter rules out, with these slots: a block's statistics show that the filter is true at no row there. One truth
+    /// value per block of the run, in order. The run begins at a block, counted from 0, and is so many blocks long, all of them the table's. The
+    /// statistics are those that the rule was made of, and the slots fit the filter.
     pub fn rules_out(
         &self,
         alloc: Global,
         zones: &ZoneMap,
-        block: u32,
+        first: u32,
+        count: u32,
         slots: &[Option<Scalar>],
-    ) -> Mem<bool>
+    ) -> Mem<Vec<bool>>
         requires rule { (filter : Tree) × IsRuleOf zones.now filter self.now × (slots_fit slots.now filter ≡ true) }
-        requires block { block < length zones.now.lengths }
+        requires blocks { first + count ≤ length zones.now.lengths }
         ensures { (filter : Tree) → IsRuleOf zones.now filter self.now → slots_fit slots.now filter ≡ true
-            → IfOk result (λ out. out ≡ rules_out zones.now slots.now block filter) }
+            → IfOk result (λ flags. flags.items ≡ run_ruled_out zones.now slots.now first count filter) }
     {
         match &self.pruning {
-            Some(pruning) => {
-                let row = block_row(alloc, zones, &self.names, self.available.as_slice(), block)?;
-                is_true_over(alloc, pruning, row, slots)
-            }
-            None => Ok(false),
+            Some(pruning) => self.pruned(alloc, zones, pruning, first, count, slots),
+            None => none_of(alloc, count),
         }
+    }
+
+    /// At which blocks of a run the pruning expression is true.
+    fn pruned(
+        &self,
+        alloc: Global,
+        zones: &ZoneMap,
+        pruning: &ExprRef,
+        first: u32,
+        count: u32,
+        slots: &[Option<Scalar>],
+    ) -> Mem<Vec<bool>>
+        requires available { TellsAvailable zones.now self.now.available.items self.now.names }
+        requires evaluable { IsEvaluable zones.now slots.now pruning.now }
+        requires blocks { first + count ≤ length zones.now.lengths }
+        ensures { IfOk result (λ flags. flags.items ≡ pruning_truths zones.now slots.now first count pruning.now) }
+    {
+        // Where the table has no blocks, statistics have no values to take their types from.
+        if count == 0 {
+            return Ok(Vec::new(alloc));
+        }
+        let available = self.available.as_slice();
+        let table = statistics_table(alloc, zones, &self.names, available, first, count)?;
+        let scope = Scope::new(table).with_slots(copied(alloc, slots)?);
+        truths(alloc, &evaluated(alloc, pruning, &scope)?)
     }
 }
 
@@ -105,17 +125,20 @@ fn pruning_of(alloc: Global, zones: &ZoneMap, filter: &ExprRef) -> Mem<Option<Ex
     }
 }
 
-/// Whether an expression is true at the row of a table that has one.
-fn is_true_over(
-    alloc: Global,
-    expr: &ExprRef,
-    table: ColumnRef,
-    slots: &[Option<Scalar>],
-) -> Mem<bool>
-    requires column { GivesColumn table.ty slots.now table.rows expr.now }
-    requires one { length table.rows ≡ 1 }
-    ensures { (row : Val) → table.rows ≡ row ∷ [] → IfOk result (λ b. b ≡ is_true_val (mean table.ty slots.now row expr.now)) }
+/// The slots again.
+fn copied(alloc: Global, slots: &[Option<Scalar>]) -> Mem<Vec<Option<Scalar>>>
+    ensures { IfOk result (λ copy. copy.items ≡ slots.now) }
 {
-    let scope = Scope::new(table).with_slots(copied(alloc, slots)?);
-    is_true_at(alloc, &evaluated(alloc, expr, &scope)?, 0)
+    Ok(Vec::from_clones(alloc, slots)?)
+}
+
+/// That none of this many blocks is ruled out.
+fn none_of(alloc: Global, blocks: u32) -> Mem<Vec<bool>>
+    ensures { IfOk result (λ flags. flags.items ≡ replicate blocks false) }
+{
+    let mut flags = Vec::with_capacity(alloc, blocks as usize)?;
+    for _ in 0..blocks {
+        flags.push(false)?;
+    }
+    Ok(flags)
 }

@@ -1,4 +1,4 @@
-// The columns of statistics.
+// The columns of statistics over a run of blocks.
 ghost use Rattle.std.specs.Prelude.{◌≡◌, map, IfOk};
 ghost use Rattle.vx_dtype.specs.Types.{int_ty};
 ghost use Rattle.vx_dtype.specs.declared.PType.TheVariants.{U64 as U64Type};
@@ -7,7 +7,7 @@ ghost use Rattle.vx_dtype.specs.RawViews.{raw_view};
 ghost use Rattle.vx_dtype.specs.TypeViews.{type_view};
 ghost use Rattle.vx_passes.specs.PruningTables.{first_type};
 ghost use Rattle.vx_zones.specs.ZoneViews.{stat_view};
-ghost use Rattle.vx_block_pruning.specs.StatisticColumns.{column_of, IsUniform};
+ghost use Rattle.vx_block_pruning.specs.StatisticColumns.{column_of, HasRunOf};
 
 use crate::made_columns::made;
 use std::alloc::Global;
@@ -15,14 +15,20 @@ use vx_column::ColumnRef;
 use vx_dtype::{DType, Mem, Nullability, PType, Scalar, ScalarValue};
 use vx_zones::ZoneStat;
 
-/// The column of a statistic's values, of the type of the first one.
-pub(crate) fn column_of(alloc: Global, stat: &ZoneStat) -> Mem<ColumnRef>
-    requires { IsUniform (stat_view stat.now) }
-    ensures { IfOk result (λ c. c ≡ column_of (stat_view stat.now)) }
+/// The column of a statistic's values in a run of blocks, of the type of its first value of all.
+pub(crate) fn column_of(
+    alloc: Global,
+    stat: &ZoneStat,
+    first: usize,
+    count: usize,
+) -> Mem<ColumnRef>
+    requires { HasRunOf first count (stat_view stat.now) }
+    ensures { IfOk result (λ c. c ≡ column_of first count (stat_view stat.now)) }
 {
     let scalars = stat.values.as_slice();
-    let values = values_of(alloc, scalars)?;
-    made(ColumnRef::from_values(alloc, type_of(scalars)?, values.as_slice()))
+    let run = &scalars[first..first + count];
+    let values = values_of(alloc, run)?;
+    made(ColumnRef::of_values(alloc, type_of(scalars)?, values))
 }
 
 /// The type of the first of these scalars, that of a count where there is none.

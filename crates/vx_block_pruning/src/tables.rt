@@ -1,14 +1,15 @@
-// The table over which pruning expressions are evaluated: a row for each block, with the statistics that are available there.
-ghost use Rattle.std.specs.Prelude.{◌≡◌, map, IfOk};
+// The table over which pruning expressions are evaluated: a row for each block of a run, with the statistics that are available there.
+ghost use Rattle.std.specs.Prelude.{◌≡◌, ◌+◌, ◌≤◌, length, map, IfOk};
 ghost use Rattle.std.specs.List.{All, filter};
 ghost use Rattle.std.specs.HashMap.{get};
 ghost use Rattle.std.specs.Str.{bytes_eq};
 ghost use Rattle.vx_zones.specs.ZoneViews.{stat_view};
+ghost use Rattle.vx_block_pruning.specs.Available.{flagged, TellsAvailable};
 ghost use Rattle.vx_block_pruning.specs.Standing.{is_alone_by, name_of};
-ghost use Rattle.vx_block_pruning.specs.StatisticColumns.{column_of, IsUniform};
+ghost use Rattle.vx_block_pruning.specs.StatisticColumns.{column_of, HasRunOf};
 ghost use Rattle.vx_block_pruning.specs.PruningTruths.{pruning_table};
 
-use crate::joined_names::{is_alone, joined_name, standing};
+use crate::joined_names::{is_alone, joined_name};
 use crate::made_columns::made;
 use crate::statistics::column_of;
 use std::alloc::Global;
@@ -17,15 +18,23 @@ use vx_column::ColumnRef;
 use vx_dtype::{FieldName, FieldNames, Mem};
 use vx_zones::{ZoneMap, ZoneStat};
 
-/// The available statistics under their joined names, with a row for each block.
-pub(crate) fn statistics_table(alloc: Global, zones: &ZoneMap) -> Mem<ColumnRef>
-    ensures { IfOk result (λ table. table ≡ pruning_table zones.now) }
+/// The available statistics under their joined names, with a row for each block of a run, where it is known which are available. The run begins
+/// at a block and is so long.
+pub(crate) fn statistics_table(
+    alloc: Global,
+    zones: &ZoneMap,
+    names: &FieldNames,
+    available: &[bool],
+    first: u32,
+    count: u32,
+) -> Mem<ColumnRef>
+    requires available { TellsAvailable zones.now available.now names.now }
+    requires blocks { first + count ≤ length zones.now.lengths }
+    ensures { IfOk result (λ table. table ≡ pruning_table zones.now first count) }
 {
     let stats = zones.stats();
-    let standing = standing(alloc, stats)?;
-    let names = FieldNames::new(alloc, available_names(alloc, stats, &standing)?)?;
-    let columns = available_columns(alloc, stats, &standing)?;
-    made(ColumnRef::struct_(alloc, names, columns, zones.lengths().len(), None))
+    let columns = available_columns(alloc, stats, available, first as usize, count as usize)?;
+    made(ColumnRef::struct_(alloc, names.clone()?, columns, count as usize, None))
 }
 
 /// The joined names of those statistics that alone have theirs.
@@ -45,19 +54,23 @@ pub(crate) fn available_names(
     Ok(names)
 }
 
-/// The columns of those statistics that alone have their joined names.
+/// The columns of the flagged statistics over a run of blocks.
 fn available_columns(
     alloc: Global,
     stats: &[ZoneStat],
-    standing: &HashMap<FieldName, bool>,
+    flags: &[bool],
+    first: usize,
+    count: usize,
 ) -> Mem<Vec<ColumnRef>>
-    requires { All (λ s. IsUniform (stat_view s)) stats.now }
-    ensures { IfOk result (λ columns. columns.items ≡ map column_of (filter (is_alone_by (get bytes_eq standing.now)) (map stat_view stats.now))) }
+    requires many { length flags.now ≡ length stats.now }
+    requires values { All (λ s. HasRunOf first count (stat_view s)) stats.now }
+    ensures { IfOk result (λ columns. columns.items ≡ map (column_of first count) (flagged flags.now (map stat_view stats.now))) }
 {
     let mut columns = Vec::new(alloc);
-    for stat in stats {
-        if is_alone(alloc, standing, stat)? {
-            columns.push(column_of(alloc, stat)?)?;
+    for i in 0..stats.len() {
+        let stat = &stats[i];
+        if flags[i] {
+            columns.push(column_of(alloc, stat, first, count)?)?;
         }
     }
     Ok(columns)

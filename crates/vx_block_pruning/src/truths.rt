@@ -44,7 +44,7 @@ pub(crate) fn truths(alloc: Global, column: &ColumnRef) -> Mem<Vec<bool>>
 }
 
 /// Whether the value of a column at a row is true.
-pub(crate) fn is_true_at(alloc: Global, column: &ColumnRef, i: usize) -> Mem<bool>
+fn is_true_at(alloc: Global, column: &ColumnRef, i: usize) -> Mem<bool>
     requires { i < length column.now.rows }
     ensures { IfOk result (λ b. b ≡ is_true_val (row_at column.now i)) }
 {

@@ -1,12 +1,11 @@
-use Rattle.std.proofs.Common.{◌≡◌, map, take}
-use Rattle.std.specs.List.{filter}
-use Rattle.std.specs.HashMap.{get}
-use Rattle.std.specs.Str.{bytes_eq}
+use Rattle.std.proofs.Common.{◌≡◌, ◌++◌, map, drop}
 use Rattle.vx_zones.specs.ZoneViews.{stat_view}
-use Rattle.vx_block_pruning.specs.Standing.{is_alone_by}
+use Rattle.vx_block_pruning.specs.Available.{flagged}
 use Rattle.vx_block_pruning.specs.StatisticColumns.{column_of}
 use Rattle.vx_block_pruning.proofs.tables.available_columns.Given as goal
 
--- those of the statistics so far that stand alone
-abbrev pub invariant-loop-stat : goal.invariant-loop-stat
-invariant-loop-stat l = l.columns.items ≡ map column_of (filter (is_alone_by (get bytes_eq l.fn.standing)) (map stat_view (take l.stat-index l.fn.stats)))
+-- the columns so far, and then those of the statistics that are left
+abbrev pub invariant-loop-i : goal.invariant-loop-i
+invariant-loop-i l =
+    l.columns.items ++ map (column_of l.first l.count) (flagged (drop l.i l.flags) (map stat_view (drop l.i l.stats)))
+    ≡ map (column_of l.first l.count) (flagged l.flags (map stat_view l.stats))

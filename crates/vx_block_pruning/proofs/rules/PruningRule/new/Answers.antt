@@ -2,7 +2,7 @@ use Rattle.std.proofs.Common.{◌∙◌, map}
 use Rattle.std.specs.HashMap.{get}
 use Rattle.std.specs.Str.{bytes_eq}
 use Rattle.vx_zones.specs.ZoneViews.{stat_view}
-use Rattle.vx_block_pruning.proofs.BlockRowLemmas.{available-told}
+use Rattle.vx_block_pruning.proofs.AvailableLemmas.{available-told}
 use Rattle.vx_block_pruning.proofs.rules.PruningRule.new.Goals as goal
 
 pub returns : goal.returns

@@ -1,6 +1,6 @@
 use Rattle.std.proofs.Common.{◌≡◌, false}
 use Rattle.std.proofs.Math.ListN.{replicate}
-use Rattle.vx_block_pruning.proofs.ruling.none_of.Given as goal
+use Rattle.vx_block_pruning.proofs.rules.none_of.Given as goal
 
 -- the blocks so far
 abbrev pub invariant-loop : goal.invariant-loop
