@@ -57,8 +57,8 @@ asked_reads zones slots filter_expr projection =
     reads_in b (asked_columns (row_type zones.columns) filter_expr) ++ reads_in b (further_columns (row_type zones.columns) filter_expr projection))
     (kept_blocks zones slots filter_expr)
 
--- reads that are some of these, each once, in their order
-abbrev pub AreAmong : List Read → List Read → Type 0
+-- items that are some of these, each once, in their order
+abbrev pub AreAmong : {X : Type 0} → List X → List X → Type 0
 AreAmong [] all = Unit {0}
 AreAmong (r ∷ made) [] = ⊥
 AreAmong (r ∷ made) (s ∷ all) = ((r ≡ s) × AreAmong made all) ⊎ AreAmong (r ∷ made) all

@@ -63,5 +63,6 @@ fn is_ruled_out(
     ensures { IfOk result (λ out. out ≡ rules_out zones.now slots.now block filter.now) }
 {
     let rule = PruningRule::new(alloc, zones, filter)?;
-    rule.rules_out(alloc, zones, block, slots)
+    let flags = rule.rules_out(alloc, zones, block, 1, slots)?;
+    Ok(flags[0])
 }
