@@ -18,13 +18,15 @@ use Rattle.vx_prune.specs.declared.relations.Relation.{Relation}
 use Rattle.vx_prepare.specs.Preparing.{IsPrepared}
 use Rattle.vx_prepare.specs.declared.prepared.PreparedExpr.{PreparedExpr}
 use Rattle.vx_wire.specs.declared.encodings.ExprEncoding.{ExprEncoding}
+use Rattle.vx_scan.specs.ErrorKinds.{ErrorKind, of_memory, of_text, of_types, of_break, of_read, kind_of, OnlyOfText, OnlyOfTypes}
 use Rattle.vx_scan.specs.Opening.{Decodes, PreparesBoth}
-use Rattle.vx_scan.specs.Texts.{SpellsTree, SpellBoth}
+use Rattle.vx_scan.specs.Scanning.{scan_type}
+use Rattle.vx_scan.specs.Texts.{SpellsTree, IsTextRefused, SpellBoth, AreRefused}
 use Rattle.vx_scan.specs.declared.errors.Side.TheVariants.{Filter, Projection}
 use Rattle.vx_scan.specs.declared.errors.ScanError.{ScanError}
-use Rattle.vx_scan.specs.declared.errors.ScanError.TheVariants as errors
 use Rattle.vx_explain.specs.Explanations.{parts_of, parts_text, pruning_text, required_names, told, explanation_lines}
-use Rattle.vx_explain.specs.Explaining.{Explains}
+use Rattle.vx_scan.proofs.KindLemmas.{text_refused_so}
+use Rattle.vx_explain.specs.Explaining.{IsUnexplained, Explains}
 
 -- the parts of a prepared expression are told
 pub parts_told : (fs : Fields) (slots : Slots) (e : Tree) (p : PreparedExpr) → IsPrepared fs slots e p → split_text (split_view p.split) ≡ parts_text (parts_of fs e)
@@ -71,56 +73,29 @@ lines_joined filter_text pruning required filter_parts projection_text projectio
 
 -- a text that spells nothing refuses both, and so does what is not typed
 module _ (holds : ExprEncoding → Bool) (zones : Zones) (ft pt : Bytes) where
+  unspelled : (e : ScanError) → OnlyOfText (kind_of e) (AreRefused holds ft pt e) → Explains holds zones ft pt (Err e)
+  unspelled e h = by (kind_of e) h
+    where
+      by : (k : ErrorKind) → OnlyOfText k (AreRefused holds ft pt e) → IsUnexplained k holds zones ft pt e
+      by of_memory r = tt
+      by of_text r = r
+      by of_types r = absurd r
+      by (of_break cause) r = r
+      by of_read r = r
+
   pub filter_unspelled : (e : ScanError) → Decodes holds Filter ft (Err e) → Explains holds zones ft pt (Err e)
-  filter_unspelled errors.NoMemory h = tt
-  filter_unspelled errors.Overflow h = h
-  filter_unspelled errors.BadCast h = h
-  filter_unspelled errors.StoreFault h = h
-  filter_unspelled errors.FilterNotBool h = inl (inl h)
-  filter_unspelled (errors.BadWire s) h = inl (inl h)
-  filter_unspelled (errors.TooDeep s) h = inl (inl h)
-  filter_unspelled (errors.TooManyNodes s) h = inl (inl h)
-  filter_unspelled (errors.UnknownExpr s) h = inl (inl h)
-  filter_unspelled (errors.BadMetadata s) h = inl (inl h)
-  filter_unspelled (errors.WrongChildren s) h = inl (inl h)
-  filter_unspelled (errors.NotStruct s) h = inl (inl h)
-  filter_unspelled (errors.NullableSelect s) h = inl (inl h)
-  filter_unspelled (errors.UnknownField s) h = inl (inl h)
-  filter_unspelled (errors.DuplicateField s) h = inl (inl h)
-  filter_unspelled (errors.TypeMismatch s) h = inl (inl h)
+  filter_unspelled e h = unspelled e (text_refused_so (kind_of e) (IsTextRefused holds Filter ft e) (AreRefused holds ft pt e) (λ r. inl r) h)
 
   pub projection_unspelled : (f : Tree) (e : ScanError) → SpellsTree holds ft f → Decodes holds Projection pt (Err e) → Explains holds zones ft pt (Err e)
-  projection_unspelled f errors.NoMemory k h = tt
-  projection_unspelled f errors.Overflow k h = h
-  projection_unspelled f errors.BadCast k h = h
-  projection_unspelled f errors.StoreFault k h = h
-  projection_unspelled f errors.FilterNotBool k h = inl (inr ((f, k), h))
-  projection_unspelled f (errors.BadWire s) k h = inl (inr ((f, k), h))
-  projection_unspelled f (errors.TooDeep s) k h = inl (inr ((f, k), h))
-  projection_unspelled f (errors.TooManyNodes s) k h = inl (inr ((f, k), h))
-  projection_unspelled f (errors.UnknownExpr s) k h = inl (inr ((f, k), h))
-  projection_unspelled f (errors.BadMetadata s) k h = inl (inr ((f, k), h))
-  projection_unspelled f (errors.WrongChildren s) k h = inl (inr ((f, k), h))
-  projection_unspelled f (errors.NotStruct s) k h = inl (inr ((f, k), h))
-  projection_unspelled f (errors.NullableSelect s) k h = inl (inr ((f, k), h))
-  projection_unspelled f (errors.UnknownField s) k h = inl (inr ((f, k), h))
-  projection_unspelled f (errors.DuplicateField s) k h = inl (inr ((f, k), h))
-  projection_unspelled f (errors.TypeMismatch s) k h = inl (inr ((f, k), h))
+  projection_unspelled f e k h =
+      unspelled e (text_refused_so (kind_of e) (IsTextRefused holds Projection pt e) (AreRefused holds ft pt e) (λ r. inr ((f, k), r)) h)
 
   pub untyped : (f p : Tree) (e : ScanError) → SpellBoth holds ft pt f p → PreparesBoth zones.columns [] f p (Err e) → Explains holds zones ft pt (Err e)
-  untyped f p errors.NoMemory k h = tt
-  untyped f p errors.Overflow k h = h
-  untyped f p errors.BadCast k h = h
-  untyped f p errors.StoreFault k h = h
-  untyped f p errors.FilterNotBool k h = inr (f, p, k, h)
-  untyped f p (errors.BadWire s) k h = inr (f, p, k, h)
-  untyped f p (errors.TooDeep s) k h = inr (f, p, k, h)
-  untyped f p (errors.TooManyNodes s) k h = inr (f, p, k, h)
-  untyped f p (errors.UnknownExpr s) k h = inr (f, p, k, h)
-  untyped f p (errors.BadMetadata s) k h = inr (f, p, k, h)
-  untyped f p (errors.WrongChildren s) k h = inr (f, p, k, h)
-  untyped f p (errors.NotStruct s) k h = inr (f, p, k, h)
-  untyped f p (errors.NullableSelect s) k h = inr (f, p, k, h)
-  untyped f p (errors.UnknownField s) k h = inr (f, p, k, h)
-  untyped f p (errors.DuplicateField s) k h = inr (f, p, k, h)
-  untyped f p (errors.TypeMismatch s) k h = inr (f, p, k, h)
+  untyped f p e spelled h = by (kind_of e) h
+    where
+      by : (k : ErrorKind) → OnlyOfTypes k (scan_type (row_type zones.columns) [] f p ≡ Err e) → IsUnexplained k holds zones ft pt e
+      by of_memory r = tt
+      by of_text r = absurd r
+      by of_types r = (f, p, spelled, r)
+      by (of_break cause) r = r
+      by of_read r = r

@@ -11,5 +11,6 @@ pub use Rattle.vx_zones.specs.ZoneViews
 pub use Rattle.vx_passes.specs.PruningTables
 pub use Rattle.vx_laws_columns.specs.Columns
 pub use Rattle.vx_partition.specs.SplitTexts
+pub use Rattle.vx_scan.specs.ErrorKinds
 pub use Rattle.vx_scan.specs.Texts as ScanTexts
 pub use Rattle.vx_scan.specs.Scanning

@@ -38,18 +38,7 @@ ends_block f p g block a m b made left behind (Err errors.StoreFault) k later as
       subst (λ (read : Option Read). FailedAmong (block_asked a.zones f p block) made read) (sym h.2) (among_next made (h.1 ++ behind) (block_asked a.zones f p block) h.0 next),
     )
 ends_block f p g block a m b made left behind (Err errors.NoMemory) k later asks all h = h ∙ k
-ends_block f p g block a m b made left behind (Err (errors.BadWire s)) k later asks all h = absurd h
-ends_block f p g block a m b made left behind (Err (errors.TooDeep s)) k later asks all h = absurd h
-ends_block f p g block a m b made left behind (Err (errors.TooManyNodes s)) k later asks all h = absurd h
-ends_block f p g block a m b made left behind (Err (errors.UnknownExpr s)) k later asks all h = absurd h
-ends_block f p g block a m b made left behind (Err (errors.BadMetadata s)) k later asks all h = absurd h
-ends_block f p g block a m b made left behind (Err (errors.WrongChildren s)) k later asks all h = absurd h
-ends_block f p g block a m b made left behind (Err (errors.NotStruct s)) k later asks all h = absurd h
-ends_block f p g block a m b made left behind (Err (errors.NullableSelect s)) k later asks all h = absurd h
-ends_block f p g block a m b made left behind (Err (errors.UnknownField s)) k later asks all h = absurd h
-ends_block f p g block a m b made left behind (Err (errors.DuplicateField s)) k later asks all h = absurd h
-ends_block f p g block a m b made left behind (Err (errors.TypeMismatch s)) k later asks all h = absurd h
-ends_block f p g block a m b made left behind (Err errors.FilterNotBool) k later asks all h = absurd h
+ends_block f p g block a m b made left behind (Err _) k later asks all h = absurd h
 
 -- the reads of the filter's phase and of the projection's, and whole runs of the filter's
 abbrev pub FilterPart : Slots → Tree → ℕ → StoreSeen → StoreSeen → Result (Unit {0}) ScanError → Type 0

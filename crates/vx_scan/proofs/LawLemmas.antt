@@ -11,17 +11,18 @@ use Rattle.vx_semantics.specs.Scans.{Phase, phase_breaks, phase_breaks_by, first
 use Rattle.vx_laws_scan.proofs.Keeping.{kept_rows_are_all}
 use Rattle.vx_io.specs.Counts.{one_more}
 use Rattle.vx_wire.specs.declared.encodings.ExprEncoding.{ExprEncoding}
+use Rattle.vx_scan.specs.ErrorKinds.{ErrorKind, of_memory, of_text, of_types, of_break, of_read, kind_of, OnlyOfText, OnlyOfMemory, OnlyOfBreaks}
 use Rattle.vx_scan.specs.Stores.{StoreSeen, WhereTold}
+use Rattle.vx_scan.proofs.KindLemmas.{memory_alone}
 use Rattle.vx_scan.proofs.TextLemmas.{texts_so, both_are_taken, one_text_refusal}
 use Rattle.vx_scan.specs.Texts.{AreRefused}
 use Rattle.vx_scan.specs.Reports.{report_view}
-use Rattle.vx_scan.specs.Scanning.{scan_type, IsScanBroken, IsScanOf, IsUnspelled}
+use Rattle.vx_scan.specs.Scanning.{scan_type, IsScanBroken, IsScanStopped, IsScanOf, IsUnspelled}
 use Rattle.vx_scan.specs.ScanLaws.{HonestScansAreWhole, HonestTextScansAreWhole, IsQuietScan, FaultlessStoresCountNoFault}
-use Rattle.vx_scan.specs.ScanLaws.{ReportsUnlessNoMemory, UnbrokenScansReport, UnbrokenTextScansReport, BreaksUnlessNoMemory, ScansBreakWhereAPhaseBreaks, TextScansBreakWhereAPhaseBreaks}
+use Rattle.vx_scan.specs.ScanLaws.{UnbrokenScansReport, UnbrokenTextScansReport, ScansBreakWhereAPhaseBreaks, TextScansBreakWhereAPhaseBreaks}
 use Rattle.vx_scan.specs.ScanLaws.{RefusesBy, RefusedTypesAreRefused, RefusedTextsAreRefused}
-use Rattle.vx_scan.specs.ScanLaws.{is_refusal, is_break, TextReportsExcludeErrors, TextRefusalsExcludeBreaks, ReportsExcludeErrors, RefusalsExcludeBreaks, RefusalsAreOne, BothBreaksAreOfOnePhase}
+use Rattle.vx_scan.specs.ScanLaws.{kind_refuses, kind_breaks, is_refusal, is_break, TextReportsExcludeErrors, TextRefusalsExcludeBreaks, ReportsExcludeErrors, RefusalsExcludeBreaks, RefusalsAreOne, BothBreaksAreOfOnePhase}
 use Rattle.vx_scan.specs.declared.errors.ScanError.{ScanError}
-use Rattle.vx_scan.specs.declared.errors.ScanError.TheVariants as errors
 use Rattle.vx_scan.specs.declared.reports.ScanReport.{ScanReport}
 
 -- what holds of the table that is told
@@ -84,82 +85,52 @@ one_refusal (Err c) d e h k = cc
 
 refused_so : (slots : Slots) (f p : Tree) (before after : StoreSeen) (e : ScanError) → is_refusal e ≡ true → IsScanOf slots f p before after (Err e)
     → scan_type (row_type before.zones.columns) slots f p ≡ Err e
-refused_so slots f p before after errors.NoMemory r h = absurd cc
-refused_so slots f p before after errors.Overflow r h = absurd cc
-refused_so slots f p before after errors.BadCast r h = absurd cc
-refused_so slots f p before after errors.StoreFault r h = absurd cc
-refused_so slots f p before after (errors.BadWire z) r h = h.1
-refused_so slots f p before after (errors.TooDeep z) r h = h.1
-refused_so slots f p before after (errors.TooManyNodes z) r h = h.1
-refused_so slots f p before after (errors.UnknownExpr z) r h = h.1
-refused_so slots f p before after (errors.BadMetadata z) r h = h.1
-refused_so slots f p before after (errors.WrongChildren z) r h = h.1
-refused_so slots f p before after (errors.NotStruct z) r h = h.1
-refused_so slots f p before after (errors.NullableSelect z) r h = h.1
-refused_so slots f p before after (errors.UnknownField z) r h = h.1
-refused_so slots f p before after (errors.DuplicateField z) r h = h.1
-refused_so slots f p before after (errors.TypeMismatch z) r h = h.1
-refused_so slots f p before after errors.FilterNotBool r h = h.1
+refused_so slots f p before after e r h = by (kind_of e) r h
+  where
+    by : (k : ErrorKind) → kind_refuses k ≡ true → IsScanStopped k slots f p before after e → scan_type (row_type before.zones.columns) slots f p ≡ Err e
+    by of_memory r h = absurd cc
+    by of_text r h = absurd h
+    by of_types r h = h.1
+    by (of_break cause) r h = absurd cc
+    by of_read r h = absurd cc
 
 -- a break is one by a sum or by a cast
 by_break : (slots : Slots) (f p : Tree) (before after : StoreSeen) (e : ScanError) (Gives : Type 0) → is_break e ≡ true
     → ((c : Cause) → IsScanBroken c slots f p before after → Gives) → IsScanOf slots f p before after (Err e) → Gives
-by_break slots f p before after errors.Overflow Gives b give h = give by_sum h
-by_break slots f p before after errors.BadCast Gives b give h = give by_cast h
-by_break slots f p before after errors.NoMemory Gives b give h = absurd cc
-by_break slots f p before after errors.StoreFault Gives b give h = absurd cc
-by_break slots f p before after (errors.BadWire z) Gives b give h = absurd cc
-by_break slots f p before after (errors.TooDeep z) Gives b give h = absurd cc
-by_break slots f p before after (errors.TooManyNodes z) Gives b give h = absurd cc
-by_break slots f p before after (errors.UnknownExpr z) Gives b give h = absurd cc
-by_break slots f p before after (errors.BadMetadata z) Gives b give h = absurd cc
-by_break slots f p before after (errors.WrongChildren z) Gives b give h = absurd cc
-by_break slots f p before after (errors.NotStruct z) Gives b give h = absurd cc
-by_break slots f p before after (errors.NullableSelect z) Gives b give h = absurd cc
-by_break slots f p before after (errors.UnknownField z) Gives b give h = absurd cc
-by_break slots f p before after (errors.DuplicateField z) Gives b give h = absurd cc
-by_break slots f p before after (errors.TypeMismatch z) Gives b give h = absurd cc
-by_break slots f p before after errors.FilterNotBool Gives b give h = absurd cc
+by_break slots f p before after e Gives b give h = by (kind_of e) b h
+  where
+    by : (k : ErrorKind) → kind_breaks k ≡ true → IsScanStopped k slots f p before after e → Gives
+    by of_memory b h = absurd cc
+    by of_text b h = absurd h
+    by of_types b h = absurd cc
+    by (of_break cause) b h = give cause h
+    by of_read b h = absurd cc
 
--- a scan of typed expressions over a told table in which no fault was counted: a report, a break, or no memory
-by_quiet : (slots : Slots) (f p : Tree) (table : Table) (before after : StoreSeen) (Gives : Result ScanReport ScanError → Type 0) → IsQuietScan slots f p table before after
-    → ((report : ScanReport) → IsScanOf slots f p before after (Ok report) → Gives (Ok report))
-    → (IsScanOf slots f p before after (Err errors.Overflow) → Gives (Err errors.Overflow))
-    → (IsScanOf slots f p before after (Err errors.BadCast) → Gives (Err errors.BadCast))
-    → Gives (Err errors.NoMemory) → (result : Result ScanReport ScanError) → IsScanOf slots f p before after result → Gives result
-by_quiet slots f p table before after Gives q ok sum cast memory (Ok report) h = ok report h
-by_quiet slots f p table before after Gives q ok sum cast memory (Err errors.Overflow) h = sum h
-by_quiet slots f p table before after Gives q ok sum cast memory (Err errors.BadCast) h = cast h
-by_quiet slots f p table before after Gives q ok sum cast memory (Err errors.NoMemory) h = memory
-by_quiet slots f p table before after Gives q ok sum cast memory (Err errors.StoreFault) h = absurd (below after.faults (one_more before.faults) q.no_fault h.risen)
-by_quiet slots f p table before after Gives q ok sum cast memory (Err (errors.BadWire z)) h = absurd (never_refused _ q.ty (errors.BadWire z) q.typed h.1)
-by_quiet slots f p table before after Gives q ok sum cast memory (Err (errors.TooDeep z)) h = absurd (never_refused _ q.ty (errors.TooDeep z) q.typed h.1)
-by_quiet slots f p table before after Gives q ok sum cast memory (Err (errors.TooManyNodes z)) h = absurd (never_refused _ q.ty (errors.TooManyNodes z) q.typed h.1)
-by_quiet slots f p table before after Gives q ok sum cast memory (Err (errors.UnknownExpr z)) h = absurd (never_refused _ q.ty (errors.UnknownExpr z) q.typed h.1)
-by_quiet slots f p table before after Gives q ok sum cast memory (Err (errors.BadMetadata z)) h = absurd (never_refused _ q.ty (errors.BadMetadata z) q.typed h.1)
-by_quiet slots f p table before after Gives q ok sum cast memory (Err (errors.WrongChildren z)) h = absurd (never_refused _ q.ty (errors.WrongChildren z) q.typed h.1)
-by_quiet slots f p table before after Gives q ok sum cast memory (Err (errors.NotStruct z)) h = absurd (never_refused _ q.ty (errors.NotStruct z) q.typed h.1)
-by_quiet slots f p table before after Gives q ok sum cast memory (Err (errors.NullableSelect z)) h = absurd (never_refused _ q.ty (errors.NullableSelect z) q.typed h.1)
-by_quiet slots f p table before after Gives q ok sum cast memory (Err (errors.UnknownField z)) h = absurd (never_refused _ q.ty (errors.UnknownField z) q.typed h.1)
-by_quiet slots f p table before after Gives q ok sum cast memory (Err (errors.DuplicateField z)) h = absurd (never_refused _ q.ty (errors.DuplicateField z) q.typed h.1)
-by_quiet slots f p table before after Gives q ok sum cast memory (Err (errors.TypeMismatch z)) h = absurd (never_refused _ q.ty (errors.TypeMismatch z) q.typed h.1)
-by_quiet slots f p table before after Gives q ok sum cast memory (Err errors.FilterNotBool) h = absurd (never_refused _ q.ty errors.FilterNotBool q.typed h.1)
+-- a scan of typed expressions over a told table in which no fault was counted gives a report, or is stopped by a break or for want of memory
+by_quiet : (slots : Slots) (f p : Tree) (table : Table) (before after : StoreSeen) (Gives : ErrorKind → Type 0) → IsQuietScan slots f p table before after
+    → ((c : Cause) → IsScanBroken c slots f p before after → Gives (of_break c)) → Gives of_memory
+    → (k : ErrorKind) (e : ScanError) → IsScanStopped k slots f p before after e → Gives k
+by_quiet slots f p table before after Gives q broke memory of_memory e h = memory
+by_quiet slots f p table before after Gives q broke memory of_text e h = absurd h
+by_quiet slots f p table before after Gives q broke memory of_types e h = absurd (never_refused _ q.ty e q.typed h.1)
+by_quiet slots f p table before after Gives q broke memory (of_break cause) e h = broke cause h
+by_quiet slots f p table before after Gives q broke memory of_read e h = absurd (below after.faults (one_more before.faults) q.no_fault h.risen)
 
 pub unbroken_so : UnbrokenScansReport
-unbroken_so slots f p table before after result q u h =
-    by_quiet slots f p table before after ReportsUnlessNoMemory q (λ report k. tt)
-    (λ k. absurd (both_ways (some_phase_breaks table before.zones slots f p) u (broken_so by_sum slots f p table before after q.held k)))
-    (λ k. absurd (both_ways (some_phase_breaks table before.zones slots f p) u (broken_so by_cast slots f p table before after q.held k)))
-    tt result h
+unbroken_so slots f p table before after (Ok report) q u h = tt
+unbroken_so slots f p table before after (Err e) q u h =
+    by_quiet slots f p table before after OnlyOfMemory q
+    (λ c k. absurd (both_ways (some_phase_breaks table before.zones slots f p) u (broken_so c slots f p table before after q.held k)))
+    tt (kind_of e) e h
 
 pub unbroken_texts_so : UnbrokenTextScansReport
 unbroken_texts_so holds ft pt f p table before after result s q u h = unbroken_so [] f p table before after result q u (texts_so holds ft pt f p before after result s h)
 
 pub breaking_so : ScansBreakWhereAPhaseBreaks
-breaking_so slots f p table before after result q b h =
-    by_quiet slots f p table before after BreaksUnlessNoMemory q
-    (λ report k. absurd (both_ways (some_phase_breaks table before.zones slots f p) (report_so slots f p table before after report q.held k) b))
-    (λ k. tt) (λ k. tt) tt result h
+breaking_so slots f p table before after (Ok report) q b h =
+    absurd (both_ways (some_phase_breaks table before.zones slots f p) (report_so slots f p table before after report q.held h) b)
+breaking_so slots f p table before after (Err e) q b h =
+    by_quiet slots f p table before after OnlyOfBreaks q (λ c k. tt) tt (kind_of e) e h
 
 pub breaking_texts_so : TextScansBreakWhereAPhaseBreaks
 breaking_texts_so holds ft pt f p table before after result s q b h = breaking_so [] f p table before after result q b (texts_so holds ft pt f p before after result s h)
@@ -190,27 +161,16 @@ breaks_so slots f p table before after other held h k =
     (first_so by_sum slots f p table before after held h, first_so by_cast slots f p table before other held k)
 
 -- a break needs expressions that are spelled
-either : {P : Type 0} → ⊥ ⊎ (P × ⊥) → ⊥
-either (inl h) = h
-either (inr h) = h.1
-
-unspelled_breaks : (holds : ExprEncoding → Bool) (ft pt : Bytes) (before after : StoreSeen) (e : ScanError) → is_break e ≡ true → ¬ (IsUnspelled holds ft pt before after (Err e))
-unspelled_breaks holds ft pt before after errors.Overflow b h = either h.1
-unspelled_breaks holds ft pt before after errors.BadCast b h = either h.1
-unspelled_breaks holds ft pt before after errors.NoMemory b h = absurd cc
-unspelled_breaks holds ft pt before after errors.StoreFault b h = absurd cc
-unspelled_breaks holds ft pt before after errors.FilterNotBool b h = absurd cc
-unspelled_breaks holds ft pt before after (errors.BadWire z) b h = absurd cc
-unspelled_breaks holds ft pt before after (errors.TooDeep z) b h = absurd cc
-unspelled_breaks holds ft pt before after (errors.TooManyNodes z) b h = absurd cc
-unspelled_breaks holds ft pt before after (errors.UnknownExpr z) b h = absurd cc
-unspelled_breaks holds ft pt before after (errors.BadMetadata z) b h = absurd cc
-unspelled_breaks holds ft pt before after (errors.WrongChildren z) b h = absurd cc
-unspelled_breaks holds ft pt before after (errors.NotStruct z) b h = absurd cc
-unspelled_breaks holds ft pt before after (errors.NullableSelect z) b h = absurd cc
-unspelled_breaks holds ft pt before after (errors.UnknownField z) b h = absurd cc
-unspelled_breaks holds ft pt before after (errors.DuplicateField z) b h = absurd cc
-unspelled_breaks holds ft pt before after (errors.TypeMismatch z) b h = absurd cc
+unspelled_breaks : (holds : ExprEncoding → Bool) (ft pt : Bytes) (before after : StoreSeen) (e : ScanError) → is_break e ≡ true
+    → ¬ (IsUnspelled holds ft pt before after (Err e))
+unspelled_breaks holds ft pt before after e b h = by (kind_of e) b h.1
+  where
+    by : (k : ErrorKind) → kind_breaks k ≡ true → ¬ (OnlyOfText k (AreRefused holds ft pt e))
+    by of_memory b r = absurd cc
+    by of_text b r = absurd cc
+    by of_types b r = r
+    by (of_break cause) b r = r
+    by of_read b r = r
 
 pub text_reports_so : TextReportsExcludeErrors
 text_reports_so holds ft pt table before after other report e held kind (inl h) k = h
@@ -223,48 +183,29 @@ text_refusals_so holds ft pt before after other d e r b h (inr k) =
     refusals_so [] k.0 k.1 before after other d e r b (texts_so holds ft pt k.0 k.1 before after (Err d) k.2 h) k.3
 
 -- what is refused is refused whenever it is scanned, but for want of memory
-refused_by : (slots : Slots) (f p : Tree) (before after : StoreSeen) (e : ScanError) (result : Result ScanReport ScanError)
-    → scan_type (row_type before.zones.columns) slots f p ≡ Err e → IsScanOf slots f p before after result → RefusesBy e result
-refused_by slots f p before after e (Ok report) r h = never_refused (scan_type (row_type before.zones.columns) slots f p) (report_view report).ty e h.typed r
-refused_by slots f p before after e (Err errors.Overflow) r h = absurd (never_refused (scan_type (row_type before.zones.columns) slots f p) h.ty e h.typed r)
-refused_by slots f p before after e (Err errors.BadCast) r h = absurd (never_refused (scan_type (row_type before.zones.columns) slots f p) h.ty e h.typed r)
-refused_by slots f p before after e (Err errors.StoreFault) r h = absurd (never_refused (scan_type (row_type before.zones.columns) slots f p) h.ty e h.typed r)
-refused_by slots f p before after e (Err errors.NoMemory) r h = inr refl
-refused_by slots f p before after e (Err errors.FilterNotBool) r h = inl (one_refusal (scan_type (row_type before.zones.columns) slots f p) errors.FilterNotBool e h.1 r)
-refused_by slots f p before after e (Err (errors.BadWire z)) r h = inl (one_refusal (scan_type (row_type before.zones.columns) slots f p) (errors.BadWire z) e h.1 r)
-refused_by slots f p before after e (Err (errors.TooDeep z)) r h = inl (one_refusal (scan_type (row_type before.zones.columns) slots f p) (errors.TooDeep z) e h.1 r)
-refused_by slots f p before after e (Err (errors.TooManyNodes z)) r h = inl (one_refusal (scan_type (row_type before.zones.columns) slots f p) (errors.TooManyNodes z) e h.1 r)
-refused_by slots f p before after e (Err (errors.UnknownExpr z)) r h = inl (one_refusal (scan_type (row_type before.zones.columns) slots f p) (errors.UnknownExpr z) e h.1 r)
-refused_by slots f p before after e (Err (errors.BadMetadata z)) r h = inl (one_refusal (scan_type (row_type before.zones.columns) slots f p) (errors.BadMetadata z) e h.1 r)
-refused_by slots f p before after e (Err (errors.WrongChildren z)) r h = inl (one_refusal (scan_type (row_type before.zones.columns) slots f p) (errors.WrongChildren z) e h.1 r)
-refused_by slots f p before after e (Err (errors.NotStruct z)) r h = inl (one_refusal (scan_type (row_type before.zones.columns) slots f p) (errors.NotStruct z) e h.1 r)
-refused_by slots f p before after e (Err (errors.NullableSelect z)) r h = inl (one_refusal (scan_type (row_type before.zones.columns) slots f p) (errors.NullableSelect z) e h.1 r)
-refused_by slots f p before after e (Err (errors.UnknownField z)) r h = inl (one_refusal (scan_type (row_type before.zones.columns) slots f p) (errors.UnknownField z) e h.1 r)
-refused_by slots f p before after e (Err (errors.DuplicateField z)) r h = inl (one_refusal (scan_type (row_type before.zones.columns) slots f p) (errors.DuplicateField z) e h.1 r)
-refused_by slots f p before after e (Err (errors.TypeMismatch z)) r h = inl (one_refusal (scan_type (row_type before.zones.columns) slots f p) (errors.TypeMismatch z) e h.1 r)
-
 pub refused_types_so : RefusedTypesAreRefused
-refused_types_so = refused_by
+refused_types_so slots f p before after e (Ok report) r h =
+    never_refused (scan_type (row_type before.zones.columns) slots f p) (report_view report).ty e h.typed r
+refused_types_so slots f p before after e (Err d) r h = by (kind_of d) refl h
+  where
+    by : (k : ErrorKind) → kind_of d ≡ k → IsScanStopped k slots f p before after d → RefusesBy e (Err d)
+    by of_memory same h = inr (memory_alone d same)
+    by of_text same h = absurd h
+    by of_types same h = inl (one_refusal (scan_type (row_type before.zones.columns) slots f p) d e h.1 r)
+    by (of_break cause) same h = absurd (never_refused (scan_type (row_type before.zones.columns) slots f p) h.ty e h.typed r)
+    by of_read same h = absurd (never_refused (scan_type (row_type before.zones.columns) slots f p) h.ty e h.typed r)
 
 unspelled_by : (holds : ExprEncoding → Bool) (ft pt : Bytes) (before after : StoreSeen) (e : ScanError) (result : Result ScanReport ScanError)
     → AreRefused holds ft pt e → IsUnspelled holds ft pt before after result → RefusesBy e result
 unspelled_by holds ft pt before after e (Ok report) r h = h
-unspelled_by holds ft pt before after e (Err errors.NoMemory) r h = inr refl
-unspelled_by holds ft pt before after e (Err errors.Overflow) r h = inl (one_text_refusal holds ft pt errors.Overflow e h.1 r)
-unspelled_by holds ft pt before after e (Err errors.BadCast) r h = inl (one_text_refusal holds ft pt errors.BadCast e h.1 r)
-unspelled_by holds ft pt before after e (Err errors.StoreFault) r h = inl (one_text_refusal holds ft pt errors.StoreFault e h.1 r)
-unspelled_by holds ft pt before after e (Err errors.FilterNotBool) r h = inl (one_text_refusal holds ft pt errors.FilterNotBool e h.1 r)
-unspelled_by holds ft pt before after e (Err (errors.BadWire z)) r h = inl (one_text_refusal holds ft pt (errors.BadWire z) e h.1 r)
-unspelled_by holds ft pt before after e (Err (errors.TooDeep z)) r h = inl (one_text_refusal holds ft pt (errors.TooDeep z) e h.1 r)
-unspelled_by holds ft pt before after e (Err (errors.TooManyNodes z)) r h = inl (one_text_refusal holds ft pt (errors.TooManyNodes z) e h.1 r)
-unspelled_by holds ft pt before after e (Err (errors.UnknownExpr z)) r h = inl (one_text_refusal holds ft pt (errors.UnknownExpr z) e h.1 r)
-unspelled_by holds ft pt before after e (Err (errors.BadMetadata z)) r h = inl (one_text_refusal holds ft pt (errors.BadMetadata z) e h.1 r)
-unspelled_by holds ft pt before after e (Err (errors.WrongChildren z)) r h = inl (one_text_refusal holds ft pt (errors.WrongChildren z) e h.1 r)
-unspelled_by holds ft pt before after e (Err (errors.NotStruct z)) r h = inl (one_text_refusal holds ft pt (errors.NotStruct z) e h.1 r)
-unspelled_by holds ft pt before after e (Err (errors.NullableSelect z)) r h = inl (one_text_refusal holds ft pt (errors.NullableSelect z) e h.1 r)
-unspelled_by holds ft pt before after e (Err (errors.UnknownField z)) r h = inl (one_text_refusal holds ft pt (errors.UnknownField z) e h.1 r)
-unspelled_by holds ft pt before after e (Err (errors.DuplicateField z)) r h = inl (one_text_refusal holds ft pt (errors.DuplicateField z) e h.1 r)
-unspelled_by holds ft pt before after e (Err (errors.TypeMismatch z)) r h = inl (one_text_refusal holds ft pt (errors.TypeMismatch z) e h.1 r)
+unspelled_by holds ft pt before after e (Err d) r h = by (kind_of d) refl h.1
+  where
+    by : (k : ErrorKind) → kind_of d ≡ k → OnlyOfText k (AreRefused holds ft pt d) → RefusesBy e (Err d)
+    by of_memory same t = inr (memory_alone d same)
+    by of_text same t = inl (one_text_refusal holds ft pt d e t r)
+    by of_types same t = absurd t
+    by (of_break cause) same t = absurd t
+    by of_read same t = absurd t
 
 pub refused_texts_so : RefusedTextsAreRefused
 refused_texts_so holds ft pt before after e result r (inl h) = unspelled_by holds ft pt before after e result r h

@@ -1,3 +1,4 @@
+pub mod KindLemmas
 pub mod RunLemmas
 pub mod AmongLemmas
 pub mod StepLemmas

@@ -9,11 +9,12 @@ use Rattle.vx_semantics.specs.Meaning.{Slots}
 use Rattle.vx_semantics.specs.Pruning.{rules_out}
 use Rattle.vx_semantics.specs.Scans.{Phase, block_phases, phase_reads, phases_to_break}
 use Rattle.vx_semantics.specs.Tables.{Zones, row_type}
+use Rattle.vx_scan.specs.ErrorKinds.{ErrorKind, of_memory, of_text, of_types, of_break, of_read, kind_of}
 use Rattle.vx_scan.specs.Stores.{Read, StoreSeen}
 use Rattle.vx_scan.specs.Reports.{Report}
 use Rattle.vx_scan.specs.Opening.{IsPreparedScan}
-use Rattle.vx_scan.specs.BlockRuns.{Runs, RunsBlock, RunsBlockOf}
-use Rattle.vx_scan.specs.BlockScanning.{IsBlockReport, StopsInBlock, IsBlockScanOf}
+use Rattle.vx_scan.specs.BlockRuns.{Runs, StopsBlock, RunsBlock, RunsBlockOf}
+use Rattle.vx_scan.specs.BlockScanning.{IsBlockReport, StopsInBlock, IsBlockScanStopped, IsBlockScanOf}
 use Rattle.vx_scan.specs.Steps.{Finding, TakesTurn}
 use Rattle.vx_scan.specs.declared.errors.ScanError.{ScanError}
 use Rattle.vx_scan.specs.declared.errors.ScanError.TheVariants as errors
@@ -62,23 +63,16 @@ unrun slots f p block before after e same why =
     subst (λ (d : ScanError). IsBlockScanOf slots f p block before after (Err d)) (sym why) (inl same)
 
 -- a run that stopped
-stopped : (slots : Slots) (f p : Tree) (block : ℕ) (before after : StoreSeen) (e : ScanError) → StopsInBlock slots f p block before after e → IsBlockScanOf slots f p block before after (Err e)
-stopped slots f p block before after errors.Overflow h = h
-stopped slots f p block before after errors.BadCast h = h
-stopped slots f p block before after errors.StoreFault h = h
-stopped slots f p block before after errors.NoMemory h = inr h
-stopped slots f p block before after (errors.BadWire s) h = absurd h.run.ends
-stopped slots f p block before after (errors.TooDeep s) h = absurd h.run.ends
-stopped slots f p block before after (errors.TooManyNodes s) h = absurd h.run.ends
-stopped slots f p block before after (errors.UnknownExpr s) h = absurd h.run.ends
-stopped slots f p block before after (errors.BadMetadata s) h = absurd h.run.ends
-stopped slots f p block before after (errors.WrongChildren s) h = absurd h.run.ends
-stopped slots f p block before after (errors.NotStruct s) h = absurd h.run.ends
-stopped slots f p block before after (errors.NullableSelect s) h = absurd h.run.ends
-stopped slots f p block before after (errors.UnknownField s) h = absurd h.run.ends
-stopped slots f p block before after (errors.DuplicateField s) h = absurd h.run.ends
-stopped slots f p block before after (errors.TypeMismatch s) h = absurd h.run.ends
-stopped slots f p block before after errors.FilterNotBool h = absurd h.run.ends
+stopped : (slots : Slots) (f p : Tree) (block : ℕ) (before after : StoreSeen) (e : ScanError) → StopsInBlock slots f p block before after e
+    → IsBlockScanOf slots f p block before after (Err e)
+stopped slots f p block before after e h = by (kind_of e) h.run.ends
+  where
+    by : (k : ErrorKind) → StopsBlock k f p block before after h.run.made → IsBlockScanStopped k slots f p block before after e
+    by of_memory ends = inr h
+    by of_text ends = ends
+    by of_types ends = absurd ends
+    by (of_break cause) ends = h
+    by of_read ends = h
 
 stops_in : (slots : Slots) (f p : Tree) (scan : PreparedScan) (block : ℕ) (before after : StoreSeen) (was now : List Val) (e : ScanError) → IsPreparedScan before.zones slots f p scan → rules_out before.zones slots block f ≡ false
     → was ≡ [] → RunsBlock slots f p block before after was now (Err e) → StopsInBlock slots f p block before after e

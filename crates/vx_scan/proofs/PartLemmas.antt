@@ -105,16 +105,4 @@ part_ran slots e reads block len of_rows a b (Err errors.BadCast) there h asks g
       (λ table g. (g.0, g.1, phase_broke_by_cast (row_type a.zones.columns) slots (phase_of e reads (of_rows g.0)) a.log b.log b.failed h.0 g.2)) gives;
 }
 part_ran slots e reads block len of_rows a b (Err errors.NoMemory) there h asks gives = part_cut slots e reads block len of_rows a b there h
-part_ran slots e reads block len of_rows a b (Err errors.StoreFault) there h asks gives = absurd asks
-part_ran slots e reads block len of_rows a b (Err (errors.BadWire s)) there h asks gives = absurd asks
-part_ran slots e reads block len of_rows a b (Err (errors.TooDeep s)) there h asks gives = absurd asks
-part_ran slots e reads block len of_rows a b (Err (errors.TooManyNodes s)) there h asks gives = absurd asks
-part_ran slots e reads block len of_rows a b (Err (errors.UnknownExpr s)) there h asks gives = absurd asks
-part_ran slots e reads block len of_rows a b (Err (errors.BadMetadata s)) there h asks gives = absurd asks
-part_ran slots e reads block len of_rows a b (Err (errors.WrongChildren s)) there h asks gives = absurd asks
-part_ran slots e reads block len of_rows a b (Err (errors.NotStruct s)) there h asks gives = absurd asks
-part_ran slots e reads block len of_rows a b (Err (errors.NullableSelect s)) there h asks gives = absurd asks
-part_ran slots e reads block len of_rows a b (Err (errors.UnknownField s)) there h asks gives = absurd asks
-part_ran slots e reads block len of_rows a b (Err (errors.DuplicateField s)) there h asks gives = absurd asks
-part_ran slots e reads block len of_rows a b (Err (errors.TypeMismatch s)) there h asks gives = absurd asks
-part_ran slots e reads block len of_rows a b (Err errors.FilterNotBool) there h asks gives = absurd asks
+part_ran slots e reads block len of_rows a b (Err _) there h asks gives = absurd asks

@@ -1,6 +1,6 @@
 -- What a scan makes ready, against its type.
-use Rattle.std.proofs.Common.{◌≡◌, refl, ap, ◌∙◌, Bool, true, false, cond, not, Option, Some, None, Result, Ok, Err, subst}
-use Rattle.vx_dtype.specs.TypeRules.{fields_of, is_bool_ty, no_name_twice}
+use Rattle.std.proofs.Common.{◌≡◌, refl, ap, ◌∙◌, Bool, true, false, cond, not, Option, Some, None, Result, Ok, Err}
+use Rattle.vx_dtype.specs.TypeRules.{is_bool_ty, no_name_twice}
 use Rattle.vx_dtype.specs.TypeViews.{type_view}
 use Rattle.vx_dtype.specs.Types.{Ty, Fields}
 use Rattle.vx_expr.specs.Trees.{Tree}
@@ -15,11 +15,8 @@ use Rattle.vx_zones.specs.declared.errors.ZoneError.TheVariants as zone_errors
 use Rattle.vx_prepare.specs.Preparing.{IsPrepared}
 use Rattle.vx_prepare.specs.declared.prepared.PreparedExpr.{PreparedExpr}
 use Rattle.vx_scan.specs.Scanning.{on_side, after_filter, scan_type}
-use Rattle.vx_scan.specs.Opening.{ArePrepared, PreparesBoth, IsPreparedScan, OtherSlotsServe}
-use Rattle.vx_scan.specs.Steps.{PreparesSide}
-use Rattle.vx_scan.specs.declared.errors.Side.{Side}
+use Rattle.vx_scan.specs.Opening.{ArePrepared, IsPreparedScan, OtherSlotsServe}
 use Rattle.vx_scan.specs.declared.errors.Side.TheVariants.{Filter, Projection}
-use Rattle.vx_scan.specs.declared.errors.ScanError.{ScanError}
 use Rattle.vx_scan.specs.declared.errors.ScanError.TheVariants as errors
 use Rattle.vx_scan.specs.declared.preparing.PreparedScan.{PreparedScan}
 
@@ -67,24 +64,13 @@ other_slots zones slots others f p scan h fits_filter fits_projection = record {
 }
 
 -- the type of a scan, or its first refusal
-pub filter_refuses : (t : Ty) (slots : Slots) (f p : Tree) (e : ScanError) → on_side Filter (checked_type t slots f) ≡ Err e → scan_type t slots f p ≡ Err e
-filter_refuses t slots f p e h = ap (λ (r : Result Ty ScanError). after_filter r (on_side Projection (checked_type t slots p))) h
-
 filter_passes : (t : Ty) (slots : Slots) (f p : Tree) (u : Ty) → checked_type t slots f ≡ Ok u
     → scan_type t slots f p ≡ cond (is_bool_ty u) (on_side Projection (checked_type t slots p)) (Err errors.FilterNotBool)
 filter_passes t slots f p u h = ap (λ (r : Result Ty Refusal). after_filter (on_side Filter r) (on_side Projection (checked_type t slots p))) h
 
-pub filter_no_bool : (t : Ty) (slots : Slots) (f p : Tree) (u : Ty) → checked_type t slots f ≡ Ok u → is_bool_ty u ≡ false → scan_type t slots f p ≡ Err errors.FilterNotBool
-filter_no_bool t slots f p u h k =
-    filter_passes t slots f p u h ∙ ap (λ (b : Bool). cond b (on_side Projection (checked_type t slots p)) (Err errors.FilterNotBool)) k
-
 filter_bool : (t : Ty) (slots : Slots) (f p : Tree) (u : Ty) → checked_type t slots f ≡ Ok u → is_bool_ty u ≡ true → scan_type t slots f p ≡ on_side Projection (checked_type t slots p)
 filter_bool t slots f p u h k =
     filter_passes t slots f p u h ∙ ap (λ (b : Bool). cond b (on_side Projection (checked_type t slots p)) (Err errors.FilterNotBool)) k
-
-pub projection_refuses : (t : Ty) (slots : Slots) (f p : Tree) (u : Ty) (e : ScanError) → checked_type t slots f ≡ Ok u → is_bool_ty u ≡ true → on_side Projection (checked_type t slots p) ≡ Err e
-    → scan_type t slots f p ≡ Err e
-projection_refuses t slots f p u e h k r = filter_bool t slots f p u h k ∙ r
 
 pub scan_typed : (zones : Zones) (slots : Slots) (f p : Tree) (scan : PreparedScan) → IsPreparedScan zones slots f p scan
     → scan_type (row_type zones.columns) slots f p ≡ Ok (type_view scan.projection.dtype)
@@ -98,28 +84,3 @@ pub both_typed : (fs : Fields) (slots : Slots) (f p : Tree) (both : PreparedExpr
     → scan_type (row_type fs) slots f p ≡ Ok (type_view both.1.dtype)
 both_typed fs slots f p both h =
     filter_bool (row_type fs) slots f p (type_view both.0.dtype) h.filter.typed h.boolean ∙ ap (on_side Projection) h.projection.typed
-
--- a side that is refused refuses both
-pub side_refuses : (fs : Fields) (slots : Slots) (f p g : Tree) (side : Side) (e : ScanError)
-    → (on_side side (checked_type (row_type fs) slots g) ≡ Err e → scan_type (row_type fs) slots f p ≡ Err e)
-    → PreparesSide fs slots side g (Err e) → PreparesBoth fs slots f p (Err e)
-side_refuses fs slots f p g side errors.NoMemory k h = tt
-side_refuses fs slots f p g side errors.Overflow k h = h
-side_refuses fs slots f p g side errors.BadCast k h = h
-side_refuses fs slots f p g side errors.StoreFault k h = h
-side_refuses fs slots f p g side (errors.BadWire s) k h = k h
-side_refuses fs slots f p g side (errors.TooDeep s) k h = k h
-side_refuses fs slots f p g side (errors.TooManyNodes s) k h = k h
-side_refuses fs slots f p g side (errors.UnknownExpr s) k h = k h
-side_refuses fs slots f p g side (errors.BadMetadata s) k h = k h
-side_refuses fs slots f p g side (errors.WrongChildren s) k h = k h
-side_refuses fs slots f p g side (errors.NotStruct s) k h = k h
-side_refuses fs slots f p g side (errors.NullableSelect s) k h = k h
-side_refuses fs slots f p g side (errors.UnknownField s) k h = k h
-side_refuses fs slots f p g side (errors.DuplicateField s) k h = k h
-side_refuses fs slots f p g side (errors.TypeMismatch s) k h = k h
-side_refuses fs slots f p g side errors.FilterNotBool k h = k h
-
--- what is prepared over the rows of zones
-pub side_of : (zones : Zones) (t : Ty) (slots : Slots) (side : Side) (g : Tree) (result : Result PreparedExpr ScanError) → t ≡ row_type zones.columns → PreparesSide (fields_of t) slots side g result → PreparesSide zones.columns slots side g result
-side_of zones t slots side g result e h = subst (λ (u : Ty). PreparesSide (fields_of u) slots side g result) e h

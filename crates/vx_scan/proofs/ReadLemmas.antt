@@ -24,20 +24,7 @@ pub by_reads : (reads : List Read) (before after : StoreSeen) (Gives : Result (U
 by_reads reads before after Gives ok fault memory (Ok u) h = ok u h
 by_reads reads before after Gives ok fault memory (Err errors.StoreFault) h = fault h
 by_reads reads before after Gives ok fault memory (Err errors.NoMemory) h = memory h
-by_reads reads before after Gives ok fault memory (Err errors.Overflow) h = absurd h
-by_reads reads before after Gives ok fault memory (Err errors.BadCast) h = absurd h
-by_reads reads before after Gives ok fault memory (Err (errors.BadWire s)) h = absurd h
-by_reads reads before after Gives ok fault memory (Err (errors.TooDeep s)) h = absurd h
-by_reads reads before after Gives ok fault memory (Err (errors.TooManyNodes s)) h = absurd h
-by_reads reads before after Gives ok fault memory (Err (errors.UnknownExpr s)) h = absurd h
-by_reads reads before after Gives ok fault memory (Err (errors.BadMetadata s)) h = absurd h
-by_reads reads before after Gives ok fault memory (Err (errors.WrongChildren s)) h = absurd h
-by_reads reads before after Gives ok fault memory (Err (errors.NotStruct s)) h = absurd h
-by_reads reads before after Gives ok fault memory (Err (errors.NullableSelect s)) h = absurd h
-by_reads reads before after Gives ok fault memory (Err (errors.UnknownField s)) h = absurd h
-by_reads reads before after Gives ok fault memory (Err (errors.DuplicateField s)) h = absurd h
-by_reads reads before after Gives ok fault memory (Err (errors.TypeMismatch s)) h = absurd h
-by_reads reads before after Gives ok fault memory (Err errors.FilterNotBool) h = absurd h
+by_reads reads before after Gives ok fault memory (Err _) h = absurd h
 
 pub one_more_later : (a b c : ℕ) → a ≤ b → one_more b ≤ c → one_more a ≤ c
 one_more_later a b c h k = grind (arith, h, k)

@@ -29,18 +29,7 @@ by_end t slots phases before after failed Gives ok sum cast fault memory (Err er
 by_end t slots phases before after failed Gives ok sum cast fault memory (Err errors.BadCast) h = cast h
 by_end t slots phases before after failed Gives ok sum cast fault memory (Err errors.StoreFault) h = fault h
 by_end t slots phases before after failed Gives ok sum cast fault memory (Err errors.NoMemory) h = memory h
-by_end t slots phases before after failed Gives ok sum cast fault memory (Err (errors.BadWire s)) h = absurd h
-by_end t slots phases before after failed Gives ok sum cast fault memory (Err (errors.TooDeep s)) h = absurd h
-by_end t slots phases before after failed Gives ok sum cast fault memory (Err (errors.TooManyNodes s)) h = absurd h
-by_end t slots phases before after failed Gives ok sum cast fault memory (Err (errors.UnknownExpr s)) h = absurd h
-by_end t slots phases before after failed Gives ok sum cast fault memory (Err (errors.BadMetadata s)) h = absurd h
-by_end t slots phases before after failed Gives ok sum cast fault memory (Err (errors.WrongChildren s)) h = absurd h
-by_end t slots phases before after failed Gives ok sum cast fault memory (Err (errors.NotStruct s)) h = absurd h
-by_end t slots phases before after failed Gives ok sum cast fault memory (Err (errors.NullableSelect s)) h = absurd h
-by_end t slots phases before after failed Gives ok sum cast fault memory (Err (errors.UnknownField s)) h = absurd h
-by_end t slots phases before after failed Gives ok sum cast fault memory (Err (errors.DuplicateField s)) h = absurd h
-by_end t slots phases before after failed Gives ok sum cast fault memory (Err (errors.TypeMismatch s)) h = absurd h
-by_end t slots phases before after failed Gives ok sum cast fault memory (Err errors.FilterNotBool) h = absurd h
+by_end t slots phases before after failed Gives ok sum cast fault memory (Err _) h = absurd h
 
 -- the log after some reads and then others
 pub logged : (before middle after xs ys : List Read) → middle ≡ before ++ xs → after ≡ middle ++ ys → after ≡ before ++ (xs ++ ys)

@@ -6,19 +6,19 @@ use Rattle.vx_dtype.specs.Types.{Ty}
 use Rattle.vx_dtype.specs.Values.{Val}
 use Rattle.vx_expr.specs.Trees.{Tree}
 use Rattle.vx_semantics.specs.Meaning.{Slots}
-use Rattle.vx_semantics.specs.Breaks.{Cause, by_sum, by_cast}
+use Rattle.vx_semantics.specs.Breaks.{Cause}
 use Rattle.vx_semantics.specs.Asked.{asked_columns}
 use Rattle.vx_semantics.specs.Pruning.{rules_out}
 use Rattle.vx_semantics.specs.Tables.{Table, Zones, row_type}
 use Rattle.vx_semantics.specs.Scans.{Phase, block_phases, block_rows, phase_breaks, first_breaks_by, phase_reads, phases_to_break, phases_of, reads_of, reads_to_break, some_phase_breaks, kept_rows_of}
 use Rattle.vx_io.specs.Counts.{one_more}
+use Rattle.vx_scan.specs.ErrorKinds.{ErrorKind, of_memory, of_text, of_types, of_break, of_read, kind_of}
 use Rattle.vx_scan.specs.Stores.{Read, StoreSeen, WhereTold, AgreesWith, IsSameStore}
-use Rattle.vx_scan.specs.Scanning.{scan_type, asked_reads, AreAmong, IsReport, IsScanBroken, IsStoreFault, IsCutOff, IsScanOf, asks_breaking}
+use Rattle.vx_scan.specs.Scanning.{scan_type, asked_reads, AreAmong, IsReport, IsScanBroken, IsStoreFault, IsCutOff, IsScanStopped, IsScanOf, asks_breaking}
 use Rattle.vx_scan.specs.Reports.{Report}
-use Rattle.vx_scan.specs.BlockRuns.{Runs, block_asked, FailedAmong, BrokeBy, RunsBlock, RunsBlockOf}
+use Rattle.vx_scan.specs.BlockRuns.{RunsUntil, Runs, block_asked, FailedAmong, BrokeBy, StopsBlock, RunsBlock, RunsBlockOf}
 use Rattle.vx_scan.specs.Runs.{phases_before, rows_before, asked_before, GrowsAmong, IsScannedTo}
 use Rattle.vx_scan.specs.declared.errors.ScanError.{ScanError}
-use Rattle.vx_scan.specs.declared.errors.ScanError.TheVariants as errors
 use Rattle.vx_scan.proofs.AmongLemmas.{among_more, among_append}
 use Rattle.vx_scan.proofs.RunLemmas.{logged, run_nothing, run_on, run_more, on_reads}
 use Rattle.vx_scan.proofs.StepLemmas.{block_there, no_more_blocks, phases_before_out, phases_before_in, phases_before_end, phases_split, rows_before_out, rows_before_in, rows_before_end}
@@ -210,7 +210,7 @@ run_whole table zones slots f p i rows before middle after was failed e there ou
     (run_more t slots (front ++ own) split.0 before after failed e (run_on t slots front own before middle after was failed (Err e) h k))
 
 -- a scan that has come to a kept block whose run ended before its end
-record Stops (slots : Slots) (f p : Tree) (i : ℕ) (before middle after : StoreSeen) (made : List Read) (e : ScanError) : Type 0 where
+record Stops (slots : Slots) (f p : Tree) (i : ℕ) (before middle after : StoreSeen) (made : List Read) (k : ErrorKind) : Type 0 where
   there : i < length before.zones.lengths
   kept : rules_out before.zones slots i f ≡ false
   same : IsSameStore before middle
@@ -219,11 +219,12 @@ record Stops (slots : Slots) (f p : Tree) (i : ℕ) (before middle after : Store
   came : middle.log ≡ before.log ++ front
   grown : after.log ≡ middle.log ++ made
   among : AreAmong front (asked_before before.zones slots f p i)
-  ran : WhereTold before.held (λ table. Runs (row_type table.columns) slots (phases_of table before.zones slots f p) before.log after.log after.failed (Err e))
+  ran : WhereTold before.held (λ table. RunsUntil k (row_type table.columns) slots (phases_of table before.zones slots f p) before.log after.log after.failed)
 
 stops : (slots : Slots) (f p : Tree) (i : ℕ) (before middle after : StoreSeen) (was now : List Val) (keeps skips : List ℕ) (e : ScanError)
     → i < length before.zones.lengths → rules_out before.zones slots i f ≡ false
-    → IsScannedTo slots f p i before middle was keeps skips → (r : RunsBlock slots f p i middle after was now (Err e)) → Stops slots f p i before middle after r.made e
+    → IsScannedTo slots f p i before middle was keeps skips → (r : RunsBlock slots f p i middle after was now (Err e))
+    → Stops slots f p i before middle after r.made (kind_of e)
 stops slots f p i before middle after was now keeps skips e l out s r =
     let zones = before.zones in
     record {
@@ -254,30 +255,27 @@ asked_all slots f p i before middle front made s l e h k =
     (among_more (front ++ made) (asked_before before.zones slots f p (i + 1)) split.0 (asked_with slots f p i before middle front made s l e h k))
 
 -- by a cause
-scan_broke : (c : Cause) (slots : Slots) (f p : Tree) (i : ℕ) (before middle after : StoreSeen) (made : List Read) (ty : Ty) (e : ScanError)
-    → scan_type (row_type before.zones.columns) slots f p ≡ Ok ty → Stops slots f p i before middle after made e
-    → AreAmong made (block_asked middle.zones f p i) → BrokeBy c f p middle after
-    → ((table : Table) → Runs (row_type table.columns) slots (phases_of table before.zones slots f p) before.log after.log after.failed (Err e)
-    → (after.log ≡ before.log ++ reads_to_break table before.zones slots f p) × (first_breaks_by c (row_type table.columns) slots (phases_of table before.zones slots f p) ≡ true))
-    → IsScanBroken c slots f p before after
-scan_broke c slots f p i before middle after made ty e typed s asked b broke =
+scan_broke : (c : Cause) (slots : Slots) (f p : Tree) (i : ℕ) (before middle after : StoreSeen) (made : List Read) (ty : Ty)
+    → scan_type (row_type before.zones.columns) slots f p ≡ Ok ty → Stops slots f p i before middle after made (of_break c)
+    → AreAmong made (block_asked middle.zones f p i) → BrokeBy c f p middle after → IsScanBroken c slots f p before after
+scan_broke c slots f p i before middle after made ty typed s asked b =
     let zones = before.zones in
     let all = s.front ++ made in
     let grown : after.log ≡ before.log ++ all = logged before.log middle.log after.log s.front made s.came s.grown in
-    let Ran : Table → Type 0 = λ table. Runs (row_type table.columns) slots (phases_of table zones slots f p) before.log after.log after.failed (Err e) in
+    let Ran : Table → Type 0 = λ table. RunsUntil (of_break c) (row_type table.columns) slots (phases_of table zones slots f p) before.log after.log after.failed in
     record {
       ty = ty;
       typed = typed;
       asks = subst (λ (z : Zones). (asks_breaking c (row_type z.columns) f || asks_breaking c (row_type z.columns) p) ≡ true) s.same.zones b.1;
       kept = block_kept zones slots f i s.there s.kept;
       first_breaks = told_so before.held Ran (λ table. first_breaks_by c (row_type table.columns) slots (phases_of table zones slots f p) ≡ true)
-          (λ table r. (broke table r).1) s.ran;
+          (λ table r. r.1) s.ran;
       reads = record {
         made = all;
         grown = grown;
         asked = asked_all slots f p i before middle s.front made s.same s.there s.kept s.among asked;
         told = told_so before.held Ran (λ table. all ≡ reads_to_break table zones slots f p)
-            (λ table r. append_cancel_left before.log all (reads_to_break table zones slots f p) (sym grown ∙ (broke table r).0)) s.ran;
+            (λ table r. append_cancel_left before.log all (reads_to_break table zones slots f p) (sym grown ∙ r.0)) s.ran;
       };
       unfailed = b.0 ∙ s.unfailed;
     }
@@ -289,7 +287,7 @@ failed_read all made (Some read) h = (read, refl, h)
 
 -- at a read that failed
 scan_failed : (slots : Slots) (f p : Tree) (i : ℕ) (before middle after : StoreSeen) (made : List Read) (ty : Ty)
-    → scan_type (row_type before.zones.columns) slots f p ≡ Ok ty → Stops slots f p i before middle after made errors.StoreFault
+    → scan_type (row_type before.zones.columns) slots f p ≡ Ok ty → Stops slots f p i before middle after made of_read
     → AreAmong made (block_asked middle.zones f p i) → one_more middle.faults ≤ after.faults → FailedAmong (block_asked middle.zones f p i) made after.failed
     → IsStoreFault slots f p before after
 scan_failed slots f p i before middle after made ty typed s asked risen failed =
@@ -308,7 +306,7 @@ scan_failed slots f p i before middle after made ty typed s asked risen failed =
         grown = grown;
         asked = asked_all slots f p i before middle s.front made s.same s.there s.kept s.among asked;
         told = told_so before.held
-            (λ table. Runs (row_type table.columns) slots (phases_of table zones slots f p) before.log after.log after.failed (Err errors.StoreFault))
+            (λ table. RunsUntil of_read (row_type table.columns) slots (phases_of table zones slots f p) before.log after.log after.failed)
             (λ table. (left : List Read) × (reads_to_break table zones slots f p ≡ all ++ (last.0 ∷ left)))
             (λ table r.
             let done : r.1 ≡ all = append_cancel_left before.log r.1 all (sym r.4 ∙ grown) in
@@ -323,7 +321,7 @@ scan_failed slots f p i before middle after made ty typed s asked risen failed =
 
 -- without memory
 scan_cut : (slots : Slots) (f p : Tree) (i : ℕ) (before middle after : StoreSeen) (made : List Read) (ty : Ty)
-    → scan_type (row_type before.zones.columns) slots f p ≡ Ok ty → Stops slots f p i before middle after made errors.NoMemory
+    → scan_type (row_type before.zones.columns) slots f p ≡ Ok ty → Stops slots f p i before middle after made of_memory
     → AreAmong made (block_asked middle.zones f p i) → after.failed ≡ middle.failed → IsCutOff slots f p before after
 scan_cut slots f p i before middle after made ty typed s asked unfailed =
     let zones = before.zones in
@@ -337,7 +335,7 @@ scan_cut slots f p i before middle after made ty typed s asked unfailed =
         grown = grown;
         asked = asked_all slots f p i before middle s.front made s.same s.there s.kept s.among asked;
         told = told_so before.held
-            (λ table. Runs (row_type table.columns) slots (phases_of table zones slots f p) before.log after.log after.failed (Err errors.NoMemory))
+            (λ table. RunsUntil of_memory (row_type table.columns) slots (phases_of table zones slots f p) before.log after.log after.failed)
             (λ table. (left : List Read) × (reads_to_break table zones slots f p ≡ all ++ left))
             (λ table r.
             let done : r.0 ≡ all = append_cancel_left before.log r.0 all (sym r.2 ∙ grown) in
@@ -351,30 +349,15 @@ scan_cut slots f p i before middle after made ty typed s asked unfailed =
 pub scan_stops : (slots : Slots) (f p : Tree) (i : ℕ) (before middle after : StoreSeen) (was now : List Val) (keeps skips : List ℕ) (ty : Ty) (e : ScanError)
     → scan_type (row_type before.zones.columns) slots f p ≡ Ok ty → i < length before.zones.lengths → rules_out before.zones slots i f ≡ false
     → IsScannedTo slots f p i before middle was keeps skips → RunsBlock slots f p i middle after was now (Err e) → IsScanOf slots f p before after (Err e)
-scan_stops slots f p i before middle after was now keeps skips ty errors.Overflow typed l out s r =
-    scan_broke by_sum slots f p i before middle after r.made ty errors.Overflow typed
-    (stops slots f p i before middle after was now keeps skips errors.Overflow l out s r) r.asked r.ends (λ table k. k)
-scan_stops slots f p i before middle after was now keeps skips ty errors.BadCast typed l out s r =
-    scan_broke by_cast slots f p i before middle after r.made ty errors.BadCast typed
-    (stops slots f p i before middle after was now keeps skips errors.BadCast l out s r) r.asked r.ends (λ table k. k)
-scan_stops slots f p i before middle after was now keeps skips ty errors.StoreFault typed l out s r =
-    scan_failed slots f p i before middle after r.made ty typed
-    (stops slots f p i before middle after was now keeps skips errors.StoreFault l out s r) r.asked r.ends.0 r.ends.1
-scan_stops slots f p i before middle after was now keeps skips ty errors.NoMemory typed l out s r =
-    inr (scan_cut slots f p i before middle after r.made ty typed
-    (stops slots f p i before middle after was now keeps skips errors.NoMemory l out s r) r.asked r.ends)
-scan_stops slots f p i before middle after was now keeps skips ty (errors.BadWire side) typed l out s r = absurd r.ends
-scan_stops slots f p i before middle after was now keeps skips ty (errors.TooDeep side) typed l out s r = absurd r.ends
-scan_stops slots f p i before middle after was now keeps skips ty (errors.TooManyNodes side) typed l out s r = absurd r.ends
-scan_stops slots f p i before middle after was now keeps skips ty (errors.UnknownExpr side) typed l out s r = absurd r.ends
-scan_stops slots f p i before middle after was now keeps skips ty (errors.BadMetadata side) typed l out s r = absurd r.ends
-scan_stops slots f p i before middle after was now keeps skips ty (errors.WrongChildren side) typed l out s r = absurd r.ends
-scan_stops slots f p i before middle after was now keeps skips ty (errors.NotStruct side) typed l out s r = absurd r.ends
-scan_stops slots f p i before middle after was now keeps skips ty (errors.NullableSelect side) typed l out s r = absurd r.ends
-scan_stops slots f p i before middle after was now keeps skips ty (errors.UnknownField side) typed l out s r = absurd r.ends
-scan_stops slots f p i before middle after was now keeps skips ty (errors.DuplicateField side) typed l out s r = absurd r.ends
-scan_stops slots f p i before middle after was now keeps skips ty (errors.TypeMismatch side) typed l out s r = absurd r.ends
-scan_stops slots f p i before middle after was now keeps skips ty errors.FilterNotBool typed l out s r = absurd r.ends
+scan_stops slots f p i before middle after was now keeps skips ty e typed l out s r =
+    by (kind_of e) (stops slots f p i before middle after was now keeps skips e l out s r) r.ends
+  where
+    by : (k : ErrorKind) → Stops slots f p i before middle after r.made k → StopsBlock k f p i middle after r.made → IsScanStopped k slots f p before after e
+    by of_memory so ends = inr (scan_cut slots f p i before middle after r.made ty typed so r.asked ends)
+    by of_text so ends = ends
+    by of_types so ends = absurd ends
+    by (of_break cause) so ends = scan_broke cause slots f p i before middle after r.made ty typed so r.asked ends
+    by of_read so ends = scan_failed slots f p i before middle after r.made ty typed so r.asked ends.0 ends.1
 
 -- there was no memory between two blocks
 pub scan_stops_between : (slots : Slots) (f p : Tree) (i : ℕ) (before after : StoreSeen) (rows : List Val) (keeps skips : List ℕ) (ty : Ty)

@@ -11,18 +11,20 @@ use Rattle.vx_semantics.specs.Typing.{typed_of}
 use Rattle.vx_semantics.specs.Tables.{Zones, row_type, numbered_from}
 use Rattle.vx_wire.specs.declared.encodings.ExprEncoding.{ExprEncoding}
 use Rattle.vx_block_pruning.specs.BlocksRuledOut.{blocks_ruled_out}
+use Rattle.vx_scan.specs.ErrorKinds.{kind_of}
 use Rattle.vx_scan.specs.Stores.{StoreSeen, WhereTold, AgreesWith}
-use Rattle.vx_scan.specs.Texts.{SpellsTree}
-use Rattle.vx_scan.specs.Scanning.{scan_type, IsScanOf, IsUnspelled, IsReport}
+use Rattle.vx_scan.specs.Texts.{SpellsTree, IsTextRefused, AreRefused}
+use Rattle.vx_scan.specs.Scanning.{IsScanOf, IsUnspelled, IsReport}
 use Rattle.vx_scan.specs.Reports.{Report}
 use Rattle.vx_scan.specs.BlockRuns.{RunsBlock}
 use Rattle.vx_scan.specs.Runs.{IsScannedTo}
-use Rattle.vx_scan.specs.Opening.{Decodes, IsPreparedScan, PreparesScan}
+use Rattle.vx_scan.specs.Opening.{Decodes, IsPreparedScan}
 use Rattle.vx_scan.specs.Steps.{IsRuledScan, Finding, TakesTurn, StandsAt}
 use Rattle.vx_scan.specs.declared.errors.Side.TheVariants.{Filter, Projection}
 use Rattle.vx_scan.specs.declared.errors.ScanError.{ScanError}
 use Rattle.vx_scan.specs.declared.errors.ScanError.TheVariants as errors
 use Rattle.vx_scan.specs.declared.preparing.PreparedScan.{PreparedScan}
+use Rattle.vx_scan.proofs.KindLemmas.{text_refused_so}
 use Rattle.vx_scan.proofs.PrepareLemmas.{scan_typed, checked_parts}
 use Rattle.vx_scan.proofs.ScanLemmas.{scan_skips, scan_keeps, scan_report, scan_stops, scan_stops_between}
 
@@ -117,25 +119,6 @@ turn_stands false slots f p scan i start middle after was now (Err e) h agrees l
 turn_stands false slots f p scan i start middle after was now (Err e) h agrees l out (inr t) s =
     scan_stops slots f p i start middle after was.rows now.rows was.kept was.skipped (type_view scan.projection.dtype) e (scan_typed start.zones slots f p scan h) l out s t
 
--- a scan that is not made ready
-pub unprepared : (slots : Slots) (f p : Tree) (seen : StoreSeen) (zones : Zones) (e : ScanError) → zones ≡ seen.zones → PreparesScan zones slots f p (Err e) → IsScanOf slots f p seen seen (Err e)
-unprepared slots f p seen zones errors.NoMemory z h = inl refl
-unprepared slots f p seen zones errors.Overflow z h = absurd h
-unprepared slots f p seen zones errors.BadCast z h = absurd h
-unprepared slots f p seen zones errors.StoreFault z h = absurd h
-unprepared slots f p seen zones (errors.BadWire s) z h = (refl, ap (λ (w : Zones). scan_type (row_type w.columns) slots f p) (sym z) ∙ h)
-unprepared slots f p seen zones (errors.TooDeep s) z h = (refl, ap (λ (w : Zones). scan_type (row_type w.columns) slots f p) (sym z) ∙ h)
-unprepared slots f p seen zones (errors.TooManyNodes s) z h = (refl, ap (λ (w : Zones). scan_type (row_type w.columns) slots f p) (sym z) ∙ h)
-unprepared slots f p seen zones (errors.UnknownExpr s) z h = (refl, ap (λ (w : Zones). scan_type (row_type w.columns) slots f p) (sym z) ∙ h)
-unprepared slots f p seen zones (errors.BadMetadata s) z h = (refl, ap (λ (w : Zones). scan_type (row_type w.columns) slots f p) (sym z) ∙ h)
-unprepared slots f p seen zones (errors.WrongChildren s) z h = (refl, ap (λ (w : Zones). scan_type (row_type w.columns) slots f p) (sym z) ∙ h)
-unprepared slots f p seen zones (errors.NotStruct s) z h = (refl, ap (λ (w : Zones). scan_type (row_type w.columns) slots f p) (sym z) ∙ h)
-unprepared slots f p seen zones (errors.NullableSelect s) z h = (refl, ap (λ (w : Zones). scan_type (row_type w.columns) slots f p) (sym z) ∙ h)
-unprepared slots f p seen zones (errors.UnknownField s) z h = (refl, ap (λ (w : Zones). scan_type (row_type w.columns) slots f p) (sym z) ∙ h)
-unprepared slots f p seen zones (errors.DuplicateField s) z h = (refl, ap (λ (w : Zones). scan_type (row_type w.columns) slots f p) (sym z) ∙ h)
-unprepared slots f p seen zones (errors.TypeMismatch s) z h = (refl, ap (λ (w : Zones). scan_type (row_type w.columns) slots f p) (sym z) ∙ h)
-unprepared slots f p seen zones errors.FilterNotBool z h = (refl, ap (λ (w : Zones). scan_type (row_type w.columns) slots f p) (sym z) ∙ h)
-
 -- the report of a scan that is at its end
 pub report_of : (slots : Slots) (f p : Tree) (scan : PreparedScan) (before after : StoreSeen) (rows : List Val) (keeps skips : List ℕ) (report : Report) → IsPreparedScan before.zones slots f p scan → WhereTold before.held (AgreesWith before.zones)
     → IsScannedTo slots f p (length before.zones.lengths) before after rows keeps skips → report.ty ≡ type_view scan.projection.dtype → report.rows ≡ rows → report.kept ≡ keeps → report.skipped ≡ skips
@@ -145,38 +128,12 @@ report_of slots f p scan before after rows keeps skips report h agrees s ty valu
     (asked ∙ h.filter.columns) (projected ∙ h.projection.columns)
 
 -- texts that are refused
-pub filter_unspelled : (holds : ExprEncoding → Bool) (ft pt : Bytes) (seen : StoreSeen) (e : ScanError) → Decodes holds Filter ft (Err e) → IsUnspelled holds ft pt seen seen (Err e)
-filter_unspelled holds ft pt seen errors.NoMemory h = refl
-filter_unspelled holds ft pt seen errors.Overflow h = (refl, inl h)
-filter_unspelled holds ft pt seen errors.BadCast h = (refl, inl h)
-filter_unspelled holds ft pt seen errors.StoreFault h = (refl, inl h)
-filter_unspelled holds ft pt seen (errors.BadWire s) h = (refl, inl h)
-filter_unspelled holds ft pt seen (errors.TooDeep s) h = (refl, inl h)
-filter_unspelled holds ft pt seen (errors.TooManyNodes s) h = (refl, inl h)
-filter_unspelled holds ft pt seen (errors.UnknownExpr s) h = (refl, inl h)
-filter_unspelled holds ft pt seen (errors.BadMetadata s) h = (refl, inl h)
-filter_unspelled holds ft pt seen (errors.WrongChildren s) h = (refl, inl h)
-filter_unspelled holds ft pt seen (errors.NotStruct s) h = (refl, inl h)
-filter_unspelled holds ft pt seen (errors.NullableSelect s) h = (refl, inl h)
-filter_unspelled holds ft pt seen (errors.UnknownField s) h = (refl, inl h)
-filter_unspelled holds ft pt seen (errors.DuplicateField s) h = (refl, inl h)
-filter_unspelled holds ft pt seen (errors.TypeMismatch s) h = (refl, inl h)
-filter_unspelled holds ft pt seen errors.FilterNotBool h = (refl, inl h)
+pub filter_unspelled : (holds : ExprEncoding → Bool) (ft pt : Bytes) (seen : StoreSeen) (e : ScanError) → Decodes holds Filter ft (Err e)
+    → IsUnspelled holds ft pt seen seen (Err e)
+filter_unspelled holds ft pt seen e h =
+    (refl, text_refused_so (kind_of e) (IsTextRefused holds Filter ft e) (AreRefused holds ft pt e) (λ r. inl r) h)
 
-pub projection_unspelled : (holds : ExprEncoding → Bool) (ft pt : Bytes) (f : Tree) (seen : StoreSeen) (e : ScanError) → SpellsTree holds ft f → Decodes holds Projection pt (Err e) → IsUnspelled holds ft pt seen seen (Err e)
-projection_unspelled holds ft pt f seen errors.NoMemory k h = refl
-projection_unspelled holds ft pt f seen errors.Overflow k h = (refl, inr ((f, k), h))
-projection_unspelled holds ft pt f seen errors.BadCast k h = (refl, inr ((f, k), h))
-projection_unspelled holds ft pt f seen errors.StoreFault k h = (refl, inr ((f, k), h))
-projection_unspelled holds ft pt f seen (errors.BadWire s) k h = (refl, inr ((f, k), h))
-projection_unspelled holds ft pt f seen (errors.TooDeep s) k h = (refl, inr ((f, k), h))
-projection_unspelled holds ft pt f seen (errors.TooManyNodes s) k h = (refl, inr ((f, k), h))
-projection_unspelled holds ft pt f seen (errors.UnknownExpr s) k h = (refl, inr ((f, k), h))
-projection_unspelled holds ft pt f seen (errors.BadMetadata s) k h = (refl, inr ((f, k), h))
-projection_unspelled holds ft pt f seen (errors.WrongChildren s) k h = (refl, inr ((f, k), h))
-projection_unspelled holds ft pt f seen (errors.NotStruct s) k h = (refl, inr ((f, k), h))
-projection_unspelled holds ft pt f seen (errors.NullableSelect s) k h = (refl, inr ((f, k), h))
-projection_unspelled holds ft pt f seen (errors.UnknownField s) k h = (refl, inr ((f, k), h))
-projection_unspelled holds ft pt f seen (errors.DuplicateField s) k h = (refl, inr ((f, k), h))
-projection_unspelled holds ft pt f seen (errors.TypeMismatch s) k h = (refl, inr ((f, k), h))
-projection_unspelled holds ft pt f seen errors.FilterNotBool k h = (refl, inr ((f, k), h))
+pub projection_unspelled : (holds : ExprEncoding → Bool) (ft pt : Bytes) (f : Tree) (seen : StoreSeen) (e : ScanError) → SpellsTree holds ft f
+    → Decodes holds Projection pt (Err e) → IsUnspelled holds ft pt seen seen (Err e)
+projection_unspelled holds ft pt f seen e k h =
+    (refl, text_refused_so (kind_of e) (IsTextRefused holds Projection pt e) (AreRefused holds ft pt e) (λ r. inr ((f, k), r)) h)

@@ -12,9 +12,10 @@ use Rattle.vx_wire.specs.declared.encodings.ExprEncoding.{ExprEncoding}
 use Rattle.vx_wire.specs.declared.errors.BuildError.{BuildError}
 use Rattle.vx_wire.specs.declared.errors.BuildError.TheVariants as builds
 use Rattle.vx_wire.proofs.LawLemmas.{one_built, never_both}
+use Rattle.vx_scan.specs.ErrorKinds.{ErrorKind, of_memory, of_text, of_types, of_break, of_read, kind_of, OnlyOfText}
 use Rattle.vx_scan.specs.Stores.{StoreSeen}
 use Rattle.vx_scan.specs.Texts.{SpellsTree, SpellsUnbuilt, IsTextRefused, SpellBoth, AreRefused}
-use Rattle.vx_scan.specs.Scanning.{IsScanOf, IsUnspelled}
+use Rattle.vx_scan.specs.Scanning.{IsScanStopped, IsScanOf, IsUnspelled}
 use Rattle.vx_scan.specs.ScanLaws.{TextsScanAsTheySpell}
 use Rattle.vx_scan.specs.declared.errors.Side.{Side}
 use Rattle.vx_scan.specs.declared.errors.Side.TheVariants.{Filter, Projection}
@@ -45,16 +46,7 @@ spelled_is_taken holds side bytes e (errors.TooManyNodes z) s h = s.1.not_many h
 spelled_is_taken holds side bytes e (errors.UnknownExpr z) s h = spelled_is_built holds bytes e builds.UnknownExpr (λ same. absurd cc) s h.1
 spelled_is_taken holds side bytes e (errors.BadMetadata z) s h = spelled_is_built holds bytes e builds.BadMetadata (λ same. absurd cc) s h.1
 spelled_is_taken holds side bytes e (errors.WrongChildren z) s h = spelled_is_built holds bytes e builds.WrongChildren (λ same. absurd cc) s h.1
-spelled_is_taken holds side bytes e errors.NoMemory s h = h
-spelled_is_taken holds side bytes e (errors.NotStruct z) s h = h
-spelled_is_taken holds side bytes e (errors.NullableSelect z) s h = h
-spelled_is_taken holds side bytes e (errors.UnknownField z) s h = h
-spelled_is_taken holds side bytes e (errors.DuplicateField z) s h = h
-spelled_is_taken holds side bytes e (errors.TypeMismatch z) s h = h
-spelled_is_taken holds side bytes e errors.FilterNotBool s h = h
-spelled_is_taken holds side bytes e errors.Overflow s h = h
-spelled_is_taken holds side bytes e errors.BadCast s h = h
-spelled_is_taken holds side bytes e errors.StoreFault s h = h
+spelled_is_taken holds side bytes e _ s h = h
 
 pub both_are_taken : (holds : ExprEncoding → Bool) (ft pt : Bytes) (f p : Tree) (why : ScanError) → SpellBoth holds ft pt f p → ¬ (AreRefused holds ft pt why)
 both_are_taken holds ft pt f p why s (inl h) = spelled_is_taken holds Filter ft f why s.filter_spelled h
@@ -63,22 +55,14 @@ both_are_taken holds ft pt f p why s (inr h) = spelled_is_taken holds Projection
 unspelled_so : (holds : ExprEncoding → Bool) (ft pt : Bytes) (f p : Tree) (before after : StoreSeen) (result : Result ScanReport ScanError)
     → SpellBoth holds ft pt f p → IsUnspelled holds ft pt before after result → IsScanOf [] f p before after result
 unspelled_so holds ft pt f p before after (Ok report) s h = absurd h
-unspelled_so holds ft pt f p before after (Err errors.NoMemory) s h = inl h
-unspelled_so holds ft pt f p before after (Err (errors.BadWire z)) s h = absurd (both_are_taken holds ft pt f p (errors.BadWire z) s h.1)
-unspelled_so holds ft pt f p before after (Err (errors.TooDeep z)) s h = absurd (both_are_taken holds ft pt f p (errors.TooDeep z) s h.1)
-unspelled_so holds ft pt f p before after (Err (errors.TooManyNodes z)) s h = absurd (both_are_taken holds ft pt f p (errors.TooManyNodes z) s h.1)
-unspelled_so holds ft pt f p before after (Err (errors.UnknownExpr z)) s h = absurd (both_are_taken holds ft pt f p (errors.UnknownExpr z) s h.1)
-unspelled_so holds ft pt f p before after (Err (errors.BadMetadata z)) s h = absurd (both_are_taken holds ft pt f p (errors.BadMetadata z) s h.1)
-unspelled_so holds ft pt f p before after (Err (errors.WrongChildren z)) s h = absurd (both_are_taken holds ft pt f p (errors.WrongChildren z) s h.1)
-unspelled_so holds ft pt f p before after (Err (errors.NotStruct z)) s h = absurd (both_are_taken holds ft pt f p (errors.NotStruct z) s h.1)
-unspelled_so holds ft pt f p before after (Err (errors.NullableSelect z)) s h = absurd (both_are_taken holds ft pt f p (errors.NullableSelect z) s h.1)
-unspelled_so holds ft pt f p before after (Err (errors.UnknownField z)) s h = absurd (both_are_taken holds ft pt f p (errors.UnknownField z) s h.1)
-unspelled_so holds ft pt f p before after (Err (errors.DuplicateField z)) s h = absurd (both_are_taken holds ft pt f p (errors.DuplicateField z) s h.1)
-unspelled_so holds ft pt f p before after (Err (errors.TypeMismatch z)) s h = absurd (both_are_taken holds ft pt f p (errors.TypeMismatch z) s h.1)
-unspelled_so holds ft pt f p before after (Err errors.FilterNotBool) s h = absurd (both_are_taken holds ft pt f p errors.FilterNotBool s h.1)
-unspelled_so holds ft pt f p before after (Err errors.Overflow) s h = absurd (both_are_taken holds ft pt f p errors.Overflow s h.1)
-unspelled_so holds ft pt f p before after (Err errors.BadCast) s h = absurd (both_are_taken holds ft pt f p errors.BadCast s h.1)
-unspelled_so holds ft pt f p before after (Err errors.StoreFault) s h = absurd (both_are_taken holds ft pt f p errors.StoreFault s h.1)
+unspelled_so holds ft pt f p before after (Err e) s h = by (kind_of e) h.1
+  where
+    by : (k : ErrorKind) → OnlyOfText k (AreRefused holds ft pt e) → IsScanStopped k [] f p before after e
+    by of_memory r = inl h.0
+    by of_text r = both_are_taken holds ft pt f p e s r
+    by of_types r = absurd r
+    by (of_break cause) r = absurd r
+    by of_read r = absurd r
 
 pub texts_so : TextsScanAsTheySpell
 texts_so holds ft pt f p before after result s (inl h) = unspelled_so holds ft pt f p before after result s h
@@ -189,16 +173,7 @@ why_of holds side bytes (errors.TooManyNodes z) h = (too_many, h.1, ap (λ (s : 
 why_of holds side bytes (errors.UnknownExpr z) h = (unbuilt builds.UnknownExpr, (h.1.0, h.1.1, λ same. absurd cc, h.1.2), ap (λ (s : Side). errors.UnknownExpr s) h.0)
 why_of holds side bytes (errors.BadMetadata z) h = (unbuilt builds.BadMetadata, (h.1.0, h.1.1, λ same. absurd cc, h.1.2), ap (λ (s : Side). errors.BadMetadata s) h.0)
 why_of holds side bytes (errors.WrongChildren z) h = (unbuilt builds.WrongChildren, (h.1.0, h.1.1, λ same. absurd cc, h.1.2), ap (λ (s : Side). errors.WrongChildren s) h.0)
-why_of holds side bytes errors.NoMemory h = absurd h
-why_of holds side bytes (errors.NotStruct z) h = absurd h
-why_of holds side bytes (errors.NullableSelect z) h = absurd h
-why_of holds side bytes (errors.UnknownField z) h = absurd h
-why_of holds side bytes (errors.DuplicateField z) h = absurd h
-why_of holds side bytes (errors.TypeMismatch z) h = absurd h
-why_of holds side bytes errors.FilterNotBool h = absurd h
-why_of holds side bytes errors.Overflow h = absurd h
-why_of holds side bytes errors.BadCast h = absurd h
-why_of holds side bytes errors.StoreFault h = absurd h
+why_of holds side bytes _ h = absurd h
 
 pub one_refusal_of : (holds : ExprEncoding → Bool) (side : Side) (bytes : Bytes) (d e : ScanError) → IsTextRefused holds side bytes d → IsTextRefused holds side bytes e → d ≡ e
 one_refusal_of holds side bytes d e h k =

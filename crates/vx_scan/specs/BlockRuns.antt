@@ -5,30 +5,32 @@ use Rattle.vx_dtype.specs.Types.{Ty}
 use Rattle.vx_dtype.specs.Values.{Val}
 use Rattle.vx_expr.specs.Trees.{Tree}
 use Rattle.vx_semantics.specs.Meaning.{Slots}
-use Rattle.vx_semantics.specs.Breaks.{Cause, by_sum, by_cast}
+use Rattle.vx_semantics.specs.Breaks.{Cause}
 use Rattle.vx_semantics.specs.Asked.{asked_columns}
 use Rattle.vx_semantics.specs.Tables.{Table, Zones, row_type}
 use Rattle.vx_semantics.specs.Scans.{Phase, block_phases, phase_breaks, phases_to_break, first_breaks_by, phase_reads, block_rows, reads_in, further_columns}
 use Rattle.vx_io.specs.Counts.{one_more}
+use Rattle.vx_scan.specs.ErrorKinds.{ErrorKind, of_memory, of_break, of_read, kind_of}
 use Rattle.vx_scan.specs.Stores.{Read, StoreSeen, WhereTold, IsSameStore}
 use Rattle.vx_scan.specs.Scanning.{AreAmong, asks_breaking}
 use Rattle.vx_scan.specs.declared.errors.ScanError.{ScanError}
-use Rattle.vx_scan.specs.declared.errors.ScanError.TheVariants as errors
 
--- what a run through phases makes of the log, and how it ends: through all, of which none breaks; at the first that breaks, by its cause; at a read that
--- failed; or without memory
-abbrev pub Runs : Ty → Slots → List Phase → List Read → List Read → Option Read → Result (Unit {0}) ScanError → Type 0
-Runs t slots phases before after failed (Ok u) = (after ≡ before ++ phase_reads phases) × (list_any (phase_breaks t slots) phases ≡ false)
-Runs t slots phases before after failed (Err errors.Overflow) =
-    (after ≡ before ++ phase_reads (phases_to_break t slots phases)) × (first_breaks_by by_sum t slots phases ≡ true)
-Runs t slots phases before after failed (Err errors.BadCast) =
-    (after ≡ before ++ phase_reads (phases_to_break t slots phases)) × (first_breaks_by by_cast t slots phases ≡ true)
-Runs t slots phases before after failed (Err errors.StoreFault) =
+-- what a run through phases that an error of a kind ends makes of the log: it ends without memory, at the first phase that breaks, by its cause, or at a
+-- read that failed
+abbrev pub RunsUntil : ErrorKind → Ty → Slots → List Phase → List Read → List Read → Option Read → Type 0
+RunsUntil of_memory t slots phases before after failed =
+    (done : List Read) × (left : List Read) × (after ≡ before ++ done) × (phase_reads (phases_to_break t slots phases) ≡ done ++ left)
+RunsUntil (of_break cause) t slots phases before after failed =
+    (after ≡ before ++ phase_reads (phases_to_break t slots phases)) × (first_breaks_by cause t slots phases ≡ true)
+RunsUntil of_read t slots phases before after failed =
     (read : Read) × (done : List Read) × (left : List Read) × (failed ≡ Some read) × (after ≡ before ++ done)
     × (phase_reads (phases_to_break t slots phases) ≡ done ++ (read ∷ left))
-Runs t slots phases before after failed (Err errors.NoMemory) =
-    (done : List Read) × (left : List Read) × (after ≡ before ++ done) × (phase_reads (phases_to_break t slots phases) ≡ done ++ left)
-Runs t slots phases before after failed (Err _) = ⊥
+RunsUntil _ t slots phases before after failed = ⊥
+
+-- what a run through phases makes of the log: it comes through all, of which none breaks, or an error ends it
+abbrev pub Runs : Ty → Slots → List Phase → List Read → List Read → Option Read → Result (Unit {0}) ScanError → Type 0
+Runs t slots phases before after failed (Ok u) = (after ≡ before ++ phase_reads phases) × (list_any (phase_breaks t slots) phases ≡ false)
+Runs t slots phases before after failed (Err e) = RunsUntil (kind_of e) t slots phases before after failed
 
 -- the reads that a scan may make in a block
 abbrev pub block_asked : Zones → Tree → Tree → ℕ → List Read
@@ -45,15 +47,18 @@ BrokeBy cause f p before after =
     (after.failed ≡ before.failed)
     × ((asks_breaking cause (row_type before.zones.columns) f || asks_breaking cause (row_type before.zones.columns) p) ≡ true)
 
--- how the run of a kept block ends, whether its table is told or not
+-- how the run of a kept block ends by an error of a kind, whether its table is told or not
+abbrev pub StopsBlock : ErrorKind → Tree → Tree → ℕ → StoreSeen → StoreSeen → List Read → Type 0
+StopsBlock of_memory f p block before after made = after.failed ≡ before.failed
+StopsBlock (of_break cause) f p block before after made = BrokeBy cause f p before after
+StopsBlock of_read f p block before after made =
+    (one_more before.faults ≤ after.faults) × FailedAmong (block_asked before.zones f p block) made after.failed
+StopsBlock _ f p block before after made = ⊥
+
+-- how the run of a kept block ends
 abbrev pub EndsBlock : Tree → Tree → ℕ → StoreSeen → StoreSeen → List Read → Result (Unit {0}) ScanError → Type 0
 EndsBlock f p block before after made (Ok u) = after.failed ≡ before.failed
-EndsBlock f p block before after made (Err errors.Overflow) = BrokeBy by_sum f p before after
-EndsBlock f p block before after made (Err errors.BadCast) = BrokeBy by_cast f p before after
-EndsBlock f p block before after made (Err errors.StoreFault) =
-    (one_more before.faults ≤ after.faults) × FailedAmong (block_asked before.zones f p block) made after.failed
-EndsBlock f p block before after made (Err errors.NoMemory) = after.failed ≡ before.failed
-EndsBlock f p block before after made (Err _) = ⊥
+EndsBlock f p block before after made (Err e) = StopsBlock (kind_of e) f p block before after made
 
 -- the rows after a block's run are those before and the block's, where it came to its end
 abbrev pub AddsRows : List Val → List Val → List Val → Result (Unit {0}) ScanError → Type 0

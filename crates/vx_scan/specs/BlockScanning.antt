@@ -7,12 +7,12 @@ use Rattle.vx_semantics.specs.Meaning.{Slots}
 use Rattle.vx_semantics.specs.Asked.{asked_columns}
 use Rattle.vx_semantics.specs.Tables.{row_type}
 use Rattle.vx_semantics.specs.Pruning.{rules_out}
+use Rattle.vx_scan.specs.ErrorKinds.{ErrorKind, of_memory, of_text, of_types, of_break, of_read, kind_of}
 use Rattle.vx_scan.specs.Stores.{StoreSeen}
 use Rattle.vx_scan.specs.Reports.{Report, report_view}
 use Rattle.vx_scan.specs.BlockRuns.{RunsBlock}
 use Rattle.vx_scan.specs.Scanning.{scan_type, AreIllTyped}
 use Rattle.vx_scan.specs.declared.errors.ScanError.{ScanError}
-use Rattle.vx_scan.specs.declared.errors.ScanError.TheVariants as errors
 use Rattle.vx_scan.specs.declared.reports.ScanReport.{ScanReport}
 
 -- the filter rules the block out: nothing was read, and there is no row
@@ -45,12 +45,15 @@ pub record StopsInBlock (slots : Slots) (f p : Tree) (block : ℕ) (before after
   pub rows : List Val
   pub run : RunsBlock slots f p block before after [] rows (Err e)
 
--- how the scan of one block ends: with a report; broken, at a read that failed or without memory, as a run of the block does; else refused before it, by the
--- typing of the expressions
+-- how the scan of one block ends by an error of a kind: as a run of the block does, or refused before it by the typing of the expressions
+abbrev pub IsBlockScanStopped : ErrorKind → Slots → Tree → Tree → ℕ → StoreSeen → StoreSeen → ScanError → Type 0
+IsBlockScanStopped of_memory slots f p block before after e = (after ≡ before) ⊎ StopsInBlock slots f p block before after e
+IsBlockScanStopped of_text slots f p block before after e = ⊥
+IsBlockScanStopped of_types slots f p block before after e = AreIllTyped slots f p before after e
+IsBlockScanStopped (of_break cause) slots f p block before after e = StopsInBlock slots f p block before after e
+IsBlockScanStopped of_read slots f p block before after e = StopsInBlock slots f p block before after e
+
+-- how the scan of one block ends
 abbrev pub IsBlockScanOf : Slots → Tree → Tree → ℕ → StoreSeen → StoreSeen → Result ScanReport ScanError → Type 0
 IsBlockScanOf slots f p block before after (Ok report) = IsBlockReport slots f p block before after (report_view report)
-IsBlockScanOf slots f p block before after (Err errors.Overflow) = StopsInBlock slots f p block before after errors.Overflow
-IsBlockScanOf slots f p block before after (Err errors.BadCast) = StopsInBlock slots f p block before after errors.BadCast
-IsBlockScanOf slots f p block before after (Err errors.StoreFault) = StopsInBlock slots f p block before after errors.StoreFault
-IsBlockScanOf slots f p block before after (Err errors.NoMemory) = (after ≡ before) ⊎ StopsInBlock slots f p block before after errors.NoMemory
-IsBlockScanOf slots f p block before after (Err e) = AreIllTyped slots f p before after e
+IsBlockScanOf slots f p block before after (Err e) = IsBlockScanStopped (kind_of e) slots f p block before after e

@@ -2,6 +2,7 @@ pub mod Stores
 pub mod StoreViews
 pub mod StoreCodes
 pub mod StoreAnswers
+pub mod ErrorKinds
 pub mod Texts
 pub mod Scanning
 pub mod Opening

@@ -13,6 +13,7 @@ use Rattle.vx_semantics.specs.Tables.{Table, Zones, row_type}
 use Rattle.vx_semantics.specs.Scans.{rows_of, kept_blocks, phases_of, some_phase_breaks, first_breaks_by}
 use Rattle.vx_io.specs.Counts.{one_more}
 use Rattle.vx_wire.specs.declared.encodings.ExprEncoding.{ExprEncoding}
+use Rattle.vx_scan.specs.ErrorKinds.{ErrorKind, of_text, of_types, of_break, kind_of, OnlyOfMemory, OnlyOfBreaks}
 use Rattle.vx_scan.specs.Stores.{Read, StoreSeen, IsSameStore}
 use Rattle.vx_scan.specs.Texts.{SpellBoth, AreRefused}
 use Rattle.vx_scan.specs.Reports.{Report, report_view}
@@ -58,8 +59,7 @@ FaultlessStoresCountNoFault =
 -- a report, or no memory for it
 abbrev pub ReportsUnlessNoMemory : Result ScanReport ScanError → Type 0
 ReportsUnlessNoMemory (Ok report) = Unit {0}
-ReportsUnlessNoMemory (Err errors.NoMemory) = Unit {0}
-ReportsUnlessNoMemory (Err _) = ⊥
+ReportsUnlessNoMemory (Err e) = OnlyOfMemory (kind_of e)
 
 -- where no phase breaks there is a report
 abbrev pub UnbrokenScansReport : Type 0
@@ -78,10 +78,8 @@ UnbrokenTextScansReport =
 
 -- a sum or a cast that breaks, or no memory to come to it
 abbrev pub BreaksUnlessNoMemory : Result ScanReport ScanError → Type 0
-BreaksUnlessNoMemory (Err errors.Overflow) = Unit {0}
-BreaksUnlessNoMemory (Err errors.BadCast) = Unit {0}
-BreaksUnlessNoMemory (Err errors.NoMemory) = Unit {0}
-BreaksUnlessNoMemory _ = ⊥
+BreaksUnlessNoMemory (Ok report) = ⊥
+BreaksUnlessNoMemory (Err e) = OnlyOfBreaks (kind_of e)
 
 -- where a phase breaks there is no report
 abbrev pub ScansBreakWhereAPhaseBreaks : Type 0
@@ -115,18 +113,22 @@ RefusedTextsAreRefused =
     (holds : ExprEncoding → Bool) (filter_text projection_text : Bytes) (before after : StoreSeen) (e : ScanError) (result : Result ScanReport ScanError)
     → AreRefused holds filter_text projection_text e → IsScan holds filter_text projection_text before after result → RefusesBy e result
 
--- whether an error refuses the expressions before the first block, and whether a phase that breaks gives it
+-- whether errors of a kind refuse the expressions before the first block, and whether a phase that breaks gives them
+abbrev pub kind_refuses : ErrorKind → Bool
+kind_refuses of_text = true
+kind_refuses of_types = true
+kind_refuses _ = false
+
+abbrev pub kind_breaks : ErrorKind → Bool
+kind_breaks (of_break cause) = true
+kind_breaks _ = false
+
+-- whether an error does so
 abbrev pub is_refusal : ScanError → Bool
-is_refusal errors.NoMemory = false
-is_refusal errors.Overflow = false
-is_refusal errors.BadCast = false
-is_refusal errors.StoreFault = false
-is_refusal _ = true
+is_refusal e = kind_refuses (kind_of e)
 
 abbrev pub is_break : ScanError → Bool
-is_break errors.Overflow = true
-is_break errors.BadCast = true
-is_break _ = false
+is_break e = kind_breaks (kind_of e)
 
 -- from one store that tells its table, scans of the same expressions don't end one with a report and one with a refusal or a break
 abbrev pub ReportsExcludeErrors : Type 0

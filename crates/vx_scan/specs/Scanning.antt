@@ -16,6 +16,7 @@ use Rattle.vx_eval.specs.Evaluating.{checked_type}
 use Rattle.vx_prepare.specs.Preparing.{is_sum, is_cast}
 use Rattle.vx_io.specs.Counts.{one_more}
 use Rattle.vx_wire.specs.declared.encodings.ExprEncoding.{ExprEncoding}
+use Rattle.vx_scan.specs.ErrorKinds.{ErrorKind, of_memory, of_text, of_types, of_break, of_read, kind_of, OnlyOfText}
 use Rattle.vx_scan.specs.Stores.{Read, StoreSeen, WhereTold}
 use Rattle.vx_scan.specs.Texts.{SpellBoth, AreRefused}
 use Rattle.vx_scan.specs.Reports.{Report, report_view}
@@ -132,50 +133,24 @@ abbrev pub AreIllTyped : Slots → Tree → Tree → StoreSeen → StoreSeen →
 AreIllTyped slots filter_expr projection before after e =
     (after ≡ before) × (scan_type (row_type before.zones.columns) slots filter_expr projection ≡ Err e)
 
--- how the scan of two expressions ends; typing gives none of the six refusals of texts, so that none of these comes
+-- how the scan of two expressions ends by an error of a kind: none of texts comes
+abbrev pub IsScanStopped : ErrorKind → Slots → Tree → Tree → StoreSeen → StoreSeen → ScanError → Type 0
+IsScanStopped of_memory slots filter_expr projection before after e = (after ≡ before) ⊎ IsCutOff slots filter_expr projection before after
+IsScanStopped of_text slots filter_expr projection before after e = ⊥
+IsScanStopped of_types slots filter_expr projection before after e = AreIllTyped slots filter_expr projection before after e
+IsScanStopped (of_break cause) slots filter_expr projection before after e = IsScanBroken cause slots filter_expr projection before after
+IsScanStopped of_read slots filter_expr projection before after e = IsStoreFault slots filter_expr projection before after
+
+-- how the scan of two expressions ends
 abbrev pub IsScanOf : Slots → Tree → Tree → StoreSeen → StoreSeen → Result ScanReport ScanError → Type 0
 IsScanOf slots filter_expr projection before after (Ok report) = IsReport slots filter_expr projection before after (report_view report)
-IsScanOf slots filter_expr projection before after (Err errors.Overflow) = IsScanBroken by_sum slots filter_expr projection before after
-IsScanOf slots filter_expr projection before after (Err errors.BadCast) = IsScanBroken by_cast slots filter_expr projection before after
-IsScanOf slots filter_expr projection before after (Err errors.StoreFault) = IsStoreFault slots filter_expr projection before after
-IsScanOf slots filter_expr projection before after (Err errors.NoMemory) = (after ≡ before) ⊎ IsCutOff slots filter_expr projection before after
-IsScanOf slots filter_expr projection before after (Err (errors.NotStruct side)) = AreIllTyped slots filter_expr projection before after (errors.NotStruct side)
-IsScanOf slots filter_expr projection before after (Err (errors.NullableSelect side)) = AreIllTyped slots filter_expr projection before after (errors.NullableSelect side)
-IsScanOf slots filter_expr projection before after (Err (errors.UnknownField side)) = AreIllTyped slots filter_expr projection before after (errors.UnknownField side)
-IsScanOf slots filter_expr projection before after (Err (errors.DuplicateField side)) = AreIllTyped slots filter_expr projection before after (errors.DuplicateField side)
-IsScanOf slots filter_expr projection before after (Err (errors.TypeMismatch side)) = AreIllTyped slots filter_expr projection before after (errors.TypeMismatch side)
-IsScanOf slots filter_expr projection before after (Err errors.FilterNotBool) = AreIllTyped slots filter_expr projection before after errors.FilterNotBool
-IsScanOf slots filter_expr projection before after (Err (errors.BadWire side)) = AreIllTyped slots filter_expr projection before after (errors.BadWire side)
-IsScanOf slots filter_expr projection before after (Err (errors.TooDeep side)) = AreIllTyped slots filter_expr projection before after (errors.TooDeep side)
-IsScanOf slots filter_expr projection before after (Err (errors.TooManyNodes side)) = AreIllTyped slots filter_expr projection before after (errors.TooManyNodes side)
-IsScanOf slots filter_expr projection before after (Err (errors.UnknownExpr side)) = AreIllTyped slots filter_expr projection before after (errors.UnknownExpr side)
-IsScanOf slots filter_expr projection before after (Err (errors.BadMetadata side)) = AreIllTyped slots filter_expr projection before after (errors.BadMetadata side)
-IsScanOf slots filter_expr projection before after (Err (errors.WrongChildren side)) = AreIllTyped slots filter_expr projection before after (errors.WrongChildren side)
+IsScanOf slots filter_expr projection before after (Err e) = IsScanStopped (kind_of e) slots filter_expr projection before after e
 
--- two texts are refused so: nothing was read
-abbrev pub AreUntaken : (ExprEncoding → Bool) → Bytes → Bytes → StoreSeen → StoreSeen → ScanError → Type 0
-AreUntaken holds filter_text projection_text before after e = (after ≡ before) × AreRefused holds filter_text projection_text e
-
--- two texts that were refused, or of which it wasn't known for want of memory: nothing was read; texts are refused by six errors alone, so that none of the
--- others comes
+-- two texts are refused, or there was no memory for them: nothing was read
 abbrev pub IsUnspelled : (ExprEncoding → Bool) → Bytes → Bytes → StoreSeen → StoreSeen → Result ScanReport ScanError → Type 0
 IsUnspelled holds filter_text projection_text before after (Ok report) = ⊥
-IsUnspelled holds filter_text projection_text before after (Err errors.NoMemory) = after ≡ before
-IsUnspelled holds filter_text projection_text before after (Err (errors.BadWire side)) = AreUntaken holds filter_text projection_text before after (errors.BadWire side)
-IsUnspelled holds filter_text projection_text before after (Err (errors.TooDeep side)) = AreUntaken holds filter_text projection_text before after (errors.TooDeep side)
-IsUnspelled holds filter_text projection_text before after (Err (errors.TooManyNodes side)) = AreUntaken holds filter_text projection_text before after (errors.TooManyNodes side)
-IsUnspelled holds filter_text projection_text before after (Err (errors.UnknownExpr side)) = AreUntaken holds filter_text projection_text before after (errors.UnknownExpr side)
-IsUnspelled holds filter_text projection_text before after (Err (errors.BadMetadata side)) = AreUntaken holds filter_text projection_text before after (errors.BadMetadata side)
-IsUnspelled holds filter_text projection_text before after (Err (errors.WrongChildren side)) = AreUntaken holds filter_text projection_text before after (errors.WrongChildren side)
-IsUnspelled holds filter_text projection_text before after (Err (errors.NotStruct side)) = AreUntaken holds filter_text projection_text before after (errors.NotStruct side)
-IsUnspelled holds filter_text projection_text before after (Err (errors.NullableSelect side)) = AreUntaken holds filter_text projection_text before after (errors.NullableSelect side)
-IsUnspelled holds filter_text projection_text before after (Err (errors.UnknownField side)) = AreUntaken holds filter_text projection_text before after (errors.UnknownField side)
-IsUnspelled holds filter_text projection_text before after (Err (errors.DuplicateField side)) = AreUntaken holds filter_text projection_text before after (errors.DuplicateField side)
-IsUnspelled holds filter_text projection_text before after (Err (errors.TypeMismatch side)) = AreUntaken holds filter_text projection_text before after (errors.TypeMismatch side)
-IsUnspelled holds filter_text projection_text before after (Err errors.FilterNotBool) = AreUntaken holds filter_text projection_text before after errors.FilterNotBool
-IsUnspelled holds filter_text projection_text before after (Err errors.Overflow) = AreUntaken holds filter_text projection_text before after errors.Overflow
-IsUnspelled holds filter_text projection_text before after (Err errors.BadCast) = AreUntaken holds filter_text projection_text before after errors.BadCast
-IsUnspelled holds filter_text projection_text before after (Err errors.StoreFault) = AreUntaken holds filter_text projection_text before after errors.StoreFault
+IsUnspelled holds filter_text projection_text before after (Err e) =
+    (after ≡ before) × OnlyOfText (kind_of e) (AreRefused holds filter_text projection_text e)
 
 -- how the scan of two byte texts ends: they are refused, or it ends as that of the expressions that they spell, without slots
 abbrev pub IsScan : (ExprEncoding → Bool) → Bytes → Bytes → StoreSeen → StoreSeen → Result ScanReport ScanError → Type 0

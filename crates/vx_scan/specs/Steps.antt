@@ -17,6 +17,7 @@ use Rattle.vx_io.specs.Counts.{one_more}
 use Rattle.vx_prepare.specs.Preparing.{IsPrepared, asked_breaks_by}
 use Rattle.vx_prepare.specs.declared.prepared.PreparedExpr.{PreparedExpr}
 use Rattle.vx_block_pruning.specs.BlocksRuledOut.{blocks_ruled_out}
+use Rattle.vx_scan.specs.ErrorKinds.{kind_of, OnlyOfTypes}
 use Rattle.vx_scan.specs.Stores.{Read, StoreSeen, WhereTold, IsColumnOf}
 use Rattle.vx_scan.specs.Scanning.{on_side, asks_breaking, IsScanOf}
 use Rattle.vx_scan.specs.Opening.{IsPreparedScan}
@@ -32,11 +33,7 @@ use Rattle.vx_scan.specs.declared.finding.Found.{Found}
 -- the expression of a side is prepared, or the refusal is that of its typing
 abbrev pub PreparesSide : Fields → Slots → Side → Tree → Result PreparedExpr ScanError → Type 0
 PreparesSide fs slots side e (Ok p) = IsPrepared fs slots e p
-PreparesSide fs slots side e (Err errors.NoMemory) = Unit {0}
-PreparesSide fs slots side e (Err errors.Overflow) = ⊥
-PreparesSide fs slots side e (Err errors.BadCast) = ⊥
-PreparesSide fs slots side e (Err errors.StoreFault) = ⊥
-PreparesSide fs slots side e (Err why) = on_side side (checked_type (row_type fs) slots e) ≡ Err why
+PreparesSide fs slots side e (Err why) = OnlyOfTypes (kind_of why) (on_side side (checked_type (row_type fs) slots e) ≡ Err why)
 
 -- a scan that is ready, and of each block whether the filter rules it out
 pub record IsRuledScan (zones : Zones) (slots : Slots) (f p : Tree) (scan : PreparedScan) (flags : List Bool) : Type 0 where

@@ -1,18 +1,18 @@
 // A store over columns in memory, for tests and for callers that have them all.
-ghost use Rattle.std.specs.Prelude.{◌≡◌, ◌-◌, ◌^◌, ◌<◌, true, false, cond, length, map, option_map, IfOk, IsErrOf, All};
+ghost use Rattle.std.specs.Prelude.{◌≡◌, ◌-◌, ◌^◌, ◌<◌, true, false, cond, [], length, map, None, option_map, IfOk, IsErrOf, All};
 ghost use Rattle.vx_dtype.specs.TypeRules.{has_name, field_names};
 ghost use Rattle.vx_io.specs.Counts.{one_more, is_listed};
-ghost use Rattle.vx_tables.specs.Blocks.{block_view, table_of_blocks};
+ghost use Rattle.vx_tables.specs.Blocks.{block_view, table_of_blocks, table_refusal};
 ghost use Rattle.vx_scan.specs.Stores.{AgreesWith, IsSameStore, Reads};
 ghost use Rattle.vx_scan.specs.StoreViews.{entry_view, store_seen};
-ghost use Rattle.vx_scan.specs.StoreAnswers.{MakesStore};
+ghost use Rattle.vx_scan.specs.StoreAnswers.{MakesStore, new_store};
 
 use crate::errors::StoreError;
 use crate::stores::{ColumnStore, ReadEntry};
 use std::alloc::{AllocError, Global};
 use std::marker::Model;
 use vx_column::ColumnRef;
-use vx_dtype::FieldName;
+use vx_dtype::{FieldName, Mem, NoMemory};
 use vx_tables::{TableError, have_lengths, have_types, held_column};
 use vx_zones::ZoneMap;
 
@@ -84,6 +84,19 @@ impl MemoryStore {
             failed: None,
             faults: 0,
         })
+    }
+
+    /// A store of these blocks of columns, which are a table with these zones. No read of it fails.
+    pub fn of_table(alloc: Global, zones: ZoneMap, blocks: Vec<Vec<ColumnRef>>) -> Mem<MemoryStore>
+        requires { table_refusal zones (map block_view blocks.items) ≡ None }
+        ensures { IfOk result (λ store. store ≡ new_store zones (map block_view blocks.items) []) }
+    {
+        match MemoryStore::try_new(alloc, zones, blocks, Vec::new(alloc)) {
+            Ok(store) => Ok(store),
+            Err(TableError::NoMemory) => Err(NoMemory),
+            Err(TableError::WrongLength) => unreachable!(),
+            Err(TableError::WrongType) => unreachable!(),
+        }
     }
 
     /// The reads that succeeded, in order.
