@@ -1,0 +1,11 @@
+pub mod Lists
+pub mod CellLemmas
+pub mod Headers
+pub mod Openings
+pub mod RangeLemmas
+pub mod HeldLemmas
+pub mod WrittenLemmas
+pub mod Readers
+pub mod HeaderReaders
+pub mod Computing
+pub mod SampleLemmas

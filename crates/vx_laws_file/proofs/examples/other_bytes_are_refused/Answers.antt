@@ -1,0 +1,11 @@
+use Rattle.vx_laws_file.proofs.SampleLemmas as samples
+use Rattle.vx_laws_file.proofs.examples.other_bytes_are_refused.Goals as goal
+
+pub returns-clause-mark : goal.returns-clause-mark
+returns-clause-mark c = samples.mark_is_missing
+
+pub returns-clause-end : goal.returns-clause-end
+returns-clause-end c = samples.end_is_missing
+
+pub returns-clause-zones : goal.returns-clause-zones
+returns-clause-zones c = samples.name_is_doubled

@@ -1,0 +1,12 @@
+use Rattle.vx_laws_file.proofs.Openings as lemmas
+use Rattle.vx_laws_file.proofs.HeaderReaders as readers
+use Rattle.vx_laws_file.proofs.opening.one_refusal.Goals as goal
+
+pub returns-clause-one : goal.returns-clause-one
+returns-clause-one c = lemmas.one_refusal
+
+pub returns-clause-opened : goal.returns-clause-opened
+returns-clause-opened c = lemmas.opened_is_not_refused
+
+pub returns-clause-each : goal.returns-clause-each
+returns-clause-each c = readers.each_is_answered

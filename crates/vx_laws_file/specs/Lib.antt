@@ -1,0 +1,10 @@
+pub mod Cells
+pub mod FileForms
+pub mod Opening
+pub mod Ranges
+pub mod HeldTables
+pub mod Lengths
+pub mod HeaderReading
+pub mod FileLaws
+pub mod FileSamples
+pub use Rattle.vx_tables.specs.Blocks
