@@ -1,5 +1,5 @@
 -- A header is read where one stands, and so bytes are opened or refused.
-use Rattle.std.proofs.Common.{◌≡◌, ◌⊎◌, inl, inr, refl, sym, ap, ◌∙◌, subst, append_assoc, append-nil, ℕ, Bool, true, false, true≢false, eqb, Option, Some, None, List, [], ◌∷◌, ◌++◌, length, take, drop}
+use Rattle.std.proofs.Common.{cond, Ok, Err, ◌≡◌, refl, sym, ap, ◌∙◌, subst, append_assoc, append-nil, ℕ, Bool, true, false, true≢false, eqb, Option, Some, None, List, [], ◌∷◌, ◌++◌, length, take, drop}
 use Rattle.std.specs.List.{flat_map}
 use Rattle.std.specs.Str.{bytes_eq}
 use Rattle.std.proofs.lemmas.Bool.{eqb-true, eqb-false}
@@ -16,11 +16,11 @@ use Rattle.vx_wire_bytes.specs.Fields.{IsShort}
 use Rattle.vx_wire_bytes.specs.Reading.{◌>>=◌, piece_at}
 use Rattle.vx_wire_bytes.proofs.NumberLemmas.{IsBytes, bind_some, some_is, Takes, Takes-then}
 use Rattle.vx_wire_bytes.proofs.HeadLemmas.{piece_again, piece_takes}
-use Rattle.vx_wire.proofs.FieldLemmas.{same_found}
-use Rattle.vx_laws_file.specs.FileForms.{mark, counted_bytes, statistic_bytes, IsStatistic, Header, lengths_bytes, header_bytes, IsHeader, FileContent}
-use Rattle.vx_laws_file.specs.Opening.{HasMark, HasHeader, IsOpened, FileRefusal, bad_magic, bad_header, bad_zones, bad_end, all_lengths, IsRefusedFile, content_with}
-use Rattle.vx_laws_file.specs.HeaderReading.{counted_with, columns_at, statistic_at, lengths_at, range_lengths_at, header_with, header_at}
-use Rattle.vx_laws_file.specs.FileLaws.{EachIsAnswered}
+use Rattle.vx_laws_file.specs.FileForms.{mark, counted_bytes, statistic_bytes, IsStatistic, Header, lengths_bytes, header_bytes, IsHeader}
+use Rattle.vx_laws_file.specs.Opening.{HasHeader, bad_magic, bad_end, all_lengths, content_with}
+use Rattle.vx_laws_file.specs.HeaderReading.{counted_with, columns_at, statistic_at, lengths_at, range_lengths_at, header_with, header_at, with_nothing_left, front_at}
+use Rattle.vx_laws_file.specs.FileReading.{opened_with, opened_behind, opened_of, IsFileAnswer}
+use Rattle.vx_laws_file.specs.FileLaws.{AnswerIsComputed}
 use Rattle.vx_laws_file.proofs.Lists.{bytes_behind, bytes_before}
 use Rattle.vx_laws_file.proofs.Headers.{small_each, ranges_part, statistics_part, blocks_part}
 use Rattle.vx_laws_file.proofs.Readers.{IsReader, columns_bytes, columns_reader, lengths_reader, statistic_reader, counted_reader, range_lengths_reader}
@@ -98,87 +98,71 @@ header_takes bytes x here e =
 pub header_reader : IsReader header_bytes IsHeader header_at
 header_reader = record { again = header_again; takes = header_takes }
 
--- ---- whether a header stands at the front
+-- ---- a header behind the mark
 
--- a header stands at the front, or none does
-abbrev FrontAnswer : Bytes → Type 0
-FrontAnswer bytes = ((h : Header) × (rest : Bytes) × HasHeader bytes h rest) ⊎ ((h : Header) (rest : Bytes) → ¬ (HasHeader bytes h rest))
-
--- where one stands behind the mark, it is the piece there
+-- where one stands there, it is the piece there
 its_piece : (bytes behind : Bytes) (h : Header) (rest : Bytes) → bytes ≡ mark ++ behind → HasHeader bytes h rest → piece_at behind ≡ Some (header_bytes h, rest)
 its_piece bytes behind h rest e p =
     let same : behind ≡ piece_bytes (header_bytes h) ++ rest =
     append_cancel_left mark behind (piece_bytes (header_bytes h) ++ rest) (sym e ∙ p.stands ∙ append_assoc mark (piece_bytes (header_bytes h)) rest) in
     ap piece_at same ∙ piece_again (header_bytes h) rest p.short
 
-module _ (bytes behind : Bytes) (e : bytes ≡ mark ++ behind) (here : IsBytes behind) where
-  -- the piece behind the mark is read as a header, with these bytes left
-  of_left : (piece rest : Bytes) (h : Header) (left : Bytes) → IsBytes piece → IsShort piece → Takes behind (piece_bytes piece) rest → piece_at behind ≡ Some (piece, rest)
-      → header_at piece ≡ Some (h, left) → FrontAnswer bytes
-  of_left piece rest h [] own short t at read =
-      let taken = header_takes piece (h, []) own read in
-      let same : piece ≡ header_bytes h = taken.0.parts ∙ append-nil (header_bytes h) in
-      inl (
-        h,
-        rest,
-        record {
-          header = taken.1;
-          short = subst IsShort same short;
-          stands = e ∙ ap (λ (b : Bytes). mark ++ b) (t.parts ∙ ap (λ (b : Bytes). piece_bytes b ++ rest) same) ∙ sym (append_assoc mark (piece_bytes (header_bytes h)) rest);
-        },
-      )
-  of_left piece rest h (b ∷ left) own short t at read = inr (λ g r p.
-      let found = same_found (piece, rest) (header_bytes g, r) (sym at ∙ its_piece bytes behind g r e p) in
-      let again : header_at piece ≡ Some (g, []) = ap header_at (found.0 ∙ sym (append-nil (header_bytes g))) ∙ header_again g [] p.header in
-      let none : b ∷ left ≡ [] = (same_found (h, b ∷ left) (g, []) (sym read ∙ again)).1 in
-      absurd cc)
+pub front_again : (bytes behind : Bytes) (h : Header) (rest : Bytes) → bytes ≡ mark ++ behind → HasHeader bytes h rest → front_at behind ≡ Some (h, rest)
+unfolding front_at
+front_again bytes behind h rest e p =
+    ap (λ o. o >>= λ piece. header_at piece.0 >>= λ g. with_nothing_left g.0 piece.1 g.1) (its_piece bytes behind h rest e p)
+    ∙ ap (λ o. o >>= λ g. with_nothing_left g.0 rest g.1) (ap header_at (sym (append-nil (header_bytes h))) ∙ header_again h [] p.header)
 
-  -- how the piece is read
-  of_header : (piece rest : Bytes) (o : Option (Header × Bytes)) → IsBytes piece → IsShort piece → Takes behind (piece_bytes piece) rest → piece_at behind ≡ Some (piece, rest) → header_at piece ≡ o
-      → FrontAnswer bytes
-  of_header piece rest None own short t at read = inr (λ h r p.
-      let found = same_found (piece, rest) (header_bytes h, r) (sym at ∙ its_piece bytes behind h r e p) in
-      none-some (h, []) (sym read ∙ ap header_at (found.0 ∙ sym (append-nil (header_bytes h))) ∙ header_again h [] p.header))
-  of_header piece rest (Some x) own short t at read = of_left piece rest x.0 x.1 own short t at read
+nothing_left : (h : Header) (rest left : Bytes) (x : Header × Bytes) → with_nothing_left h rest left ≡ Some x → (left ≡ []) × (◌≡◌ {A = Header × Bytes} (h, rest) x)
+nothing_left h rest [] x e = (refl, some_is (h, rest) x e)
+nothing_left h rest (b ∷ left) x e = absurd (none-some x e)
 
-  -- what is read there
-  of_piece : (o : Option (Bytes × Bytes)) → piece_at behind ≡ o → FrontAnswer bytes
-  of_piece None at = inr (λ h r p. none-some (header_bytes h, r) (sym at ∙ its_piece bytes behind h r e p))
-  of_piece (Some x) at =
-      let t = piece_takes behind x here at in
-      let own = bytes_behind (number_bytes (length x.0)) x.0 (bytes_before (piece_bytes x.0) x.1 (subst IsBytes t.0.parts here)) in
-      of_header x.0 x.1 (header_at x.0) own t.1 t.0 at refl
+pub front_takes : (behind : Bytes) (x : Header × Bytes) → IsBytes behind → front_at behind ≡ Some x → HasHeader (mark ++ behind) x.0 x.1
+unfolding front_at
+front_takes behind x here e =
+    let a = bind_some (piece_at behind) (λ piece. header_at piece.0 >>= λ g. with_nothing_left g.0 piece.1 g.1) x e in
+    let piece = piece_takes behind a.0 here a.1 in
+    let own = bytes_behind (number_bytes (length a.0.0)) a.0.0 (bytes_before (piece_bytes a.0.0) a.0.1 (subst IsBytes piece.0.parts here)) in
+    let b = bind_some (header_at a.0.0) (λ g. with_nothing_left g.0 a.0.1 g.1) x a.2 in
+    let taken = header_takes a.0.0 b.0 own b.1 in
+    let left = nothing_left b.0.0 a.0.1 b.0.1 x b.2 in
+    let h = b.0.0 in
+    let same : a.0.0 ≡ header_bytes h = taken.0.parts ∙ ap (λ (r : Bytes). header_bytes h ++ r) left.0 ∙ append-nil (header_bytes h) in
+    let stands : behind ≡ piece_bytes (header_bytes h) ++ a.0.1 = piece.0.parts ∙ ap (λ (p : Bytes). piece_bytes p ++ a.0.1) same in
+    let found : HasHeader (mark ++ behind) h a.0.1 = record {
+      header = taken.1;
+      short = subst IsShort same piece.1;
+      stands = ap (λ (b : Bytes). mark ++ b) stands ∙ sym (append_assoc mark (piece_bytes (header_bytes h)) a.0.1);
+    } in
+    subst (λ (y : Header × Bytes). HasHeader (mark ++ behind) y.0 y.1) left.1 found
 
 -- ---- opened or refused
 
--- bytes are opened, or refused
-abbrev Answered : Bytes → Type 0
-Answered bytes = ((content : FileContent) × IsOpened bytes content) ⊎ ((r : FileRefusal) × IsRefusedFile bytes r)
+by_end : (bytes : Bytes) (h : Header) (rest : Bytes) → HasHeader bytes h rest → broken_rule h.zones ≡ None → (b : Bool) → eqb (length rest) (all_lengths h) ≡ b
+    → IsFileAnswer bytes (cond b (Ok (content_with h rest)) (Err bad_end))
+by_end bytes h rest p rules true e = header_and_end_open bytes h rest p rules (eqb-true (length rest) (all_lengths h) e)
+by_end bytes h rest p rules false e = (h, rest, p, rules, eqb-false (length rest) (all_lengths h) e)
 
-by_end : (bytes : Bytes) (h : Header) (rest : Bytes) → HasHeader bytes h rest → broken_rule h.zones ≡ None → (b : Bool) → eqb (length rest) (all_lengths h) ≡ b → Answered bytes
-by_end bytes h rest p rules true e = inl (content_with h rest, header_and_end_open bytes h rest p rules (eqb-true (length rest) (all_lengths h) e))
-by_end bytes h rest p rules false e = inr (bad_end, (h, rest, p, rules, eqb-false (length rest) (all_lengths h) e))
-
-by_rule : (bytes : Bytes) (h : Header) (rest : Bytes) → HasHeader bytes h rest → (o : Option ZoneError) → broken_rule h.zones ≡ o → Answered bytes
+by_rule : (bytes : Bytes) (h : Header) (rest : Bytes) → HasHeader bytes h rest → (o : Option ZoneError) → broken_rule h.zones ≡ o → IsFileAnswer bytes (opened_with h rest o)
 by_rule bytes h rest p None e = by_end bytes h rest p e (eqb (length rest) (all_lengths h)) refl
-by_rule bytes h rest p (Some error) e = inr (bad_zones error, (h, rest, p, e))
+by_rule bytes h rest p (Some error) e = (h, rest, p, e)
 
-by_front : (bytes : Bytes) → HasMark bytes → FrontAnswer bytes → Answered bytes
-by_front bytes m (inl found) = by_rule bytes found.0 found.1 found.2 (broken_rule found.0.zones) refl
-by_front bytes m (inr none) = inr (bad_header, (m, none))
+by_front : (bytes behind : Bytes) → bytes ≡ mark ++ behind → IsBytes behind → (o : Option (Header × Bytes)) → front_at behind ≡ o → IsFileAnswer bytes (opened_behind o)
+by_front bytes behind whole here None e = ((behind, whole), λ h rest p. none-some (h, rest) (sym e ∙ front_again bytes behind h rest whole p))
+by_front bytes behind whole here (Some x) e =
+    by_rule bytes x.0 x.1 (subst (λ (b : Bytes). HasHeader b x.0 x.1) (sym whole) (front_takes behind x here e)) (broken_rule x.0.zones) refl
 
-by_mark : (bytes : Bytes) → IsBytes bytes → (b : Bool) → bytes_eq (take (length mark) bytes) mark ≡ b → Answered bytes
+by_mark : (bytes : Bytes) → IsBytes bytes → (b : Bool) → bytes_eq (take (length mark) bytes) mark ≡ b
+    → IsFileAnswer bytes (cond b (opened_behind (front_at (drop (length mark) bytes))) (Err bad_magic))
 by_mark bytes here true e =
     let behind = drop (length mark) bytes in
     let same : take (length mark) bytes ≡ mark = (bytes_eq-Decides (take (length mark) bytes) mark).0 e in
     let whole : bytes ≡ mark ++ behind = sym (take-append-drop (length mark) bytes) ∙ ap (λ (f : Bytes). f ++ behind) same in
-    by_front bytes (behind, whole) (of_piece bytes behind whole (bytes_behind mark behind (subst IsBytes whole here)) (piece_at behind) refl)
-by_mark bytes here false e = inr (
-  bad_magic,
-  λ m.
-      let same : take (length mark) bytes ≡ mark = ap (take (length mark)) m.1 ∙ take_at mark m.0 (length mark) refl in
-      true≢false (sym ((bytes_eq-Decides (take (length mark) bytes) mark).1 same) ∙ e),
-)
+    by_front bytes behind whole (bytes_behind mark behind (subst IsBytes whole here)) (front_at behind) refl
+by_mark bytes here false e = λ m.
+    let same : take (length mark) bytes ≡ mark = ap (take (length mark)) m.1 ∙ take_at mark m.0 (length mark) refl in
+    true≢false (sym ((bytes_eq-Decides (take (length mark) bytes) mark).1 same) ∙ e)
 
-pub each_is_answered : EachIsAnswered
-each_is_answered bytes here = by_mark bytes here (bytes_eq (take (length mark) bytes) mark) refl
+pub answer_is_computed : AnswerIsComputed
+unfolding opened_of
+answer_is_computed bytes here = by_mark bytes here (bytes_eq (take (length mark) bytes) mark) refl

@@ -1,5 +1,5 @@
 -- Readers of spellings: what was written is read again, and what is read is spelled so.
-use Rattle.std.proofs.Common.{◌≡◌, refl, sym, ap, ◌∙◌, subst, append_assoc, ℕ, zero, suc, ◌≤◌, Bool, true, false, cond, nat_eq, nat_le, Option, Some, None, List, [], ◌∷◌, ◌++◌, length, sum, arith}
+use Rattle.std.proofs.Common.{drop, ◌≡◌, refl, sym, ap, ◌∙◌, subst, append_assoc, ℕ, zero, suc, ◌≤◌, Bool, true, false, cond, nat_eq, nat_le, Option, Some, None, List, [], ◌∷◌, ◌++◌, length, sum, arith}
 use Rattle.std.specs.List.{AllByRecursion, flat_map}
 use Rattle.std.specs.Option.{option_and_then}
 use Rattle.std.proofs.lemmas.Bool.{and_from, eqb-true, leb-true, le-leb, eq-eqb}
@@ -16,15 +16,16 @@ use Rattle.vx_dtype.specs.ScalarAnswers.{typed}
 use Rattle.vx_semantics.specs.Tables.{ZoneStat, row_type}
 use Rattle.vx_zones.specs.Zoning.{are_shallow, leaf_type, statistic_type, type_of_statistic, values_have}
 use Rattle.vx_wire_bytes.specs.Numbers.{number_bytes, piece_bytes}
-use Rattle.vx_wire_bytes.specs.Fields.{IsNumber, IsText}
+use Rattle.vx_wire_bytes.specs.Fields.{IsFieldAt, IsNumber, IsText}
 use Rattle.vx_wire_bytes.specs.Reading.{◌>>=◌, number_at, text_at}
-use Rattle.vx_wire_bytes.specs.TypeForms.{fields_number, type_bytes, fields_bytes, HasNames}
+use Rattle.vx_wire_bytes.specs.TypeForms.{fields_number, type_bytes, fields_bytes, HasNames, IsType}
 use Rattle.vx_wire_bytes.specs.TypeReading.{fields_with, type_at}
 use Rattle.vx_wire_bytes.specs.ValueForms.{value_bytes, IsValue}
 use Rattle.vx_wire_bytes.specs.ValueReading.{value_at}
 use Rattle.vx_wire_bytes.proofs.NumberLemmas.{IsBytes, IsBytes-rest, bind_some, some_is, Takes, Takes-then, number_takes, number_again}
 use Rattle.vx_wire_bytes.proofs.HeadLemmas.{text_takes, text_again}
-use Rattle.vx_wire_bytes.proofs.TypeLemmas.{type_takes, fields_again, fields_take}
+use Rattle.vx_wire_bytes.proofs.TypeLemmas.{type_takes, type_again, fields_again, fields_take}
+use Rattle.vx_wire_bytes.proofs.PlaceFields.{bytes_from}
 use Rattle.vx_wire_bytes.proofs.ValueLemmas.{value_takes, value_again}
 use Rattle.vx_laws_file.specs.FileForms.{most_rows, counted_bytes, AreCounted, stat_byte, scalar_bytes, statistic_bytes, IsStatistic, lengths_bytes, AreRangeLengths}
 use Rattle.vx_laws_file.specs.HeaderReading.{items_with, counted_with, columns_at, stat_numbered, stat_at, scalar_at, statistic_of, scalars_with, statistic_at, lengths_at, range_lengths_at}
@@ -44,6 +45,34 @@ text_reader = record {
   again = λ x rest p. text_again x rest p.short p.utf8;
   takes = λ bytes x here e. let t = text_takes bytes x here e in (t.0, record { utf8 = t.2; short = t.1 });
 }
+
+pub type_reader : IsReader type_bytes IsType (type_at most_deep)
+type_reader = record {
+  again = λ t rest p. type_again t most_deep rest p.names p.depth;
+  takes = λ bytes x here e. let t = type_takes most_deep bytes x here e in (t.taken, record { names = t.names; depth = t.depth });
+}
+
+pub value_reader : (t : Ty) → IsReader (value_bytes t) (IsValue t) (value_at t)
+value_reader t = record {
+  again = λ x rest p. value_again x t rest p.fit p.texts;
+  takes = λ bytes x here e. let v = value_takes t bytes x here e in (v.taken, record { fit = v.fit; texts = v.texts });
+}
+
+-- ---- fields at places
+
+-- what stands at a place is read there, and the place after it is where reading goes on
+pub field_read : {A : Type 0} (spelling : A → Bytes) (P : A → Type 0) (read : Bytes → Option (A × Bytes)) → IsReader spelling P read
+    → (bytes : Bytes) (at : ℕ) (x : A) (after : ℕ) → IsFieldAt spelling P bytes at (Some (x, after)) → read (drop at bytes) ≡ Some (x, drop after bytes)
+field_read spelling P read reader bytes at x after h = ap read h.1.stands ∙ reader.again x (drop after bytes) h.0
+
+-- where nothing stands at a place nothing is read there
+pub no_field_read : {A : Type 0} (spelling : A → Bytes) (P : A → Type 0) (read : Bytes → Option (A × Bytes)) → IsReader spelling P read
+    → (bytes : Bytes) (at : ℕ) → IsBytes bytes → IsFieldAt spelling P bytes at None → read (drop at bytes) ≡ None
+no_field_read {A} spelling P read reader bytes at here h = by (read (drop at bytes)) refl
+  where
+    by : (o : Option (A × Bytes)) → read (drop at bytes) ≡ o → o ≡ None
+    by None e = refl
+    by (Some x) e = let t = reader.takes (drop at bytes) x (bytes_from bytes at here) e in absurd (h x.0 x.1 t.1 t.0.parts)
 
 -- ---- lists
 

@@ -1,6 +1,8 @@
 -- The premises of the laws of files, met by examples; and bytes that are refused.
-use Rattle.std.proofs.Common.{◌≡◌, refl, ap, ℕ, ◌<◌, ◌^◌, List, [], ◌∷◌, get_or, length, true, encode_utf8_all, arith}
+use Rattle.std.proofs.Common.{sym, ◌≤◌, zero, suc, ltb, true≢false, ◌≡◌, refl, ap, ℕ, ◌<◌, ◌^◌, List, [], ◌∷◌, get_or, length, true, encode_utf8_all, arith}
 use Rattle.std.specs.Prelude.{codes, ◌++◌}
+use Rattle.std.specs.List.{list_all}
+use Rattle.std.proofs.lemmas.Bool.{and_parts, ltb-true}
 use Rattle.std.proofs.lemmas.Option.{none-some}
 use Rattle.std.proofs.lemmas.Str.{is_utf8-from_IsUtf8}
 use lib.Utf8.{scalars, encode}
@@ -8,12 +10,14 @@ use Rattle.vx_dtype.specs.Types.{Bytes}
 use Rattle.vx_zones.specs.declared.errors.ZoneError.TheVariants.{DuplicateName}
 use Rattle.vx_wire_bytes.specs.Fields.{IsText}
 use Rattle.vx_laws_file.specs.FileForms.{IsHeader, header_of, content_of}
-use Rattle.vx_laws_file.specs.Opening.{IsOpened, bad_magic, bad_zones, bad_end, IsRefusedFile}
+use Rattle.vx_laws_file.specs.Opening.{IsOpened, bad_magic, bad_header, bad_zones, bad_end, IsRefusedFile}
 use Rattle.vx_laws_file.specs.Ranges.{IsDamaged}
 use Rattle.vx_laws_file.specs.HeldTables.{held_blocks}
 use Rattle.vx_laws_file.specs.Lengths.{HasFile}
-use Rattle.vx_laws_file.specs.FileSamples.{number, first_zones, first_blocks, first_file, first_range, without_mark, cut_file, spoilt_range, spoilt_content, doubled_header, doubled_file, kinds_zones, kinds_blocks, kinds_file}
+use Rattle.vx_laws_file.specs.FileLaws.{AreBytes}
+use Rattle.vx_laws_file.specs.FileSamples.{headless_file, header_of_rows, header_of_lists, number, first_zones, first_blocks, first_file, first_range, without_mark, cut_file, spoilt_range, spoilt_content, doubled_header, doubled_file, kinds_zones, kinds_blocks, kinds_file}
 use Rattle.vx_laws_file.proofs.Computing.{all_forms}
+use Rattle.vx_laws_file.proofs.HeaderReaders.{answer_is_computed}
 use Rattle.vx_laws_file.proofs.WrittenLemmas.{written_header, written_is_opened, written_is_held}
 use Rattle.vx_laws_file.proofs.RangeLemmas.{values_read}
 
@@ -158,6 +162,48 @@ doubled_is_header = record {
 pub name_is_doubled : IsRefusedFile doubled_file (bad_zones DuplicateName)
 unfolding all_forms
 name_is_doubled = (doubled_header, [], record { header = doubled_is_header; short = omega arith; stands = refl }, refl)
+
+are_bytes : (bytes : Bytes) → list_all (λ b. ltb b 256) bytes ≡ true → AreBytes bytes
+are_bytes [] h i = omega arith
+are_bytes (b ∷ bytes) h zero = ltb-true b 256 (and_parts (ltb b 256) (list_all (λ c. ltb c 256) bytes) h).0
+are_bytes (b ∷ bytes) h (suc i) = are_bytes bytes (and_parts (ltb b 256) (list_all (λ c. ltb c 256) bytes) h).1 i
+
+pub header_is_missing : IsRefusedFile headless_file bad_header
+unfolding all_forms
+header_is_missing = answer_is_computed headless_file (are_bytes headless_file refl)
+
+-- ---- the limits of a header
+
+pub most_rows_fit : IsHeader (header_of_rows 1048576)
+unfolding all_forms
+most_rows_fit = record {
+  names = (omega arith, tt);
+  shallow = refl;
+  number_of_blocks = omega arith;
+  rows = omega arith;
+  statistics = (omega arith, tt);
+  each_block = refl;
+  each_range = ((refl, tt), tt);
+}
+
+pub more_rows_are_refused : ¬ (IsHeader (header_of_rows 1048577))
+more_rows_are_refused h = let few : 1048577 ≤ 1048576 = h.rows in absurd (omega (arith, few))
+
+pub deepest_type_fits : IsHeader (header_of_lists 63)
+unfolding all_forms
+deepest_type_fits = record {
+  names = (omega arith, (x_is_text, tt, tt));
+  shallow = refl;
+  number_of_blocks = omega arith;
+  rows = omega arith;
+  statistics = (omega arith, tt);
+  each_block = refl;
+  each_range = tt;
+}
+
+pub deeper_type_is_refused : ¬ (IsHeader (header_of_lists 64))
+unfolding all_forms
+deeper_type_is_refused h = true≢false (sym h.shallow)
 
 -- ---- a range that is damaged
 

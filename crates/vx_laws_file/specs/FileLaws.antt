@@ -12,6 +12,7 @@ use Rattle.vx_zones.specs.Zoning.{broken_rule}
 use Rattle.vx_tables.specs.Blocks.{block_fits, table_refusal}
 use Rattle.vx_laws_file.specs.FileForms.{Header, FileContent, header_of, content_of, file_bytes}
 use Rattle.vx_laws_file.specs.Opening.{HasHeader, IsOpened, FileRefusal, bad_zones, IsRefusedFile, all_lengths, content_with, range_place}
+use Rattle.vx_laws_file.specs.FileReading.{opened_of, IsFileAnswer}
 use Rattle.vx_laws_file.specs.Ranges.{SpellsRange, HasRange, IsReadAs, IsDamaged}
 use Rattle.vx_laws_file.specs.HeldTables.{filler, range_values, held_values, held_blocks, held_table}
 use Rattle.vx_laws_file.specs.Lengths.{IsShortTable, HasFile}
@@ -60,10 +61,9 @@ OpenedIsNotRefused = (bytes : Bytes) (content : FileContent) (r : FileRefusal) �
 abbrev pub AreBytes : Bytes → Type 0
 AreBytes bytes = (i : ℕ) → get_or bytes i 0 < 256
 
--- whatever bytes are opened or refused
-abbrev pub EachIsAnswered : Type 0
-EachIsAnswered =
-    (bytes : Bytes) → AreBytes bytes → ((content : FileContent) × IsOpened bytes content) ⊎ ((r : FileRefusal) × IsRefusedFile bytes r)
+-- whatever bytes are opened or refused, and which is computed
+abbrev pub AnswerIsComputed : Type 0
+AnswerIsComputed = (bytes : Bytes) → AreBytes bytes → IsFileAnswer bytes (opened_of bytes)
 
 -- the rules that the statistics of a header can break are on names and on statistics that stand twice
 abbrev pub RefusedZonesHaveDoubles : Type 0

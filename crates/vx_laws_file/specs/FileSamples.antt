@@ -1,5 +1,5 @@
 -- Small tables and their files, written out byte by byte.
-use Rattle.std.specs.Prelude.{ℕ, true, false, pos, negsuc, List, [], ◌∷◌, ◌++◌, codes}
+use Rattle.std.specs.Prelude.{ℕ, zero, suc, true, false, pos, negsuc, List, [], ◌∷◌, ◌++◌, codes}
 use Rattle.vx_dtype.specs.declared.PType.TheVariants.{U8, U32, U64, I16, I32}
 use Rattle.vx_dtype.specs.declared.Nullability.TheVariants.{NonNullable, Nullable}
 use Rattle.vx_dtype.specs.declared.Stat.TheVariants.{Min, Max, NullCount}
@@ -82,6 +82,23 @@ doubled_file =
     0x56 ∷ 0x58 ∷ 0x42 ∷ 0x4c ∷ 0x4b ∷ 0x30 ∷ 0x30 ∷ 0x31 ∷ 0x0f
     ∷ 0x04 ∷ 0x00 ∷ 0x02 ∷ 0x01 ∷ 0x78 ∷ 0x01 ∷ 0x00 ∷ 0x06 ∷ 0x01 ∷ 0x78 ∷ 0x01 ∷ 0x00 ∷ 0x06 ∷ 0x00 ∷ 0x00 ∷ []
 
+-- ---- the mark, and the number of a header's bytes that don't follow
+
+abbrev pub headless_file : Bytes
+headless_file = 0x56 ∷ 0x58 ∷ 0x42 ∷ 0x4c ∷ 0x4b ∷ 0x30 ∷ 0x30 ∷ 0x31 ∷ 0x01 ∷ []
+
+-- ---- the limits of a header: the rows of one block, and a column whose type is so many lists in one another
+
+abbrev pub header_of_rows : ℕ → Header
+header_of_rows n = record { zones = record { columns = no_fields; lengths = n ∷ []; stats = [] }; range_lengths = [] ∷ [] }
+
+abbrev pub lists_in_lists : ℕ → Ty
+lists_in_lists zero = bool_ty NonNullable
+lists_in_lists (suc n) = list_ty (lists_in_lists n) NonNullable
+
+abbrev pub header_of_lists : ℕ → Header
+header_of_lists n = record { zones = record { columns = field (codes "x") (lists_in_lists n) no_fields; lengths = []; stats = [] }; range_lengths = [] }
+
 -- ---- rows without columns
 
 abbrev pub bare_zones : Zones
@@ -89,6 +106,18 @@ bare_zones = record { columns = no_fields; lengths = 3 ∷ []; stats = [] }
 
 abbrev pub bare_file : Bytes
 bare_file = 0x56 ∷ 0x58 ∷ 0x42 ∷ 0x4c ∷ 0x4b ∷ 0x30 ∷ 0x30 ∷ 0x31 ∷ 0x06 ∷ 0x04 ∷ 0x00 ∷ 0x00 ∷ 0x01 ∷ 0x03 ∷ 0x00 ∷ []
+
+-- ---- a struct of each kind of value, none of which may be null, and what stands in the place of one that is damaged
+
+abbrev pub no_nulls : Ty
+no_nulls =
+    struct_ty (field (codes "b") (bool_ty NonNullable) (field (codes "n") (int_ty U8 NonNullable) (field (codes "s") (text_ty NonNullable)
+    (field (codes "l") (list_ty number Nullable) (field (codes "m") (list_ty number NonNullable) no_fields))))) NonNullable
+
+abbrev pub no_nulls_filler : Val
+no_nulls_filler =
+    struct_val (member (codes "b") (bool_val false) (member (codes "n") (int_val U8 (pos 0)) (member (codes "s") (text_val [])
+    (member (codes "l") null_val (member (codes "m") (list_val no_vals) no_members)))))
 
 -- ---- a column of each kind, with nulls and statistics, in three blocks, one of which is empty
 

@@ -10,7 +10,7 @@ use Rattle.vx_dtype.specs.TypeRules.{field_names, most_deep, with_nullability}
 use Rattle.vx_dtype.specs.Values.{Typed}
 use Rattle.vx_dtype.specs.ScalarAnswers.{typed}
 use Rattle.vx_semantics.specs.Tables.{ZoneStat}
-use Rattle.vx_wire_bytes.specs.Reading.{◌>>=◌, number_at, text_at}
+use Rattle.vx_wire_bytes.specs.Reading.{◌>>=◌, number_at, piece_at, text_at}
 use Rattle.vx_wire_bytes.specs.TypeReading.{fields_with, type_at}
 use Rattle.vx_wire_bytes.specs.ValueReading.{value_at}
 use Rattle.vx_zones.specs.Zoning.{leaf_type, statistic_type}
@@ -82,3 +82,12 @@ header_at bytes =
     columns_at bytes >>= λ c. lengths_at c.1 >>= λ ns. counted_with (statistic_at c.0 ns.0) ns.1
     >>= λ zs. range_lengths_at (length ns.0) (length (field_names c.0)) zs.1
     >>= λ rs. Some (header_with c.0 ns.0 zs.0 rs.0, rs.1)
+
+-- a header that was read whole, with what is left behind it in the file
+abbrev pub with_nothing_left : Header → Bytes → Bytes → Option (Header × Bytes)
+with_nothing_left h rest [] = Some (h, rest)
+with_nothing_left h rest (b ∷ left) = None
+
+-- a header behind its length, and what is left behind it
+unfoldable pub front_at : Bytes → Option (Header × Bytes)
+front_at bytes = piece_at bytes >>= λ piece. header_at piece.0 >>= λ h. with_nothing_left h.0 piece.1 h.1

@@ -5,6 +5,7 @@ pub mod Ranges
 pub mod HeldTables
 pub mod Lengths
 pub mod HeaderReading
+pub mod FileReading
 pub mod FileLaws
 pub mod FileSamples
 pub use Rattle.vx_tables.specs.Blocks

@@ -12,8 +12,8 @@ pub use damage::{
     read_is_not_damaged,
 };
 pub use examples::{
-    another_range_is_damaged, other_bytes_are_refused, small_files_hold_their_tables,
-    small_tables_have_these_files,
+    another_range_is_damaged, headers_have_limits, other_bytes_are_refused,
+    small_files_hold_their_tables, small_tables_have_these_files,
 };
 pub use opening::{
     a_range_stands_at_its_place, header_and_end_open, no_file_begins_another, one_refusal,

@@ -1,6 +1,6 @@
 // Bytes that are opened as files, or refused.
 
-ghost use Rattle.vx_laws_file.specs.FileLaws.{EachIsAnswered, HeaderAndEndOpen, NoFileBeginsAnother, OneContent, OneHeader, OneRefusal, OpenedIsNotRefused};
+ghost use Rattle.vx_laws_file.specs.FileLaws.{AnswerIsComputed, HeaderAndEndOpen, NoFileBeginsAnother, OneContent, OneHeader, OneRefusal, OpenedIsNotRefused};
 ghost use Rattle.vx_laws_file.specs.FileLaws.{RangeStandsAtItsPlace, RefusedZonesHaveDoubles};
 
 /// One header stands at the front of bytes, and a file holds one content; no file is a proper prefix of another.
@@ -10,11 +10,11 @@ pub fn no_file_begins_another()
     ensures prefix { NoFileBeginsAnother }
 {}
 
-/// Whatever bytes are opened or refused: for one reason, and not where they are opened.
+/// Whatever bytes are opened or refused, as is computed: refused for one reason, and not where they are opened.
 pub fn one_refusal()
     ensures one { OneRefusal }
     ensures opened { OpenedIsNotRefused }
-    ensures each { EachIsAnswered }
+    ensures computed { AnswerIsComputed }
 {}
 
 /// The statistics of a header are refused for a name or a statistic that stands twice, and for nothing else.

@@ -9,3 +9,6 @@ returns-clause-end c = samples.end_is_missing
 
 pub returns-clause-zones : goal.returns-clause-zones
 returns-clause-zones c = samples.name_is_doubled
+
+pub returns-clause-header : goal.returns-clause-header
+returns-clause-header c = samples.header_is_missing

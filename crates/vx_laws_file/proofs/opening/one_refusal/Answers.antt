@@ -8,5 +8,5 @@ returns-clause-one c = lemmas.one_refusal
 pub returns-clause-opened : goal.returns-clause-opened
 returns-clause-opened c = lemmas.opened_is_not_refused
 
-pub returns-clause-each : goal.returns-clause-each
-returns-clause-each c = readers.each_is_answered
+pub returns-clause-computed : goal.returns-clause-computed
+returns-clause-computed c = readers.answer_is_computed
