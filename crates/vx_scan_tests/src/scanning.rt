@@ -8,7 +8,10 @@ use vx_dtype::Nullability::NonNullable;
 use vx_dtype::{DType, FieldName, FieldNames, Mem, PType, ScalarValue, StructFields};
 use vx_expr::ExprRef;
 use vx_prepare::prepare;
-use vx_scan::{MemoryStore, ScanError, ScanReport, TableError, scan, scan_exprs};
+use vx_scan::{
+    ColumnStore, MemoryStore, ReadEntry, ScanError, ScanReport, TableError, scan, scan_block,
+    scan_exprs,
+};
 use vx_wire::{ExprRegistry, ExprRegistryExt};
 use vx_zones::{ZoneError, ZoneMap};
 
@@ -176,12 +179,95 @@ fn is_prepared(alloc: Global) -> Mem<bool> {
     }
 }
 
+/// `(1i64 > 2i64)`, which rules out each block
+fn never(alloc: Global) -> Mem<ExprRef> {
+    gt(alloc, lit(alloc, 1i64)?, lit(alloc, 2i64)?)
+}
+
+/// The report of the scan of a block for `$.x`. None where there is no such block, or no report.
+fn block_report(
+    alloc: Global,
+    filter: ExprRef,
+    block: u32,
+    store: &mut MemoryStore,
+) -> Mem<Option<ScanReport>> {
+    if block as usize >= store.zones().lengths().len() {
+        return Ok(None);
+    }
+    match scan_block(alloc, &filter, &x(alloc)?, &[], block, store) {
+        Ok(report) => Ok(Some(report)),
+        Err(_) => Ok(None),
+    }
+}
+
+/// Whether these are the numbers of this block alone.
+fn is_alone(numbers: &[u32], block: u32) -> bool {
+    numbers.len() == 1 && numbers[0] == block
+}
+
+/// Whether a block was kept, with these rows.
+fn is_kept(report: Option<ScanReport>, block: u32, numbers: &[i128]) -> bool {
+    match &report {
+        Some(report) => {
+            are_rows(report.rows.as_slice(), numbers)
+                && is_alone(report.kept.as_slice(), block)
+                && report.skipped.as_slice().is_empty()
+        }
+        None => false,
+    }
+}
+
+/// Whether a block was skipped.
+fn is_skipped(report: Option<ScanReport>, block: u32) -> bool {
+    match &report {
+        Some(report) => {
+            report.rows.as_slice().is_empty()
+                && report.kept.as_slice().is_empty()
+                && is_alone(report.skipped.as_slice(), block)
+        }
+        None => false,
+    }
+}
+
+/// Whether one read was made, in this block.
+fn is_read(log: &[ReadEntry], block: u32) -> bool {
+    log.len() == 1 && log[0].block == block
+}
+
+/// Whether the scan of the first block by `($.x > 2i64)` keeps it, with one of its two rows, by one read.
+fn keeps_block(alloc: Global, store: Stored) -> Mem<bool> {
+    match store {
+        Some(Ok(mut store)) => {
+            let report = block_report(alloc, above(alloc)?, 0, &mut store)?;
+            Ok(is_kept(report, 0, &[11]) && is_read(store.log(), 0))
+        }
+        _ => Ok(false),
+    }
+}
+
+/// Whether the scan of the second block by `(1i64 > 2i64)` skips it, by no read.
+fn skips_block(alloc: Global, store: Stored) -> Mem<bool> {
+    match store {
+        Some(Ok(mut store)) => {
+            let report = block_report(alloc, never(alloc)?, 1, &mut store)?;
+            Ok(is_skipped(report, 1) && store.log().is_empty())
+        }
+        _ => Ok(false),
+    }
+}
+
+/// A store of a block of two rows and of one.
+fn stored(alloc: Global) -> Stored {
+    let first = block(alloc, PType::I64, &[11, 2]);
+    store(alloc, first, block(alloc, PType::I64, &[3]))
+}
+
 #[test]
 fn ample(rt: HostRuntime) -> Result<(), Fail> {
     let alloc = rt.alloc();
-    let first = block(alloc, PType::I64, &[11, 2]);
-    let second = block(alloc, PType::I64, &[3]);
-    assert!(rt; scans(alloc, store(alloc, first, second)));
+    assert!(rt; scans(alloc, stored(alloc)));
+    assert!(rt; keeps_block(alloc, stored(alloc))?);
+    assert!(rt; skips_block(alloc, stored(alloc))?);
     assert!(rt; is_prepared(alloc)?);
     Ok(())
 }

@@ -27,12 +27,15 @@ use Rattle.vx_scan.proofs.RunLemmas.{logged}
 use Rattle.vx_scan.proofs.ScanLemmas.{told_all, told_so, told_both, same_store, same_after}
 use Rattle.vx_scan.proofs.StepLemmas.{block_there, no_more_blocks}
 use Rattle.vx_topk.specs.FirstRows.{HoldFirst, start_of}
-use Rattle.vx_topk.specs.TopEnds.{IsTypedTop, IsTopBroken, IsTopFault, IsTopCutOff}
-use Rattle.vx_topk.specs.TopRuns.{TopRuns, top_phases_before, found_before, top_skipped_before, top_asked_before, IsFoundTo, RunsUnder, Skips, Keeps, Ends, EndsBehind, TakesTurn, IsTopStopped, FindsTo}
+use Rattle.vx_topk.specs.RuledRuns.{AreRuledBehind}
+use Rattle.vx_topk.specs.TopEnds.{is_read_of, IsTypedTop, IsTopBroken, IsTopFault, IsTopCutOff}
+use Rattle.vx_topk.specs.TopRuns.{TopRuns, top_phases_before, found_before, top_skipped_before, top_asked_before, SkipsBefore, IsFoundTo, RunsUnder, Skips, Keeps, Ends, EndsBehind, TakesTurn, IsTopStopped, FindsTo}
 use Rattle.vx_topk.specs.declared.finding.Finding.{Finding}
 use Rattle.vx_topk.specs.declared.first_rows.FirstRows.{FirstRows}
 use Rattle.vx_topk.proofs.TopRunLemmas.{slotted, top_runs, top_run_nothing, top_run_on, top_run_more, top_run_cut}
 use Rattle.vx_topk.proofs.TopStepLemmas.{phases-out, found-out, skipped-out, phases-in, found-in, skipped-in, phases-end, phases-split, found-end, skipped-end, not-ruled, among-out, among-in, among-all, block-there, asks-same}
+use Rattle.vx_topk.proofs.SkipLemmas.{skips-out, skips-in}
+use Rattle.vx_topk.proofs.UnreadLemmas.{unread-here, unread-out, unread-in}
 
 one_more_later : (a b c : ℕ) → a ≤ b → one_more b ≤ c → one_more a ≤ c
 one_more_later a b c h k = grind (arith, h, k)
@@ -50,6 +53,8 @@ find-start ask v seen first h =
       ran = told_all seen.held (λ table. TopRuns (row_type table.columns) (top_phases_before ask table zones 0) seen.log seen.log seen.failed (Ok tt))
           (λ table. top_run_nothing (row_type table.columns) seen.log seen.failed);
       skipped = told_all seen.held (λ table. [] ≡ top_skipped_before ask table zones 0) (λ table. refl);
+      skips_before = record { blocks = tt; ruled_out = tt };
+      unread = refl;
     }
 
 -- what was found is what is told, where a test is asked of it
@@ -88,6 +93,9 @@ find-skips ask v i before middle after found was now agrees l s turn =
           turn.skipped ∙ ap (λ (ns : List ℕ). ns ++ i ∷ []) r
           ∙ sym (skipped-out ask table zones i _ (block_there zones table i d.0 l) (found-test ask zones found (found_before ask table zones i) i true d.1 out)))
           told s.skipped;
+      skips_before = subst (λ (ns : List ℕ). SkipsBefore ask zones (i + 1) ns) (sym turn.skipped) (skips-out ask zones i was.skipped.items l s.skips_before);
+      unread = subst (λ (ns : List ℕ). list_any (is_read_of ns) s.among.0 ≡ false) (sym turn.skipped)
+          (unread-out was.skipped.items i s.among.0 s.unread (unread-here ask zones i s.among.0 s.among.2));
     })
 
 -- what is known of the run of a block that isn't skipped, where the table is told
@@ -173,6 +181,10 @@ find-keeps ask v i before middle after found was now slotless l s turn =
           turn.skipped ∙ h
           ∙ sym (skipped-in ask table zones i d.0.held_rows d.0.there (found-test ask zones found (found_before ask table zones i) i false d.1 kept)))
           told s.skipped;
+      skips_before = subst (λ (ns : List ℕ). SkipsBefore ask zones (i + 1) ns) (sym turn.skipped)
+          (skips-in ask zones i was.skipped.items l (not-ruled ask zones found i slotless kept) s.skips_before);
+      unread = subst (λ (ns : List ℕ). list_any (is_read_of ns) (s.among.0 ++ r.made) ≡ false) (sym turn.skipped)
+          (unread-in ask zones middle.zones i was.skipped.items s.among.0 r.made s.skips_before s.unread r.asked);
     }
 
 -- ---- ends before the last block
@@ -396,9 +408,16 @@ find-stops-behind ask v i before middle after found was skips ty e typed slotles
 pub turn-finds : (ask : TopAsk) (v : Ty) (i : ℕ) (before middle after : StoreSeen) (was now : Finding) (u : Unit {0}) → has_no_slot ask.filter_expr ≡ true
     → WhereTold before.held (AgreesWith before.zones) → i < length before.zones.lengths → (f : FindsTo ask v i before middle was)
     → TakesTurn ask v f.0 i middle after was now (Ok u) → FindsTo ask v (i + 1) before after now
-turn-finds ask v i before middle after was now u slotless agrees l f (inl turn) = (f.0, find-skips ask v i before middle after f.0 was now agrees l f.1 turn)
-turn-finds ask v i before middle after was now u slotless agrees l f (inr turn) =
-    (f.0 ++ map unpacked turn.given, find-keeps ask v i before middle after f.0 was now slotless l f.1 turn)
+turn-finds ask v i before middle after was now u slotless agrees l f (inl turn) = (
+  f.0,
+  find-skips ask v i before middle after f.0 was now agrees l f.1 turn,
+  subst (λ (z : Zones). AreRuledBehind ask z f.0 now.ruled) f.1.same.zones turn.ruled,
+)
+turn-finds ask v i before middle after was now u slotless agrees l f (inr turn) = (
+  f.0 ++ map unpacked turn.given,
+  find-keeps ask v i before middle after f.0 was now slotless l f.1 turn,
+  subst (λ (z : Zones). AreRuledBehind ask z (f.0 ++ map unpacked turn.given) now.ruled) f.1.same.zones turn.ruled,
+)
 
 pub turn-stops : (ask : TopAsk) (v : Ty) (i : ℕ) (before middle after : StoreSeen) (was now : Finding) (ty : Ty) (e : ScanError) → IsTypedTop before.zones ask ty
     → has_no_slot ask.filter_expr ≡ true → nat_eq ask.count 0 ≡ false → i < length before.zones.lengths → (f : FindsTo ask v i before middle was)

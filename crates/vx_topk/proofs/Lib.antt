@@ -5,6 +5,9 @@ pub mod BoundLemmas
 pub mod PutLemmas
 pub mod TopRunLemmas
 pub mod TopStepLemmas
+pub mod SkipLemmas
+pub mod UnreadLemmas
+pub mod RuledRunLemmas
 pub mod FindLemmas
 pub mod ReadyLemmas
 pub mod TurnLemmas

@@ -2,10 +2,8 @@
 use Rattle.std.proofs.Common.{◌≡◌, refl, ap, ap₂, sym, ◌∙◌, subst, ℕ, suc, ◌+◌, ◌<◌, ◌≤◌, Bool, true, false, cond, ◌&&◌, ◌||◌, Some, None, List, [], ◌∷◌, ◌++◌, map, length, take, Ok, Err, append-nil, arith, inl, inr, eqb-true}
 use Rattle.std.specs.Prelude.{nat_eq}
 use Rattle.std.specs.List.{AllByRecursion, list_any}
-use Rattle.std.proofs.Math.ListN.{get_or}
 use Rattle.std.proofs.lemmas.Bool.{and_from}
-use Rattle.std.proofs.lemmas.Option.{slice_get-get_or}
-use Rattle.std.proofs.lemmas.List.{append_cancel_left, map-append}
+use Rattle.std.proofs.lemmas.List.{append_cancel_left}
 use Rattle.vx_dtype.specs.Types.{Bytes, Ty}
 use Rattle.vx_dtype.specs.TypeRules.{is_plain, field_type}
 use Rattle.vx_dtype.specs.TypeViews.{type_view}
@@ -27,10 +25,10 @@ use Rattle.vx_scan.specs.declared.errors.ScanError.TheVariants as scans
 use Rattle.vx_scan.proofs.ScanLemmas.{told_so, told_both}
 use Rattle.vx_scan.proofs.StepLemmas.{no_more_blocks}
 use Rattle.vx_topk.specs.FirstRows.{Entry, keyed_entry, IsHeld, HoldFirst, IsAskedBy, start_of}
-use Rattle.vx_topk.specs.TopEnds.{Topped, top_view, IsTypedTop, IsTopReport, top_ask, IsTopOf}
+use Rattle.vx_topk.specs.TopEnds.{Topped, top_view, numbers_of, is_read_of, IsTypedTop, SkipsBlocks, IsTopReport, top_ask, IsTopOf}
 use Rattle.vx_topk.specs.Ready.{top_error, GivesKey, GivesType}
 use Rattle.vx_topk.specs.TopRuns.{TopRuns, top_phases_before, found_before, top_skipped_before, IsFoundTo, IsTopStopped}
-use Rattle.vx_topk.specs.Tops.{numbers_of, ReportsFinding, EndsTop}
+use Rattle.vx_topk.specs.Tops.{ReportsFinding, EndsTop}
 use Rattle.vx_topk.specs.declared.finding.Finding.{Finding}
 use Rattle.vx_topk.specs.declared.first_rows.FirstRows.{FirstRows}
 use Rattle.vx_topk.specs.declared.row_keys.RowPlace.{RowPlace}
@@ -39,7 +37,8 @@ use Rattle.vx_topk.specs.declared.errors.TopError.{TopError}
 use Rattle.vx_topk.specs.declared.errors.TopError.TheVariants as errors
 use Rattle.vx_topk.proofs.HoldLemmas.{held-few, map-length}
 use Rattle.vx_topk.proofs.TopRunLemmas.{slotted}
-use Rattle.vx_topk.proofs.TopStepLemmas.{numbered-in, phases-end, found-end, skipped-end, among-all}
+use Rattle.vx_topk.proofs.TopStepLemmas.{phases-end, found-end, skipped-end, among-all}
+use Rattle.vx_topk.proofs.SkipLemmas.{skips-end, skips-all}
 
 -- the raw values of the held rows stand for the values of the first rows
 raw-values : (k v : Ty) (es : List Entry) → raw_rows v (map (λ (e : Entry). raw_view e.1) es) ≡ values_of (map (keyed_entry k v) es)
@@ -92,6 +91,9 @@ module _ (ask : TopAsk) (v : Ty) (before after : StoreSeen) (finding : Finding) 
         skipped = told_both before.held (AgreesWith zones) (λ table. finding.skipped.items ≡ top_skipped_before ask table zones all)
             (λ table. report.skipped ≡ top_skipped ask table zones)
             (λ table d r. made.skipped ∙ r ∙ skipped-end ask table zones all (no_more_blocks zones table d)) agrees s.skipped;
+        skips =
+            let reached : length zones.lengths ≤ all = omega arith in
+            subst (λ (ns : List ℕ). SkipsBlocks ask zones ns) (sym made.skipped) (skips-end ask zones all finding.skipped.items reached some s.skips_before);
         unbroken = told_both before.held (AgreesWith zones)
             (λ table. TopRuns (row_type table.columns) (top_phases_before ask table zones all) before.log after.log after.failed (Ok tt))
             (λ table. some_top_phase_breaks ask table zones ≡ false)
@@ -109,6 +111,7 @@ module _ (ask : TopAsk) (v : Ty) (before after : StoreSeen) (finding : Finding) 
               ∙ ap slotted_reads (phases-end ask table zones all (no_more_blocks zones table d)))
               agrees s.ran;
         };
+        unread = subst (λ (ns : List ℕ). list_any (is_read_of ns) s.among.0 ≡ false) (sym made.skipped) s.unread;
         unfailed = s.unfailed;
       }
 
@@ -148,6 +151,7 @@ none-report ask v seen report none typed agrees dtype rows skipped =
           (λ table d.
           skipped ∙ ap (λ (ls : List ℕ). map (λ (b : ℕ × ℕ). b.0) (numbered_from 0 ls)) (sym d.lengths)
           ∙ sym (numbers-same 0 table.blocks) ∙ sym (count_of_none ask table zones no).1) agrees;
+      skips = subst (λ (ns : List ℕ). SkipsBlocks ask zones ns) (sym skipped) (skips-all ask zones);
       unbroken = told_so seen.held (AgreesWith zones) (λ table. some_top_phase_breaks ask table zones ≡ false)
           (λ table d. ap (list_any (slotted_breaks (row_type table.columns))) (no-phases ask (row_type table.columns) zones [] (numbered_from 0 table.blocks) none)) agrees;
       reads = record {
@@ -157,6 +161,7 @@ none-report ask v seen report none typed agrees dtype rows skipped =
         told = told_so seen.held (AgreesWith zones) (λ table. [] ≡ top_reads ask table zones)
             (λ table d. sym (ap slotted_reads (no-phases ask (row_type table.columns) zones [] (numbered_from 0 table.blocks) none))) agrees;
       };
+      unread = refl;
       unfailed = refl;
     }
 
@@ -219,11 +224,3 @@ stopped-so ask v before after e d h why = subst (λ (x : TopError). EndsTop ask 
     by-error scans.BadCast k = k
     by-error scans.StoreFault k = k
     by-error _ k = absurd k
-
--- one number more
-pub numbers-more : {X : Type 0} (i : ℕ) (xs : List X) → i < length xs → numbers_of (take (i + 1) xs) ≡ numbers_of (take i xs) ++ i ∷ []
-numbers-more {X} i [] l = absurd (omega (arith, l))
-numbers-more {X} i (y ∷ ys) l =
-    let x = get_or (y ∷ ys) i y in
-    ap (λ (bs : List (ℕ × X)). map (λ (b : ℕ × X). b.0) bs) (numbered-in i (y ∷ ys) x (slice_get-get_or (y ∷ ys) i y l))
-    ∙ map-append (λ (b : ℕ × X). b.0) (numbered_from 0 (take i (y ∷ ys))) ((i, x) ∷ [])

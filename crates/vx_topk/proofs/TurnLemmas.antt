@@ -30,11 +30,13 @@ use Rattle.vx_scan.specs.declared.errors.ScanError.{ScanError}
 use Rattle.vx_scan.specs.declared.errors.ScanError.TheVariants as errors
 use Rattle.vx_topk.specs.FirstRows.{HoldFirst, IsAskedBy, start_of}
 use Rattle.vx_topk.specs.Ready.{CanBeReady, IsReady}
+use Rattle.vx_topk.specs.RuledRuns.{AreTold, AreRuledBehind}
 use Rattle.vx_topk.specs.TopRuns.{GivesRows, RunsUnder, Ends, EndsBehind, TakesTurn}
 use Rattle.vx_topk.specs.declared.finding.Finding.{Finding}
 use Rattle.vx_topk.specs.declared.first_rows.FirstRows.{FirstRows}
 use Rattle.vx_topk.specs.declared.row_keys.RowPlace.{RowPlace}
 use Rattle.vx_topk.specs.declared.ready.TopScan.{TopScan}
+use Rattle.vx_topk.specs.declared.ruled_runs.RuledRun.{RuledRun}
 use Rattle.vx_topk.proofs.HoldLemmas.{hold-next-block}
 use Rattle.vx_topk.proofs.ReadyLemmas.{ready-with}
 
@@ -81,14 +83,23 @@ module _ (zones : Zones) (ask : TopAsk) (v : Ty) (top : TopScan) (found : List K
   pub rule-there : (told : Zones) → told ≡ zones → IsRuleOf told (bounded_filter ask) top.rule
   rule-there told z = subst (λ (x : Zones). IsRuleOf x (bounded_filter ask) top.rule) (sym z) ready.rule
 
-  -- whether a block is skipped is what the rule says
-  pub skips-as-ruled : (i : ℕ) (told : Zones) (slots : Slots) (out b : Bool) → nat_eq ask.count 0 ≡ false → slots ≡ bound_slots ask (bound_before ask found) → told ≡ zones
-      → ((filter : Tree) → IsRuleOf told filter top.rule → slots_fit slots filter ≡ true → out ≡ rules_out told slots i filter) → out ≡ b → top_skips ask zones found i ≡ b
-  skips-as-ruled i told slots out b some e z says is =
-      ap (λ (c : Bool). c || rules_out zones (bound_slots ask (bound_before ask found)) i (bounded_filter ask)) some
-      ∙ ap (λ (s : Slots). rules_out zones s i (bounded_filter ask)) (sym e)
-      ∙ ap (λ (x : Zones). rules_out x slots i (bounded_filter ask)) (sym z)
-      ∙ sym (says (bounded_filter ask) (rule-there told z) (slots-fine slots e)) ∙ is
+  -- whether a block is skipped is what the rule says, and what is held then is what the rule says too
+  pub skips-as-ruled : (i : ℕ) (told : Zones) (slots : Slots) (was now : RuledRun) (out b : Bool) → nat_eq ask.count 0 ≡ false → slots ≡ bound_slots ask (bound_before ask found) → told ≡ zones
+      → AreRuledBehind ask zones found was
+      → ((filter : Tree) → IsRuleOf told filter top.rule → slots_fit slots filter ≡ true → AreTold (λ n. rules_out told slots n filter) was
+      → (out ≡ rules_out told slots i filter) × AreTold (λ n. rules_out told slots n filter) now)
+      → out ≡ b → (top_skips ask zones found i ≡ b) × AreRuledBehind ask zones found now
+  skips-as-ruled i told slots was now out b some e z held says is =
+      let f = bounded_filter ask in
+      let own : AreTold (λ (n : ℕ). rules_out told slots n f) was =
+      subst (λ (x : Zones × Slots). AreTold (λ (n : ℕ). rules_out x.0 x.1 n f) was) (λ j. (sym z j, sym e j)) held in
+      let said = says f (rule-there told z) (slots-fine slots e) own in (
+        ap (λ (c : Bool). c || rules_out zones (bound_slots ask (bound_before ask found)) i f) some
+            ∙ ap (λ (s : Slots). rules_out zones s i f) (sym e)
+            ∙ ap (λ (x : Zones). rules_out x slots i f) (sym z)
+            ∙ sym said.0 ∙ is,
+        subst (λ (x : Zones × Slots). AreTold (λ (n : ℕ). rules_out x.0 x.1 n f) now) (λ j. (z j, e j)) said.1,
+      )
 
 pub hold-next : (k v : Ty) (found : List Keyed) (i : ℕ) (first : FirstRows) → HoldFirst k v found (start_of i) first → HoldFirst k v found (start_of (i + 1)) first
 hold-next k v found i first h =
@@ -97,13 +108,15 @@ hold-next k v found i first h =
 
 -- a block that is skipped
 pub turn-out : (ask : TopAsk) (v : Ty) (found : List Keyed) (i : ℕ) (seen : StoreSeen) (was now : Finding) (u : Unit {0}) → top_skips ask seen.zones found i ≡ true
-    → HoldFirst ask.key_type v found (start_of i) was.first → now.first ≡ was.first → now.skipped.items ≡ was.skipped.items ++ i ∷ [] → TakesTurn ask v found i seen seen was now (Ok u)
-turn-out ask v found i seen was now u out h same skipped =
+    → HoldFirst ask.key_type v found (start_of i) was.first → now.first ≡ was.first → now.skipped.items ≡ was.skipped.items ++ i ∷ [] → AreRuledBehind ask seen.zones found now.ruled
+    → TakesTurn ask v found i seen seen was now (Ok u)
+turn-out ask v found i seen was now u out h same skipped ruled =
     inl (record {
       out = out;
       stays = refl;
       holds = subst (λ (first : FirstRows). HoldFirst ask.key_type v found (start_of (i + 1)) first) (sym same) (hold-next ask.key_type v found i was.first h);
       skipped = skipped;
+      ruled = ruled;
     })
 
 -- a block whose rows are put in
@@ -111,8 +124,9 @@ pub turn-in : (ask : TopAsk) (v : Ty) (found : List Keyed) (i : ℕ) (before aft
     → top_skips ask before.zones found i ≡ false → slots ≡ bound_slots ask (bound_before ask found) → t ≡ keyed_type ask.key_type v
     → RunsBlock slots (bounded_filter ask) (keyed_projection ask) i before after [] (seen_rows t rows) (Ok tt)
     → HoldFirst ask.key_type v (found ++ map unpacked (seen_rows (keyed_type ask.key_type v) rows)) (start_of (i + 1)) now.first → now.skipped.items ≡ was.skipped.items
-    → TakesTurn ask v found i before after was now (Ok u)
-turn-in ask v found i before after was now u slots t rows kept e ty ran h same =
+    → ((says : ℕ → Bool) → AreTold says now.ruled) → TakesTurn ask v found i before after was now (Ok u)
+turn-in ask v found i before after was now u slots t rows kept e ty ran h same none =
+    let behind = found ++ map unpacked (seen_rows (keyed_type ask.key_type v) rows) in
     inr (record {
       kept = kept;
       given = seen_rows (keyed_type ask.key_type v) rows;
@@ -120,6 +134,7 @@ turn-in ask v found i before after was now u slots t rows kept e ty ran h same =
           (subst (λ (w : Ty). RunsBlock slots (bounded_filter ask) (keyed_projection ask) i before after [] (seen_rows w rows) (Ok tt)) ty ran);
       holds = h;
       skipped = same;
+      ruled = none (λ (n : ℕ). rules_out before.zones (bound_slots ask (bound_before ask behind)) n (bounded_filter ask));
     })
 
 -- there was no memory before a block's run

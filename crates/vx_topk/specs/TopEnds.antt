@@ -1,6 +1,7 @@
 -- How finding the first rows by a key ends: with a report, refused before the first block, broken by a sum or a cast, at a read that failed, or without
 -- memory; and what each end leaves.
-use Rattle.std.specs.Prelude.{◌≡◌, ◌⊎◌, ℕ, ◌≤◌, Bool, true, false, ◌||◌, List, [], ◌∷◌, ◌++◌, length, Some, None, Result, Ok, Err}
+use Rattle.std.specs.Prelude.{◌≡◌, ◌⊎◌, ℕ, ◌≤◌, nat_eq, Bool, true, false, ◌||◌, List, [], ◌∷◌, ◌++◌, map, length, Some, None, Result, Ok, Err}
+use Rattle.std.specs.List.{list_any}
 use Rattle.vx_dtype.specs.Types.{Bytes, Ty}
 use Rattle.vx_dtype.specs.TypeRules.{is_plain, field_type}
 use Rattle.vx_dtype.specs.TypeViews.{type_view}
@@ -8,7 +9,8 @@ use Rattle.vx_dtype.specs.Values.{Val}
 use Rattle.vx_column.specs.Columns.{raw_rows}
 use Rattle.vx_expr.specs.Trees.{Tree}
 use Rattle.vx_semantics.specs.Breaks.{Cause, by_sum, by_cast}
-use Rattle.vx_semantics.specs.Tables.{Table, Zones, row_type}
+use Rattle.vx_semantics.specs.Scans.{skipped_blocks}
+use Rattle.vx_semantics.specs.Tables.{Table, Zones, row_type, numbered_from}
 use Rattle.vx_io.specs.Counts.{one_more}
 use Rattle.vx_scan.specs.Stores.{Read, StoreSeen, WhereTold}
 use Rattle.vx_scan.specs.Scanning.{scan_type, asks_breaking, some_block, AreAmong, AreIllTyped}
@@ -44,15 +46,32 @@ pub record GrowsTopLog (ask : TopAsk) (before after : StoreSeen) (AreJust : Tabl
   pub asked : AreAmong made (top_asked ask before.zones)
   pub told : WhereTold before.held (λ table. AreJust table made)
 
--- the report: all reads were made, and none failed; where the table is told the rows are the first ones over the blocks that aren't skipped, and no phase
--- breaks; no more rows are told than are asked
+-- the numbers of items, from 0 on
+abbrev pub numbers_of : {X : Type 0} → List X → List ℕ
+numbers_of xs = map (λ b. b.0) (numbered_from 0 xs)
+
+-- the skipped blocks, whether the table is told or not: they are blocks of the table, each once and in order, and those that the filter alone rules out are
+-- among them; where no row is asked they are all blocks
+pub record SkipsBlocks (ask : TopAsk) (zones : Zones) (skipped : List ℕ) : Type 0 where
+  pub blocks : AreAmong skipped (numbers_of zones.lengths)
+  pub ruled_out : AreAmong (skipped_blocks zones [] ask.filter_expr) skipped
+  pub none_asked : ask.count ≡ 0 → skipped ≡ numbers_of zones.lengths
+
+-- whether a read is one of these blocks
+abbrev pub is_read_of : List ℕ → Read → Bool
+is_read_of blocks read = list_any (nat_eq read.0) blocks
+
+-- the report: all reads were made, none of a skipped block, and none failed; where the table is told the rows are the first ones over the blocks that aren't
+-- skipped, and no phase breaks; no more rows are told than are asked
 pub record IsTopReport (ask : TopAsk) (before after : StoreSeen) (report : Topped) : Type 0 where
   pub typed : IsTypedTop before.zones ask report.ty
   pub few : length report.rows ≤ ask.count
   pub rows : WhereTold before.held (λ table. report.rows ≡ top_rows_of ask table before.zones)
   pub skipped : WhereTold before.held (λ table. report.skipped ≡ top_skipped ask table before.zones)
+  pub skips : SkipsBlocks ask before.zones report.skipped
   pub unbroken : WhereTold before.held (λ table. some_top_phase_breaks ask table before.zones ≡ false)
   pub reads : GrowsTopLog ask before after (λ table made. made ≡ top_reads ask table before.zones)
+  pub unread : list_any (is_read_of report.skipped) reads.made ≡ false
   pub unfailed : after.failed ≡ before.failed
 
 -- a phase broke by this cause: a block may be read, and filter or projection ask a node that can; where the table is told the first phase that breaks does

@@ -17,11 +17,13 @@ use Rattle.vx_laws_topk.specs.TopPhases.{SlottedPhase, keyed_projection, phases_
 use Rattle.vx_laws_topk.specs.BoundLaws.{unpacked}
 use Rattle.vx_scan.specs.Stores.{Read, StoreSeen, WhereTold, IsSameStore}
 use Rattle.vx_scan.specs.BlockRuns.{block_asked, RunsBlock}
-use Rattle.vx_scan.specs.Runs.{kept_numbers_before, GrowsAmong}
+use Rattle.vx_scan.specs.Runs.{kept_numbers_before, skipped_numbers_before, GrowsAmong}
+use Rattle.vx_scan.specs.Scanning.{AreAmong}
 use Rattle.vx_scan.specs.declared.errors.ScanError.{ScanError}
 use Rattle.vx_scan.specs.declared.errors.ScanError.TheVariants as errors
 use Rattle.vx_topk.specs.FirstRows.{HoldFirst, start_of}
-use Rattle.vx_topk.specs.TopEnds.{IsTopBroken, IsTopFault, IsTopCutOff}
+use Rattle.vx_topk.specs.RuledRuns.{AreRuledBehind}
+use Rattle.vx_topk.specs.TopEnds.{numbers_of, is_read_of, IsTopBroken, IsTopFault, IsTopCutOff}
 use Rattle.vx_topk.specs.declared.first_rows.FirstRows.{FirstRows}
 use Rattle.vx_topk.specs.declared.finding.Finding.{Finding}
 
@@ -55,6 +57,11 @@ abbrev pub top_asked_before : TopAsk → Zones → ℕ → List Read
 top_asked_before ask zones i =
     flat_map (block_asked zones (bounded_filter ask) (keyed_projection ask)) (kept_numbers_before zones [] ask.filter_expr i)
 
+-- the blocks that are skipped before a block are blocks before it, in order, and those that the filter alone rules out are among them
+pub record SkipsBefore (ask : TopAsk) (zones : Zones) (i : ℕ) (skips : List ℕ) : Type 0 where
+  pub blocks : AreAmong skips (numbers_of (take i zones.lengths))
+  pub ruled_out : AreAmong (skipped_numbers_before zones [] ask.filter_expr i) skips
+
 -- the finding has come to a block: nothing failed, and the first of the rows that were found before it are held
 pub record IsFoundTo (ask : TopAsk) (v : Ty) (i : ℕ) (before after : StoreSeen) (found : List Keyed) (first : FirstRows) (skips : List ℕ) : Type 0 where
   pub same : IsSameStore before after
@@ -65,6 +72,8 @@ pub record IsFoundTo (ask : TopAsk) (v : Ty) (i : ℕ) (before after : StoreSeen
   pub ran : WhereTold before.held
       (λ table. TopRuns (row_type table.columns) (top_phases_before ask table before.zones i) before.log after.log after.failed (Ok tt))
   pub skipped : WhereTold before.held (λ table. skips ≡ top_skipped_before ask table before.zones i)
+  pub skips_before : SkipsBefore ask before.zones i skips
+  pub unread : list_any (is_read_of skips) among.0 ≡ false
 
 -- the run of a block that begins with no rows: the rows that it gave, or how it ended
 abbrev pub GivesRows : Slots → Tree → Tree → ℕ → Ty → StoreSeen → StoreSeen → Result (Vec ScalarValue Global) ScanError → Type 0
@@ -82,6 +91,7 @@ pub record Skips (ask : TopAsk) (v : Ty) (found : List Keyed) (i : ℕ) (before 
   pub stays : after ≡ before
   pub holds : HoldFirst ask.key_type v found (start_of (i + 1)) now.first
   pub skipped : now.skipped.items ≡ was.skipped.items ++ i ∷ []
+  pub ruled : AreRuledBehind ask before.zones found now.ruled
 
 pub record Keeps (ask : TopAsk) (v : Ty) (found : List Keyed) (i : ℕ) (before after : StoreSeen) (was now : Finding) : Type 0 where
   pub kept : top_skips ask before.zones found i ≡ false
@@ -89,6 +99,7 @@ pub record Keeps (ask : TopAsk) (v : Ty) (found : List Keyed) (i : ℕ) (before 
   pub ran : RunsUnder ask found i before after given (Ok tt)
   pub holds : HoldFirst ask.key_type v (found ++ map unpacked given) (start_of (i + 1)) now.first
   pub skipped : now.skipped.items ≡ was.skipped.items
+  pub ruled : AreRuledBehind ask before.zones (found ++ map unpacked given) now.ruled
 
 -- or it ends the finding: without memory before or behind the block's run, or as the run ended
 pub record Ends (ask : TopAsk) (found : List Keyed) (i : ℕ) (before after : StoreSeen) (e : ScanError) : Type 0 where
@@ -115,8 +126,10 @@ IsTopStopped ask before after errors.StoreFault = IsTopFault ask before after
 IsTopStopped ask before after errors.NoMemory = IsTopCutOff ask before after
 IsTopStopped ask before after _ = ⊥
 
+-- the finding has come to a block, and what is held of the pruning rule is what it says with the bound behind the rows that were found
 abbrev pub FindsTo : TopAsk → Ty → ℕ → StoreSeen → StoreSeen → Finding → Type 0
-FindsTo ask v i before after finding = (found : List Keyed) × IsFoundTo ask v i before after found finding.first finding.skipped.items
+FindsTo ask v i before after finding =
+    (found : List Keyed) × IsFoundTo ask v i before after found finding.first finding.skipped.items × AreRuledBehind ask before.zones found finding.ruled
 
 abbrev pub EndsFinding : TopAsk → Ty → StoreSeen → StoreSeen → Result Finding ScanError → Type 0
 EndsFinding ask v before after (Ok finding) = FindsTo ask v (length before.zones.lengths) before after finding

@@ -1,10 +1,9 @@
 -- For the checker: no public clause cites this.
 -- How the first rows of a table are reported.
-use Rattle.std.specs.Prelude.{◌≡◌, ℕ, ◌⊎◌, List, map, Result, Ok, Err}
+use Rattle.std.specs.Prelude.{◌≡◌, ◌⊎◌, map, Result, Ok, Err}
 use Rattle.vx_dtype.specs.Types.{Ty}
 use Rattle.vx_dtype.specs.RawViews.{raw_view}
 use Rattle.vx_dtype.specs.TypeViews.{type_view}
-use Rattle.vx_semantics.specs.Tables.{numbered_from}
 use Rattle.vx_laws_topk.specs.TopRows.{TopAsk}
 use Rattle.vx_scan.specs.Stores.{StoreSeen}
 use Rattle.vx_scan.specs.declared.errors.ScanError.TheVariants as scans
@@ -14,10 +13,6 @@ use Rattle.vx_topk.specs.declared.reports.TopReport.{TopReport}
 use Rattle.vx_topk.specs.declared.errors.TopError.{TopError}
 use Rattle.vx_topk.specs.declared.errors.TopError.TheVariants as errors
 use Rattle.vx_topk.specs.declared.finding.Finding.{Finding}
-
--- the numbers of items, from 0 on
-abbrev pub numbers_of : {X : Type 0} → List X → List ℕ
-numbers_of xs = map (λ b. b.0) (numbered_from 0 xs)
 
 -- the report of a finding: of this type, with the values of the first rows and the numbers of the skipped blocks
 pub record ReportsFinding (ty : Ty) (finding : Finding) (report : TopReport) : Type 0 where

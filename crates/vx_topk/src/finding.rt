@@ -12,19 +12,23 @@ ghost use Rattle.vx_scan.specs.Opening.{IsPreparedScan};
 ghost use Rattle.vx_scan.specs.BlockRuns.{RunsBlock};
 ghost use Rattle.vx_topk.specs.FirstRows.{HoldFirst, IsAskedBy, AsksTheSame, start_of};
 ghost use Rattle.vx_topk.specs.Ready.{IsReady};
+ghost use Rattle.vx_topk.specs.RuledRuns.{AreRuledBehind};
 ghost use Rattle.vx_topk.specs.TopRuns.{GivesRows, TakesTurn, EndsFinding};
 
 use crate::first_rows::FirstRows;
 use crate::ready::TopScan;
+use crate::ruled_runs::RuledRun;
 use std::alloc::Global;
 use vx_dtype::{Scalar, ScalarValue};
 use vx_scan::{ColumnStore, ScanError};
 
-/// What was found so far: the first rows, and the numbers of the blocks that were skipped.
+/// What was found so far: the first rows, and the numbers of the blocks that were skipped; and what is held of the pruning rule's answers with
+/// the bound that these rows give.
 #[derive(Drop)]
 pub(crate) struct Finding {
     pub(crate) first: FirstRows,
     pub(crate) skipped: Vec<u32>,
+    pub(crate) ruled: RuledRun,
 }
 
 /// The first rows over all blocks, of which at least one is asked. A block is skipped where the bounded filter rules it out, with the bound that
@@ -45,7 +49,12 @@ pub(crate) fn find_rows<S: ColumnStore>(
 {
     let first = FirstRows::new(alloc, count, descending);
     let skipped = Vec::new(alloc);
-    let mut finding = Finding { first, skipped };
+    let ruled = RuledRun::none(alloc);
+    let mut finding = Finding {
+        first,
+        skipped,
+        ruled,
+    };
     let blocks = store.zones().lengths().len() as u32;
     for block in 0..blocks {
         find_or_skip(alloc, top, store, block, &mut finding)?;
@@ -54,7 +63,7 @@ pub(crate) fn find_rows<S: ColumnStore>(
 }
 
 /// The turn of a block: it is skipped where the bounded filter rules it out, with the bound that the rows before it give; else its rows are put
-/// in.
+/// in, and what the rule says is held no longer, since the bound may be another then.
 fn find_or_skip<S: ColumnStore>(
     alloc: Global,
     top: &TopScan,
@@ -63,21 +72,27 @@ fn find_or_skip<S: ColumnStore>(
     finding: &mut Finding,
 ) -> Result<(), ScanError>
     requires ready { (ask : TopAsk) × (v : Ty) × (found : List Keyed) × IsReady (S.seen store.old).zones ask v top.now
-        × IsAskedBy ask ask.key_type finding.old.first × HoldFirst ask.key_type v found (start_of block) finding.old.first × (nat_eq ask.count 0 ≡ false) }
+        × IsAskedBy ask ask.key_type finding.old.first × HoldFirst ask.key_type v found (start_of block) finding.old.first
+        × AreRuledBehind ask (S.seen store.old).zones found finding.old.ruled × (nat_eq ask.count 0 ≡ false) }
     requires block { block < length (S.seen store.old).zones.lengths }
     ensures same { IsSameStore (S.seen store.old) (S.seen store.new) }
     ensures asked { IfOk result (λ _. AsksTheSame finding.old.first finding.new.first) }
     ensures turn { (ask : TopAsk) (v : Ty) (found : List Keyed) → IsReady (S.seen store.old).zones ask v top.now →
-        IsAskedBy ask ask.key_type finding.old.first → HoldFirst ask.key_type v found (start_of block) finding.old.first → nat_eq ask.count 0 ≡ false →
+        IsAskedBy ask ask.key_type finding.old.first → HoldFirst ask.key_type v found (start_of block) finding.old.first →
+        AreRuledBehind ask (S.seen store.old).zones found finding.old.ruled → nat_eq ask.count 0 ≡ false →
         TakesTurn ask v found block (S.seen store.old) (S.seen store.new) finding.old finding.new result }
 {
     let slots = [finding.first.bound(&top.key_dtype)?];
-    if top.rule.rules_out(alloc, store.zones(), block, &slots)? {
+    if finding
+        .ruled
+        .rules_out(alloc, &top.rule, store.zones(), block, &slots)?
+    {
         finding.skipped.push(block)?;
         return Ok(());
     }
     let rows = rows_of_block(alloc, top, &slots, store, block)?;
     finding.first.put_rows(rows.as_slice(), block)?;
+    finding.ruled = RuledRun::none(alloc);
     Ok(())
 }
 

@@ -8,6 +8,7 @@ mod laws;
 mod ready;
 mod reports;
 mod row_keys;
+mod ruled_runs;
 mod slots;
 mod tops;
 

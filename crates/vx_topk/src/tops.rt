@@ -4,9 +4,9 @@ ghost use Rattle.vx_dtype.specs.TypeViews.{type_view};
 ghost use Rattle.vx_column.specs.Columns.{raws_fit};
 ghost use Rattle.vx_laws_topk.specs.TopLaws.{has_no_slot};
 ghost use Rattle.vx_scan.specs.Stores.{IsSameStore};
-ghost use Rattle.vx_topk.specs.TopEnds.{top_ask, IsTypedTop, IsTopOf};
+ghost use Rattle.vx_topk.specs.TopEnds.{numbers_of, top_ask, IsTypedTop, IsTopOf};
 ghost use Rattle.vx_topk.specs.Ready.{AreTyped};
-ghost use Rattle.vx_topk.specs.Tops.{numbers_of, EndsTop, ReportsFinding};
+ghost use Rattle.vx_topk.specs.Tops.{EndsTop, ReportsFinding};
 
 use crate::errors::TopError;
 use crate::finding::{Finding, find_rows};
@@ -29,6 +29,8 @@ use vx_zones::ZoneMap;
 /// that the key stands before the bound; the bound is the key of the last of the first rows found so far, where there are as many as are asked
 /// and it isn't null. Each other block is scanned by that filter as [`vx_scan::scan_exprs`] scans one, for the key and the projection. Overflow,
 /// BadCast, StoreFault and NoMemory come as there.
+///
+/// The skipped blocks are in order, none of them is read, and those that the filter alone rules out are among them, whatever is found.
 ///
 /// Over honest statistics these are the first of all rows at which the filter is true.
 ///
@@ -122,7 +124,11 @@ fn typed_top_rows<S: ColumnStore>(
 fn report(alloc: Global, dtype: DType, finding: Finding) -> Mem<TopReport>
     ensures { IfOk result (ReportsFinding (type_view dtype) finding) }
 {
-    let Finding { first, skipped } = finding;
+    let Finding {
+        first,
+        skipped,
+        ruled: _,
+    } = finding;
     Ok(TopReport {
         dtype,
         rows: RowValues::new(first.into_values(alloc)?),

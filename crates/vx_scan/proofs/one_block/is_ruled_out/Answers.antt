@@ -1,4 +1,4 @@
-use Rattle.std.proofs.Common.{◌≡◌, ◌∙◌, ap, Bool, List, length, get_or, arith}
+use Rattle.std.proofs.Common.{◌∙◌, ap, Bool, List, length, get_or, arith}
 use Rattle.vx_scan.proofs.one_block.is_ruled_out.Goals as goal
 
 pub index-requires : goal.index-requires

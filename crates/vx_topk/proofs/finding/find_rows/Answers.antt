@@ -1,8 +1,11 @@
 use Rattle.std.proofs.Common.{◌≡◌, ◌∙◌, ◌<◌, ap, sym, refl, subst, ℕ, List, [], length, arith, false}
 use Rattle.std.specs.Prelude.{nat_eq}
+use Rattle.vx_semantics.specs.Pruning.{rules_out}
 use Rattle.vx_semantics.specs.Tables.{Zones}
+use Rattle.vx_laws_topk.specs.TopRows.{bounded_filter, bound_before, bound_slots}
 use Rattle.vx_scan.proofs.ScanLemmas.{same_store, same_after}
 use Rattle.vx_topk.specs.Ready.{IsReady}
+use Rattle.vx_topk.specs.RuledRuns.{AreRuledBehind}
 use Rattle.vx_topk.specs.TopRuns.{IsFoundTo, FindsTo, EndsFinding}
 use Rattle.vx_topk.proofs.ReadyLemmas.{typed-top}
 use Rattle.vx_topk.proofs.TurnLemmas.{the-error}
@@ -20,6 +23,7 @@ loop-block-init g c =
         [],
         subst (λ (ns : List ℕ). IsFoundTo ask v 0 seen seen [] first ns) (sym c.new-skipped.ensures.items)
             (find-start ask v seen first (c.new-first.ensures.holds ask.key_type v ready.can.typed.plain)),
+        c.none-ruled.ensures (λ n. rules_out seen.zones (bound_slots ask (bound_before ask [])) n (bounded_filter ask)),
       ),
     )
 
@@ -34,6 +38,7 @@ find_or_skip-requires-clause-ready g c =
       subst (λ (z : Zones). IsReady z h.0 h.1 c.args.top.now) (sym so_far.0.zones) h.2,
       record { ty = refl; count = h.3 ∙ sym so_far.1; descending = h.4 ∙ sym so_far.2 },
       f.1.holds,
+      subst (λ (z : Zones). AreRuledBehind h.0 z f.0 c.loop-block.finding.ruled) (sym so_far.0.zones) f.2,
       ap (λ (n : ℕ). nat_eq n 0) h.3 ∙ h.5,
     )
 
@@ -53,7 +58,8 @@ loop-block-preserved g c =
           let f = so_far.3 ask v ready ec ed in
           turn-finds ask v block first middle last c.loop-block.finding c.find_or_skip.new.finding tt ready.can.filter_slots c.zones.ensures.agrees there f
           (c.in_ok-find_or_skip.ensures.turn ask v f.0 (subst (λ (z : Zones). IsReady z ask v c.args.top.now) (sym so_far.0.zones) ready)
-          (record { ty = refl; count = ec ∙ sym so_far.1; descending = ed ∙ sym so_far.2 }) f.1.holds (ap (λ (n : ℕ). nat_eq n 0) ec ∙ c.requires.ready.5)),
+          (record { ty = refl; count = ec ∙ sym so_far.1; descending = ed ∙ sym so_far.2 }) f.1.holds
+          (subst (λ (z : Zones). AreRuledBehind ask z f.0 c.loop-block.finding.ruled) (sym so_far.0.zones) f.2) (ap (λ (n : ℕ). nat_eq n 0) ec ∙ c.requires.ready.5)),
     )
 
 pub returns-in_err-find_or_skip-clause-ends : goal.returns-in_err-find_or_skip-clause-ends
@@ -72,7 +78,8 @@ returns-in_err-find_or_skip-clause-ends g c = λ ask v ready ec ed some.
     subst (λ r. EndsFinding ask v first last r) (sym end)
     (turn-stops ask v block first middle last c.loop-block.finding c.find_or_skip.new.finding v err (typed-top first.zones ask v ready.can) ready.can.filter_slots here there f
     (c.in_err-find_or_skip.ensures.turn ask v f.0 (subst (λ (z : Zones). IsReady z ask v c.args.top.now) (sym so_far.0.zones) ready)
-    (record { ty = refl; count = ec ∙ sym so_far.1; descending = ed ∙ sym so_far.2 }) f.1.holds here))
+    (record { ty = refl; count = ec ∙ sym so_far.1; descending = ed ∙ sym so_far.2 }) f.1.holds
+    (subst (λ (z : Zones). AreRuledBehind ask z f.0 c.loop-block.finding.ruled) (sym so_far.0.zones) f.2) here))
 
 pub returns-clause-ends : goal.returns-clause-ends
 returns-clause-ends g c = λ ask v ready ec ed some.

@@ -1,5 +1,5 @@
 use Rattle.std.proofs.Common.{◌≡◌, take}
-use Rattle.vx_topk.specs.Tops.{numbers_of}
+use Rattle.vx_topk.specs.TopEnds.{numbers_of}
 use Rattle.vx_topk.proofs.tops.block_numbers.Given as goal
 
 -- the numbers of the blocks before this one

@@ -2,8 +2,7 @@ use Rattle.std.proofs.Common.{◌≡◌, ◌∙◌, ap, ℕ}
 use Rattle.std.specs.Prelude.{nat_eq}
 use Rattle.vx_dtype.specs.TypeViews.{type_view}
 use Rattle.vx_semantics.specs.Tables.{Zones}
-use Rattle.vx_topk.specs.TopEnds.{top_ask}
-use Rattle.vx_topk.specs.Tops.{numbers_of}
+use Rattle.vx_topk.specs.TopEnds.{numbers_of, top_ask}
 use Rattle.vx_topk.proofs.ReadyLemmas.{typed-here}
 use Rattle.vx_topk.proofs.ReportLemmas.{none-report}
 use Rattle.vx_topk.proofs.tops.top_rows.Goals as goal
