@@ -15,12 +15,14 @@ use Rattle.vx_laws_topk.specs.TopRows.{TopAsk, Keyed, bounded_filter, bound_befo
 use Rattle.vx_laws_topk.specs.TopPhases.{keyed_projection}
 use Rattle.vx_laws_topk.specs.BoundLaws.{IsTypedAsk, IsBoundOf, keyed_type}
 use Rattle.vx_laws_topk.proofs.BoundedFilters.{bounded_filter_is_boolean, bound_slots_fit, keyed_projection_is_struct, keyed_projection_fits}
+use Rattle.vx_scan.specs.ErrorKinds.{ErrorKind, of_memory, of_text, of_types, of_break, of_read, kind_of, OnlyOfTypes}
 use Rattle.vx_scan.specs.Scanning.{on_side, after_filter, scan_type}
 use Rattle.vx_scan.specs.Opening.{IsPreparedScan, PreparesScan}
 use Rattle.vx_scan.specs.declared.errors.Side.TheVariants.{Filter, Projection}
 use Rattle.vx_scan.specs.declared.errors.ScanError.{ScanError}
 use Rattle.vx_scan.specs.declared.errors.ScanError.TheVariants as errors
 use Rattle.vx_scan.specs.declared.preparing.PreparedScan.{PreparedScan}
+use Rattle.vx_scan.proofs.KindLemmas.{memory_alone}
 use Rattle.vx_scan.proofs.PrepareLemmas.{checked_parts, other_slots}
 use Rattle.vx_scan.specs.Stores.{StoreSeen}
 use Rattle.vx_topk.specs.TopEnds.{IsTypedTop, top_ask}
@@ -53,11 +55,14 @@ bounded-typed zones ask v bound can fine =
 -- typed expressions are refused by want of memory alone
 pub only-memory : (zones : Zones) (slots : Slots) (f p : Tree) (u : Ty) (e : ScanError) → scan_type (row_type zones.columns) slots f p ≡ Ok u → PreparesScan zones slots f p (Err e)
     → e ≡ errors.NoMemory
-only-memory zones slots f p u errors.NoMemory k h = refl
-only-memory zones slots f p u errors.Overflow k h = absurd h
-only-memory zones slots f p u errors.BadCast k h = absurd h
-only-memory zones slots f p u errors.StoreFault k h = absurd h
-only-memory zones slots f p u _ k h = let no : ⊥ = cc in absurd no
+only-memory zones slots f p u e typed h = by-kind (kind_of e) refl h
+  where
+    by-kind : (k : ErrorKind) → kind_of e ≡ k → OnlyOfTypes k (scan_type (row_type zones.columns) slots f p ≡ Err e) → e ≡ errors.NoMemory
+    by-kind of_memory same r = memory_alone e same
+    by-kind of_text same r = absurd r
+    by-kind of_types same r = let no : ⊥ = cc in absurd no
+    by-kind (of_break cause) same r = absurd r
+    by-kind of_read same r = absurd r
 
 -- the rows of the scan that is ready are packed
 pub packed-rows : (zones : Zones) (ask : TopAsk) (v : Ty) (scan : PreparedScan) → CanBeReady zones ask v → IsPreparedScan zones (None ∷ []) (bounded_filter ask) (keyed_projection ask) scan

@@ -18,6 +18,7 @@ use Rattle.vx_semantics.specs.Tables.{Table, Zones, row_type, numbered_from}
 use Rattle.vx_laws_topk.specs.TopRows.{Keyed, TopAsk, bounded_filter, bound_before, bound_slots, top, first_rows, top_skips, found_with, found_over, values_of, top_rows_of, top_skipped}
 use Rattle.vx_laws_topk.specs.TopPhases.{SlottedPhase, keyed_projection, phases_with, phases_over, top_phases, top_reads, slotted_breaks, slotted_reads, some_top_phase_breaks, top_asked}
 use Rattle.vx_laws_topk.proofs.Finding.{count_of_none}
+use Rattle.vx_scan.specs.ErrorKinds.{ErrorKind, of_memory, of_text, of_types, of_break, of_read, kind_of, OnlyOfTypes}
 use Rattle.vx_scan.specs.Stores.{Read, StoreSeen, WhereTold, AgreesWith}
 use Rattle.vx_scan.specs.Scanning.{scan_type, AreAmong}
 use Rattle.vx_scan.specs.declared.errors.ScanError.{ScanError}
@@ -25,8 +26,8 @@ use Rattle.vx_scan.specs.declared.errors.ScanError.TheVariants as scans
 use Rattle.vx_scan.proofs.ScanLemmas.{told_so, told_both}
 use Rattle.vx_scan.proofs.StepLemmas.{no_more_blocks}
 use Rattle.vx_topk.specs.FirstRows.{Entry, keyed_entry, IsHeld, HoldFirst, IsAskedBy, start_of}
-use Rattle.vx_topk.specs.TopEnds.{Topped, top_view, numbers_of, is_read_of, IsTypedTop, SkipsBlocks, IsTopReport, top_ask, IsTopOf}
-use Rattle.vx_topk.specs.Ready.{top_error, GivesKey, GivesType}
+use Rattle.vx_topk.specs.TopEnds.{Topped, top_view, numbers_of, is_read_of, IsTypedTop, SkipsBlocks, IsTopReport, top_ask, IsTopUnscanned, IsTopOf}
+use Rattle.vx_topk.specs.Ready.{kind_top_error, top_error, GivesKey, GivesType}
 use Rattle.vx_topk.specs.TopRuns.{TopRuns, top_phases_before, found_before, top_skipped_before, IsFoundTo, IsTopStopped}
 use Rattle.vx_topk.specs.Tops.{ReportsFinding, EndsTop}
 use Rattle.vx_topk.specs.declared.finding.Finding.{Finding}
@@ -177,28 +178,17 @@ key-refused f p key descending count seen zones (errors.Scan e) z h = absurd h
 pub type-refused : (f p : Tree) (key : Bytes) (descending : Bool) (count : ℕ) (seen : StoreSeen) (zones : Zones) (t : Ty) (e : ScanError) (d : TopError) → zones ≡ seen.zones
     → field_type key seen.zones.columns ≡ Some t → is_plain t ≡ true → GivesType zones f p (Err e) → d ≡ top_error e → IsTopOf f p key descending count seen seen (Err d)
 type-refused f p key descending count seen zones t e d z column plain h why =
-    subst (λ (x : TopError). IsTopOf f p key descending count seen seen (Err x)) (sym why) (by-error e h)
+    subst (λ (x : TopError). IsTopOf f p key descending count seen seen (Err x)) (sym why) (by-kind (kind_of e) refl h)
   where
-    moved : {x : ScanError} → scan_type (row_type zones.columns) [] f p ≡ Err x → scan_type (row_type seen.zones.columns) [] f p ≡ Err x
-    moved k = ap (λ (w : Zones). scan_type (row_type w.columns) [] f p) (sym z) ∙ k
-
-    by-error : (x : ScanError) → GivesType zones f p (Err x) → IsTopOf f p key descending count seen seen (Err (top_error x))
-    by-error scans.NoMemory k = inl refl
-    by-error scans.Overflow k = absurd k
-    by-error scans.BadCast k = absurd k
-    by-error scans.StoreFault k = absurd k
-    by-error (scans.BadWire side) k = ((t, column, plain), (refl, moved k))
-    by-error (scans.TooDeep side) k = ((t, column, plain), (refl, moved k))
-    by-error (scans.TooManyNodes side) k = ((t, column, plain), (refl, moved k))
-    by-error (scans.UnknownExpr side) k = ((t, column, plain), (refl, moved k))
-    by-error (scans.BadMetadata side) k = ((t, column, plain), (refl, moved k))
-    by-error (scans.WrongChildren side) k = ((t, column, plain), (refl, moved k))
-    by-error (scans.NotStruct side) k = ((t, column, plain), (refl, moved k))
-    by-error (scans.NullableSelect side) k = ((t, column, plain), (refl, moved k))
-    by-error (scans.UnknownField side) k = ((t, column, plain), (refl, moved k))
-    by-error (scans.DuplicateField side) k = ((t, column, plain), (refl, moved k))
-    by-error (scans.TypeMismatch side) k = ((t, column, plain), (refl, moved k))
-    by-error scans.FilterNotBool k = ((t, column, plain), (refl, moved k))
+    by-kind : (k : ErrorKind) → kind_of e ≡ k → OnlyOfTypes k (scan_type (row_type zones.columns) [] f p ≡ Err e)
+        → IsTopOf f p key descending count seen seen (Err (kind_top_error k e))
+    by-kind of_memory same r = inl refl
+    by-kind of_text same r = absurd r
+    by-kind of_types same r =
+        subst (λ (k : ErrorKind). IsTopUnscanned k f p key descending count seen seen e) (sym same)
+        ((t, column, plain), (refl, ap (λ (w : Zones). scan_type (row_type w.columns) [] f p) (sym z) ∙ r))
+    by-kind (of_break cause) same r = absurd r
+    by-kind of_read same r = absurd r
 
 -- ---- how typed first rows end
 

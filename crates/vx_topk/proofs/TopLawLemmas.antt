@@ -15,9 +15,10 @@ use Rattle.vx_laws_scan.specs.Agreeing.{all_rows_fit}
 use Rattle.vx_laws_topk.specs.TopRows.{TopAsk, top_rows_of}
 use Rattle.vx_laws_topk.specs.TopPhases.{SlottedPhase, slotted_breaks, slotted_breaks_by, first_slotted_breaks_by, some_top_phase_breaks, first_top_breaks_by, top_phases}
 use Rattle.vx_laws_topk.proofs.Finding.{top_is_of_all_rows}
+use Rattle.vx_scan.specs.ErrorKinds.{ErrorKind, of_memory, of_text, of_types, of_break, of_read, kind_of}
 use Rattle.vx_scan.specs.Stores.{StoreSeen, WhereTold, AgreesWith}
 use Rattle.vx_scan.specs.Scanning.{scan_type}
-use Rattle.vx_scan.specs.ScanLaws.{is_refusal, is_break}
+use Rattle.vx_scan.specs.ScanLaws.{kind_refuses}
 use Rattle.vx_scan.specs.declared.errors.ScanError.{ScanError}
 use Rattle.vx_scan.specs.declared.errors.ScanError.TheVariants as scans
 use Rattle.vx_topk.specs.TopEnds.{top_view, IsTypedTop, IsTopReport, IsTopBroken, top_ask, IsTopUnscanned, IsTopOf}
@@ -81,30 +82,15 @@ pub first_refusals : RefusalsAreTheFirst
 first_refusals f p key descending count before after errors.NoMemory r h = let no : ⊥ = cc in absurd no
 first_refusals f p key descending count before after errors.UnknownKey r h = ap (λ (o : Option Ty). key_refusal o (type_refusal (scan_type (row_type before.zones.columns) [] f p))) h.1
 first_refusals f p key descending count before after errors.BadKey r (same, (t, column, plain)) = rw (column, plain) refl
-first_refusals f p key descending count before after (errors.Scan scans.NoMemory) r h = absurd h
-first_refusals f p key descending count before after (errors.Scan scans.Overflow) r h = let no : ⊥ = cc in absurd no
-first_refusals f p key descending count before after (errors.Scan scans.BadCast) r h = let no : ⊥ = cc in absurd no
-first_refusals f p key descending count before after (errors.Scan scans.StoreFault) r h = let no : ⊥ = cc in absurd no
-first_refusals f p key descending count before after (errors.Scan (scans.BadWire s)) r ((t, column, plain), h) = refused-first before.zones f p key t (scans.BadWire s) column plain h.1
-first_refusals f p key descending count before after (errors.Scan (scans.TooDeep s)) r ((t, column, plain), h) = refused-first before.zones f p key t (scans.TooDeep s) column plain h.1
-first_refusals f p key descending count before after (errors.Scan (scans.TooManyNodes s)) r ((t, column, plain), h) =
-    refused-first before.zones f p key t (scans.TooManyNodes s) column plain h.1
-first_refusals f p key descending count before after (errors.Scan (scans.UnknownExpr s)) r ((t, column, plain), h) =
-    refused-first before.zones f p key t (scans.UnknownExpr s) column plain h.1
-first_refusals f p key descending count before after (errors.Scan (scans.BadMetadata s)) r ((t, column, plain), h) =
-    refused-first before.zones f p key t (scans.BadMetadata s) column plain h.1
-first_refusals f p key descending count before after (errors.Scan (scans.WrongChildren s)) r ((t, column, plain), h) =
-    refused-first before.zones f p key t (scans.WrongChildren s) column plain h.1
-first_refusals f p key descending count before after (errors.Scan (scans.NotStruct s)) r ((t, column, plain), h) = refused-first before.zones f p key t (scans.NotStruct s) column plain h.1
-first_refusals f p key descending count before after (errors.Scan (scans.NullableSelect s)) r ((t, column, plain), h) =
-    refused-first before.zones f p key t (scans.NullableSelect s) column plain h.1
-first_refusals f p key descending count before after (errors.Scan (scans.UnknownField s)) r ((t, column, plain), h) =
-    refused-first before.zones f p key t (scans.UnknownField s) column plain h.1
-first_refusals f p key descending count before after (errors.Scan (scans.DuplicateField s)) r ((t, column, plain), h) =
-    refused-first before.zones f p key t (scans.DuplicateField s) column plain h.1
-first_refusals f p key descending count before after (errors.Scan (scans.TypeMismatch s)) r ((t, column, plain), h) =
-    refused-first before.zones f p key t (scans.TypeMismatch s) column plain h.1
-first_refusals f p key descending count before after (errors.Scan scans.FilterNotBool) r ((t, column, plain), h) = refused-first before.zones f p key t scans.FilterNotBool column plain h.1
+first_refusals f p key descending count before after (errors.Scan e) r h = by-kind (kind_of e) r h
+  where
+    by-kind : (k : ErrorKind) → kind_refuses k ≡ true → IsTopUnscanned k f p key descending count before after e
+        → top_refusal before.zones f p key ≡ Some (errors.Scan e)
+    by-kind of_memory r h = absurd h
+    by-kind of_text r h = absurd h
+    by-kind of_types r ((t, column, plain), h) = refused-first before.zones f p key t e column plain h.1
+    by-kind (of_break cause) r h = let no : ⊥ = cc in absurd no
+    by-kind of_read r h = let no : ⊥ = cc in absurd no
 
 -- each end is a report, want of memory, a refusal, or one of typed first rows: a break, or a read that failed
 by-end : (f p : Tree) (key : Bytes) (descending : Bool) (count : ℕ) (before after : StoreSeen) (Gives : Result TopReport TopError → Type 0)

@@ -9,6 +9,7 @@ pub mod RuledRuns
 pub mod TopRuns
 pub mod Tops
 pub use Rattle.vx_semantics.specs.Scans
+pub use Rattle.vx_scan.specs.ErrorKinds
 pub use Rattle.vx_scan.specs.Stores
 pub use Rattle.vx_scan.specs.Scanning
 pub use Rattle.vx_laws_topk.specs.TopRows

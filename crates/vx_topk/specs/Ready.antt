@@ -13,19 +13,22 @@ use Rattle.vx_laws_topk.specs.TopLaws.{has_no_slot}
 use Rattle.vx_laws_topk.specs.TopPhases.{keyed_projection}
 use Rattle.vx_laws_topk.specs.BoundLaws.{IsTypedAsk, keyed_type}
 use Rattle.vx_block_pruning.specs.PruningRules.{IsRuleOf}
+use Rattle.vx_scan.specs.ErrorKinds.{ErrorKind, of_memory, kind_of, OnlyOfTypes}
 use Rattle.vx_scan.specs.Scanning.{scan_type}
 use Rattle.vx_scan.specs.Opening.{IsPreparedScan}
 use Rattle.vx_scan.specs.declared.errors.ScanError.{ScanError}
-use Rattle.vx_scan.specs.declared.errors.ScanError.TheVariants as scans
 use Rattle.vx_topk.specs.TopEnds.{IsTypedTop, top_ask}
 use Rattle.vx_topk.specs.declared.errors.TopError.{TopError}
 use Rattle.vx_topk.specs.declared.errors.TopError.TheVariants as errors
 use Rattle.vx_topk.specs.declared.ready.TopScan.{TopScan}
 
--- the error that an error of a scan is here
+-- the error that an error of a scan, of this kind, is here
+abbrev pub kind_top_error : ErrorKind → ScanError → TopError
+kind_top_error of_memory e = errors.NoMemory
+kind_top_error _ e = errors.Scan e
+
 abbrev pub top_error : ScanError → TopError
-top_error scans.NoMemory = errors.NoMemory
-top_error e = errors.Scan e
+top_error e = kind_top_error (kind_of e) e
 
 -- the type, where it is plain
 abbrev pub GivesPlain : Ty → Result DType TopError → Type 0
@@ -52,11 +55,7 @@ pub record AreTyped (zones : Zones) (f p : Tree) (ty : Ty) : Type 0 where
 -- the projection's type, or the first refusal of their typing
 abbrev pub GivesType : Zones → Tree → Tree → Result DType ScanError → Type 0
 GivesType zones f p (Ok d) = AreTyped zones f p (type_view d)
-GivesType zones f p (Err scans.NoMemory) = Unit {0}
-GivesType zones f p (Err scans.Overflow) = ⊥
-GivesType zones f p (Err scans.BadCast) = ⊥
-GivesType zones f p (Err scans.StoreFault) = ⊥
-GivesType zones f p (Err e) = scan_type (row_type zones.columns) [] f p ≡ Err e
+GivesType zones f p (Err e) = OnlyOfTypes (kind_of e) (scan_type (row_type zones.columns) [] f p ≡ Err e)
 
 -- what is asked of a table is typed, and compares with no slot; some row is asked
 pub record CanBeReady (zones : Zones) (ask : TopAsk) (v : Ty) : Type 0 where

@@ -8,14 +8,14 @@ use Rattle.vx_dtype.specs.TypeViews.{type_view}
 use Rattle.vx_dtype.specs.Values.{Val}
 use Rattle.vx_column.specs.Columns.{raw_rows}
 use Rattle.vx_expr.specs.Trees.{Tree}
-use Rattle.vx_semantics.specs.Breaks.{Cause, by_sum, by_cast}
+use Rattle.vx_semantics.specs.Breaks.{Cause}
 use Rattle.vx_semantics.specs.Scans.{skipped_blocks}
 use Rattle.vx_semantics.specs.Tables.{Table, Zones, row_type, numbered_from}
 use Rattle.vx_io.specs.Counts.{one_more}
+use Rattle.vx_scan.specs.ErrorKinds.{ErrorKind, of_memory, of_text, of_types, of_break, of_read, kind_of}
 use Rattle.vx_scan.specs.Stores.{Read, StoreSeen, WhereTold}
 use Rattle.vx_scan.specs.Scanning.{scan_type, asks_breaking, some_block, AreAmong, AreIllTyped}
 use Rattle.vx_scan.specs.declared.errors.ScanError.{ScanError}
-use Rattle.vx_scan.specs.declared.errors.ScanError.TheVariants as scans
 use Rattle.vx_laws_topk.specs.TopRows.{TopAsk, top_rows_of, top_skipped}
 use Rattle.vx_laws_topk.specs.TopPhases.{top_reads, top_reads_to_break, some_top_phase_breaks, first_top_breaks_by, top_blocks, top_asked}
 use Rattle.vx_topk.specs.declared.reports.TopReport.{TopReport}
@@ -121,14 +121,15 @@ IsGoodKey key store = (t : Ty) × (field_type key store.zones.columns ≡ Some t
 abbrev pub OfSomeKey : (Ty → Type 0) → Type 0
 OfSomeKey P = (t : Ty) × P t
 
--- how the scan of the first rows ends that gives none: broken by a sum or a cast, or at a read that failed; else the key is good, and the expressions are
--- refused by their typing before the first block, the filter as it stands
-abbrev pub IsTopUnscanned : Tree → Tree → Bytes → Bool → ℕ → StoreSeen → StoreSeen → ScanError → Type 0
-IsTopUnscanned f p key descending count before after scans.NoMemory = ⊥
-IsTopUnscanned f p key descending count before after scans.Overflow = OfSomeKey (λ t. IsTopBroken by_sum (top_ask f p key descending count t) before after)
-IsTopUnscanned f p key descending count before after scans.BadCast = OfSomeKey (λ t. IsTopBroken by_cast (top_ask f p key descending count t) before after)
-IsTopUnscanned f p key descending count before after scans.StoreFault = OfSomeKey (λ t. IsTopFault (top_ask f p key descending count t) before after)
-IsTopUnscanned f p key descending count before after e = IsGoodKey key before × AreIllTyped [] f p before after e
+-- how the scan of the first rows ends that gives none, by the kind of the error: broken by a sum or a cast, or at a read that failed; else the key is good,
+-- and the expressions are refused by their typing before the first block, the filter as it stands
+abbrev pub IsTopUnscanned : ErrorKind → Tree → Tree → Bytes → Bool → ℕ → StoreSeen → StoreSeen → ScanError → Type 0
+IsTopUnscanned of_memory f p key descending count before after e = ⊥
+IsTopUnscanned of_text f p key descending count before after e = ⊥
+IsTopUnscanned of_types f p key descending count before after e = IsGoodKey key before × AreIllTyped [] f p before after e
+IsTopUnscanned (of_break cause) f p key descending count before after e =
+    OfSomeKey (λ t. IsTopBroken cause (top_ask f p key descending count t) before after)
+IsTopUnscanned of_read f p key descending count before after e = OfSomeKey (λ t. IsTopFault (top_ask f p key descending count t) before after)
 
 -- how finding the first rows of two expressions by a key ends
 abbrev pub IsTopOf : Tree → Tree → Bytes → Bool → ℕ → StoreSeen → StoreSeen → Result TopReport TopError → Type 0
@@ -138,4 +139,4 @@ IsTopOf f p key descending count before after (Err errors.NoMemory) =
     (after ≡ before) ⊎ OfSomeKey (λ t. IsTopCutOff (top_ask f p key descending count t) before after)
 IsTopOf f p key descending count before after (Err errors.UnknownKey) = (after ≡ before) × IsUnknownKey key before
 IsTopOf f p key descending count before after (Err errors.BadKey) = (after ≡ before) × IsBadKey key before
-IsTopOf f p key descending count before after (Err (errors.Scan e)) = IsTopUnscanned f p key descending count before after e
+IsTopOf f p key descending count before after (Err (errors.Scan e)) = IsTopUnscanned (kind_of e) f p key descending count before after e
