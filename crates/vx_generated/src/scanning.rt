@@ -1,5 +1,5 @@
 // The scan of the generated table, and the line that tells what it gives.
-ghost use Rattle.std.specs.Prelude.{◌≡◌, true, [], length, map, None, Ok, IfOk};
+ghost use Rattle.std.specs.Prelude.{◌≡◌, true, length, Ok, IfOk};
 ghost use Rattle.std.specs.String.{string_bytes};
 ghost use Rattle.vx_dtype.specs.declared.PType.TheVariants.{I64};
 ghost use Rattle.vx_dtype.specs.declared.Nullability.TheVariants.{NonNullable};
@@ -10,25 +10,20 @@ ghost use Rattle.vx_column.specs.Columns.{raws_fit, raw_rows, values_fit, seen, 
 ghost use Rattle.vx_expr.specs.Trees.{Tree};
 ghost use Rattle.vx_wire_bytes.specs.WireViews.{tree_view};
 ghost use Rattle.vx_wire.specs.Forms.{wire_of, wire_text};
-ghost use Rattle.vx_tables.specs.Blocks.{table_refusal};
 ghost use Rattle.vx_scan.specs.Reports.{report_view};
 ghost use Rattle.vx_scan.specs.ScanLaws.{ReportsUnlessNoMemory};
-ghost use Rattle.vx_scan.specs.StoreAnswers.{new_store};
 ghost use Rattle.vx_scan.specs.StoreViews.{store_seen};
-ghost use Rattle.vx_tables.specs.Blocks.{block_view};
 ghost use Rattle.vx_laws_generated.specs.GeneratedLine.{gen_line, number_of, sum_of, summary_line};
 ghost use Rattle.vx_generated.specs.GeneratedBlocks.{generated_store};
 ghost use Rattle.vx_generated.specs.Writable.{IsWritable};
 
 use crate::tables::{GeneratedTable, generated};
 use std::alloc::Global;
-use vx_column::ColumnRef;
 use vx_dtype::{Mem, NoMemory, ScalarValue};
 use vx_expr::ExprRef;
-use vx_scan::{MemoryStore, ScanError, ScanReport, TableError, scan};
+use vx_scan::{MemoryStore, ScanError, ScanReport, scan};
 use vx_wire::{ExprRegistry, ExprRegistryExt, ExprSerializeProtoExt};
 use vx_wire_bytes::{WireError, WireTree, write_tree};
-use vx_zones::ZoneMap;
 
 /// The scan of a generated table: the line that tells what it gave, and the store that was scanned.
 #[derive(Debug, Drop)]
@@ -52,7 +47,7 @@ pub fn scan_generated(alloc: Global, rows: u32) -> Mem<GeneratedScan>
     let count = zones.lengths().len();
     let filter_text = bytes_of(alloc, &filter)?;
     let projection_text = bytes_of(alloc, &projection)?;
-    let mut store = store_of(alloc, zones, blocks)?;
+    let mut store = MemoryStore::of_table(alloc, zones, blocks)?;
     let registry = ExprRegistry::default();
     let report = report_of(scan(
         alloc,
@@ -95,19 +90,6 @@ fn tree_bytes(alloc: Global, expr: &ExprRef, tree: &WireTree) -> Mem<Vec<u8>>
         Err(WireError::BadWire) => unreachable!(),
         Err(WireError::TooDeep) => unreachable!(),
         Err(WireError::TooManyNodes) => unreachable!(),
-    }
-}
-
-/// The store of blocks of columns that are a table with these statistics. No read of it fails.
-fn store_of(alloc: Global, zones: ZoneMap, blocks: Vec<Vec<ColumnRef>>) -> Mem<MemoryStore>
-    requires { table_refusal zones (map block_view blocks.items) ≡ None }
-    ensures { IfOk result (λ store. store ≡ new_store zones (map block_view blocks.items) []) }
-{
-    match MemoryStore::try_new(alloc, zones, blocks, Vec::new(alloc)) {
-        Ok(store) => Ok(store),
-        Err(TableError::NoMemory) => Err(NoMemory),
-        Err(TableError::WrongLength) => unreachable!(),
-        Err(TableError::WrongType) => unreachable!(),
     }
 }
 

@@ -16,8 +16,8 @@ bytes_of-requires c = subst IsWritable (sym c.in_ok-zones.ensures.filter) (filte
 pub bytes_of-requires-2 : goal.bytes_of-requires-2
 bytes_of-requires-2 c = subst IsWritable (sym c.in_ok-zones.ensures.projection) projection-writable
 
-pub store_of-requires : goal.store_of-requires
-store_of-requires c = (λ i. table_refusal (c.in_ok-zones.ensures.zones i) (c.in_ok-zones.ensures.blocks i)) ∙ blocks-agree c.args.rows
+pub of_table-requires : goal.of_table-requires
+of_table-requires c = (λ i. table_refusal (c.in_ok-zones.ensures.zones i) (c.in_ok-zones.ensures.blocks i)) ∙ blocks-agree c.args.rows
 
 pub report_of-requires : goal.report_of-requires
 report_of-requires c =
