@@ -145,7 +145,7 @@ pub lengths_count : (rs : List Bytes) → length (lengths_of rs) ≡ length rs
 lengths_count [] = refl
 lengths_count (r ∷ rs) = ap suc (lengths_count rs)
 
-have_widths : (w : ℕ) (rss : List (List Bytes)) → AllByRecursion (AreRangeLengths w) (map lengths_of rss) → AllByRecursion (λ rs. length rs ≡ w) rss
+pub have_widths : (w : ℕ) (rss : List (List Bytes)) → AllByRecursion (AreRangeLengths w) (map lengths_of rss) → AllByRecursion (λ rs. length rs ≡ w) rss
 have_widths w [] h = tt
 have_widths w (rs ∷ rss) h = (sym (lengths_count rs) ∙ h.0.0, have_widths w rss h.1)
 
@@ -162,7 +162,7 @@ pieces_are_bytes : (rs : List Bytes) → IsBytes (concat rs) → AllByRecursion 
 pieces_are_bytes [] h = tt
 pieces_are_bytes (r ∷ rs) h = (bytes_before r (concat rs) h, pieces_are_bytes rs (bytes_behind r (concat rs) h))
 
-ranges_are_bytes : (rss : List (List Bytes)) → IsBytes (ranges_bytes rss) → AllByRecursion (λ rs. AllByRecursion IsBytes rs) rss
+pub ranges_are_bytes : (rss : List (List Bytes)) → IsBytes (ranges_bytes rss) → AllByRecursion (λ rs. AllByRecursion IsBytes rs) rss
 ranges_are_bytes [] h = tt
 ranges_are_bytes (rs ∷ rss) h =
     (pieces_are_bytes rs (bytes_before (concat rs) (ranges_bytes rss) h), ranges_are_bytes rss (bytes_behind (concat rs) (ranges_bytes rss) h))

@@ -5,6 +5,7 @@ pub mod Openings
 pub mod RangeLemmas
 pub mod HeldLemmas
 pub mod WrittenLemmas
+pub mod WholeLemmas
 pub mod Readers
 pub mod HeaderReaders
 pub mod Computing

@@ -37,7 +37,7 @@ use Rattle.vx_laws_file.proofs.HeldLemmas.{lengths_count, and_then_parts}
 
 -- ---- rules that aren't broken
 
-no_refusal : {E : Type 0} (b : Bool) (x : E) (r : Option E) → cond (not b) (Some x) r ≡ None → (b ≡ true) × (r ≡ None)
+pub no_refusal : {E : Type 0} (b : Bool) (x : E) (r : Option E) → cond (not b) (Some x) r ≡ None → (b ≡ true) × (r ≡ None)
 no_refusal true x r h = (refl, h)
 no_refusal false x r h = absurd cc
 

@@ -121,6 +121,12 @@ DamagedValuesAreFillers =
     (t : Ty) (n : ℕ) (range : Bytes) → AreBytes range → ((values : List Val) → ¬ (SpellsRange t n range values))
     → held_values t n range ≡ replicate n (filler t)
 
+-- a file with no pair damaged is the file of the table that it holds
+abbrev pub WholeIsFile : Type 0
+WholeIsFile =
+    (bytes : Bytes) (content : FileContent) → AreBytes bytes → IsOpened bytes content → ((block : ℕ) (name : Bytes) → ¬ (IsDamaged content block name))
+    → HasFile content.zones (held_blocks content) × (bytes ≡ file_bytes content.zones (held_blocks content))
+
 -- nothing in a table that has a file is too long
 abbrev pub FilesAreShort : Type 0
 FilesAreShort = (zones : Zones) (blocks : List (List Column)) → HasFile zones blocks → IsShortTable zones blocks

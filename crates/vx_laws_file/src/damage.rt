@@ -1,7 +1,7 @@
 // What the ranges of a file say, and what is held where they are damaged.
 
 ghost use Rattle.vx_laws_file.specs.FileLaws.{DamagedValuesAreFillers, HeldIsRead, HeldIsTable, HeldValuesAreRead, OneRange, RangeValuesAreSpelled};
-ghost use Rattle.vx_laws_file.specs.FileLaws.{ReadAsOne, ReadIsNotDamaged, SpelledValuesAreRead};
+ghost use Rattle.vx_laws_file.specs.FileLaws.{ReadAsOne, ReadIsNotDamaged, SpelledValuesAreRead, WholeIsFile};
 
 /// A range spells one list of values of a type, where it is to spell so many.
 pub fn a_range_spells_one_list()
@@ -30,4 +30,9 @@ pub fn held_is_read()
     ensures pair { HeldIsRead }
     ensures read { HeldValuesAreRead }
     ensures damaged { DamagedValuesAreFillers }
+{}
+
+/// A file with no pair damaged is the file of the table that it holds.
+pub fn whole_is_a_file()
+    ensures { WholeIsFile }
 {}

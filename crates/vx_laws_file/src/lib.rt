@@ -9,7 +9,7 @@ mod writing;
 
 pub use damage::{
     a_range_spells_one_list, held_is_a_table, held_is_read, range_values_are_spelled,
-    read_is_not_damaged,
+    read_is_not_damaged, whole_is_a_file,
 };
 pub use examples::{
     another_range_is_damaged, headers_have_limits, other_bytes_are_refused,
