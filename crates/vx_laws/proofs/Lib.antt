@@ -4,6 +4,7 @@ pub mod Conjunctions
 pub mod Inverting
 pub mod Fitting
 pub mod Merging
+pub mod GivenNames
 pub mod Structs
 pub mod Preserving
 pub mod Distinct
@@ -11,6 +12,7 @@ pub mod Lookups
 pub mod Sound
 pub mod Paths
 pub mod Faultless
+pub mod AnySlots
 pub mod EachNode
 pub mod Unbroken
 pub mod Swapping

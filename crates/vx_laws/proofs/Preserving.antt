@@ -21,7 +21,7 @@ use Rattle.vx_semantics.specs.Typing.{Refusal, duplicate_field, type_mismatch, a
 use Rattle.vx_semantics.specs.Meaning.{Slots, binary3, dynamic3, slot_value, mean, meanings, sources}
 use Rattle.vx_expr.specs.Slots.{slot_held}
 use Rattle.vx_semantics.specs.Slots.{held_fits, slots_fit, all_slots_fit}
-use Rattle.vx_laws.specs.Values.{MeaningFits, FaultsArePlain}
+use Rattle.vx_laws.specs.Values.{MeaningFits}
 use Rattle.vx_laws.proofs.Inverting.{and_then-ok, unless-ok, Ok-same}
 use Rattle.vx_laws.proofs.Fitting.{null_ok-fits, compare3-fits, and3-fits, or3-fits, not3-fits, is_null3-fits, like3-fits, contains3-fits, between3-fits, add3-fits, sub3-fits, takes_cast-plain, cast3-fits, dynamic3-fits, valued-fits, fits-but_for_faults}
 use Rattle.vx_laws.proofs.Structs.{item-fits, select3-fits, AllFit, pack-fits, AllSourcesFit, merged-fits}
@@ -210,7 +210,3 @@ mutual
 
 pub meaning_fits : MeaningFits
 meaning_fits t slots row e u h s k = mean-fits t slots row e u h s k
-
-pub faults_are_plain : FaultsArePlain
-unfolding fits_but_for_faults
-faults_are_plain t slots row e u h s k b = subst (λ (v : Val). FitsButFaults v u) b (mean-fits t slots row e u h s k)

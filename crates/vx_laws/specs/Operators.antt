@@ -13,7 +13,6 @@ use Rattle.vx_expr.specs.Conjuncts.{conjuncts_of}
 use Rattle.vx_build.specs.Collectors.{joined_right}
 use Rattle.vx_semantics.specs.Typing.{typed_of}
 use Rattle.vx_semantics.specs.Meaning.{Slots, binary3, mean}
-use Rattle.vx_semantics.specs.Slots.{slots_fit}
 
 -- whether two values are not numbers of two integer types
 abbrev pub no_two_integer_types : Val → Val → Bool
@@ -39,7 +38,7 @@ is_difference _ = false
 abbrev pub TypedSwapKeepsMeaning : Type 0
 TypedSwapKeepsMeaning =
     (t : Ty) (slots : Slots) (row : Val) (l : Tree) (op : Operator) (r : Tree) (u : Ty)
-    → fits_but_for_faults row t ≡ true → slots_fit slots (binary l op r) ≡ true → typed_of t (binary l op r) ≡ Ok u → is_difference op ≡ false
+    → fits_but_for_faults row t ≡ true → typed_of t (binary l op r) ≡ Ok u → is_difference op ≡ false
     → mean t slots row (binary l op r) ≡ mean t slots row (binary r (swapped op) l)
 
 -- the negation of a comparison is the inverse comparison, null and fault included

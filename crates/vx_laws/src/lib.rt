@@ -11,4 +11,6 @@ pub use operators::{
     negations_exchange_and_with_or, or_is_associative, or_is_commutative,
     range_means_its_comparisons, swap_keeps_meaning, typed_swap_keeps_meaning,
 };
-pub use values::{accesses_mean_their_path, faults_are_plain, meaning_fits_the_type};
+pub use values::{
+    accesses_mean_their_path, faults_are_plain, meaning_fits_the_type, meaning_fits_with_any_slots,
+};

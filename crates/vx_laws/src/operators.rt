@@ -37,7 +37,7 @@ pub fn swap_keeps_meaning()
 {}
 
 /// A strictly typed `l op r` means `r op.swap() l` for every operator but a difference,
-/// at a row that fits the scope's type but for faults, with slots that fit.
+/// at a row that fits the scope's type but for faults, with any slots.
 pub fn typed_swap_keeps_meaning()
     ensures { TypedSwapKeepsMeaning }
 {}

@@ -1,15 +1,13 @@
 -- Where an expression that is split by its columns breaks, a partition breaks, or the root does.
-use Rattle.std.proofs.Common.{◌≡◌, refl, ap, sym, ◌∙◌, Bool, true, false, ◌||◌, subst, List, [], ◌∷◌, map, Ok}
+use Rattle.std.proofs.Common.{◌≡◌, refl, ap, sym, ◌∙◌, Bool, false, ◌||◌, subst, List, [], ◌∷◌, map, Ok}
 use Rattle.std.specs.List.{AllByRecursion, list_any}
 use Rattle.std.specs.Str.{bytes_eq}
-use Rattle.std.proofs.lemmas.Bool.{and_from}
 use Rattle.vx_dtype.specs.declared.Nullability.TheVariants.{NonNullable}
 use Rattle.vx_dtype.specs.Types.{Bytes, Ty}
 use Rattle.vx_dtype.specs.Values.{Val, struct_val}
 use Rattle.vx_expr.specs.Trees.{Tree, pack, Trees, trees_of, listed}
 use Rattle.vx_semantics.specs.Typing.{typed_of}
 use Rattle.vx_semantics.specs.Meaning.{Slots, zip_members, mean, meanings}
-use Rattle.vx_semantics.specs.Slots.{slots_fit, all_slots_fit}
 use Rattle.vx_semantics.specs.Breaks.{Cause, by_sum, by_cast, breaks_by}
 use Rattle.vx_semantics.specs.Tables.{row_type}
 use Rattle.vx_passes.specs.Annotating.{Entry}
@@ -17,9 +15,9 @@ use Rattle.vx_passes.specs.TypedSimplifying.{simplified_typed}
 use Rattle.vx_passes.specs.Splitting.{Share, packed_parts, part_names, Partition, partitions_type}
 use Rattle.vx_laws.proofs.Inverting.{Ok-same}
 use Rattle.vx_laws.proofs.EachNode.{IsTyped, children-typed, all-map}
-use Rattle.vx_laws.proofs.Preserving.{mean-fits}
 use Rattle.vx_laws_simplifying.specs.Asking.{breaks_along}
 use Rattle.vx_laws_simplifying.proofs.Observing.{breaking, breaking-observes, breaking-along, or-comm, or-false}
+use Rattle.vx_laws.proofs.AnySlots.{fits-but_nulls, mean-but_nulls}
 use Rattle.vx_laws_removing.proofs.Composed.{simplified_typed-kept}
 use Rattle.vx_laws_parts.specs.Preserved.{some_node}
 use Rattle.vx_laws_parts.proofs.Outcomes.{preserved_breaks}
@@ -27,7 +25,6 @@ use Rattle.vx_laws_parts.specs.Taking.{packed_shares}
 use Rattle.vx_laws_parts.specs.Recombining.{partitions_row}
 use Rattle.vx_laws_parts.proofs.SharesHold.{map-twice, SharesHold}
 use Rattle.vx_laws_parts.proofs.Taken.{all-stand, taken_typed}
-use Rattle.vx_laws_parts.proofs.PartsFit.{SharesFit, taken-fits}
 use Rattle.vx_laws_parts.proofs.Recombined.{mean-list}
 use Rattle.vx_laws_columns.specs.Columns.{PartitionsBreak, PartitionsBreakAsked}
 use Rattle.vx_laws_columns.proofs.Rows.{IsRowless}
@@ -36,7 +33,7 @@ use Rattle.vx_laws_columns.proofs.AskedColumns.{IsSimple}
 use Rattle.vx_laws_columns.proofs.Partitions.{listed-trees, pack-simple, pack-rowless, Part, own_name, taken_by_columns, parts-of}
 use Rattle.vx_laws_columns.proofs.Remade.{some-by_children}
 use Rattle.vx_laws_columns.proofs.SameBreaks.{each-asked}
-use Rattle.vx_laws_columns.proofs.ByColumn.{ready, prepared-fits, is-split}
+use Rattle.vx_laws_columns.proofs.ByColumn.{ready, is-split}
 use Rattle.vx_laws_columns.proofs.LeftOver.{stays-simple, left-breaks}
 use Rattle.vx_laws_columns.proofs.RootScope.{packs, root-scope}
 
@@ -69,22 +66,13 @@ module _ (t : Ty) (slots : Slots) (row : Val) (cause : Cause) where
       ap (λ (b : Bool). b || list_any asked_breaks (packs xs)) (share-breaks x.annotation x.parts h.0 k.0)
       ∙ ap (λ (b : Bool). list_any (some_node node_breaks) x.parts || b) (shares-break m xs h.1 k.1)
 
-packs-fit : (slots : Slots) (m : List (Entry Bytes)) (ss : List (Share Bytes)) → SharesFit slots bytes_eq own_name m ss → all_slots_fit slots (trees_of (packs ss)) ≡ true
-unfolding slots_fit
-packs-fit slots m [] h = refl
-packs-fit slots m (x ∷ xs) h = and_from (all_slots_fit slots (trees_of x.parts)) (all_slots_fit slots (trees_of (packs xs))) h.0 (packs-fit slots m xs h.1)
-
-all-fit : (slots : Slots) (ss : List (Share Bytes)) → all_slots_fit slots (trees_of (packs ss)) ≡ true → slots_fit slots (packed_shares own_name ss) ≡ true
-unfolding slots_fit
-all-fit slots ss h = h
-
 packs-mean : (t : Ty) (slots : Slots) (row : Val) (ss : List (Share Bytes))
     → mean t slots row (packed_shares own_name ss) ≡ struct_val (zip_members (map (λ x. x.annotation) ss) (meanings t slots row (trees_of (packs ss))))
 unfolding mean
 packs-mean t slots row ss = refl
 
 pub partitions_break : PartitionsBreak
-partitions_break fs slots row e u d s cause h g f =
+partitions_break fs slots row e u d s cause h g =
     let t = row_type fs in
     let q = h.prepared.simplifies in
     let r = ready fs e u d q in
@@ -97,8 +85,6 @@ partitions_break fs slots row e u d s cause h g f =
     let v = o.ty in
     let over = packed_shares own_name ss in
     let made = mean t slots row over in
-    let fit = prepared-fits fs slots e u d q f in
-    let k = taken-fits slots bytes_eq own_name m d [] fit tt in
     let known = columns-known t d r.rowless in
     let whole = left-breaks t v slots row made cause m d r.rowless known [] (all-stand bytes_eq own_name m t slots row ss v o.takes.typed) in
     let simple = stays-simple t v slots row made cause m d r.rowless known r.simple [] in
@@ -112,8 +98,8 @@ partitions_break fs slots row e u d s cause h g f =
     ap (λ (cs : List Bytes). struct_val (zip_members cs (map (λ p. mean t slots row p.expression) ps))) sp.annotations_same
     ∙ (ap (λ (vs : List Val). struct_val (zip_members (map (λ (y : Share Bytes). y.annotation) ss) vs)) values ∙ sym (packs-mean t slots row ss)) in
     let typed : typed_of v x.expression ≡ Ok r.typed.0 = taken_typed Bytes bytes_eq own_name m t d v o.takes ∙ r.typed.1 in
-    let fits = mean-fits t slots row over v g (all-fit slots ss (packs-fit slots m ss k.shares)) o.takes.typed in
-    let z = simplified_typed-kept v slots made (breaking cause v slots made) (breaking-observes cause v slots made) x.expression r.typed.0 fits k.expression typed in
+    let fits = mean-but_nulls t slots row over v (fits-but_nulls row t g) o.takes.typed in
+    let z = simplified_typed-kept v slots made (breaking cause v slots made) (breaking-observes cause v slots made) x.expression r.typed.0 fits typed in
     let root : z.made ≡ s.root_expression = Ok-same (simplified_typed v x.expression) z.made s.root_expression z.is (ap (λ (c : Ty). simplified_typed c x.expression) (sym o.is) ∙ sp.root_is) in
     let of_root : breaks_along cause v slots made s.root_expression [] ≡ some_node (node_breaks v slots made cause) x.expression =
     ap (λ (c : Tree). breaks_along cause v slots made c []) (sym root)
@@ -127,4 +113,4 @@ partitions_break fs slots row e u d s cause h g f =
     ∙ (whole ∙ or-false (some_node (node_breaks t slots row cause) d))))))
 
 pub partitions_break_asked : PartitionsBreakAsked
-partitions_break_asked fs slots row e u d s cause h g f = partitions_break fs slots row e u d s cause h g f ∙ preserved_breaks fs slots row e u d cause h.prepared.simplifies g f
+partitions_break_asked fs slots row e u d s cause h g = partitions_break fs slots row e u d s cause h g ∙ preserved_breaks fs slots row e u d cause h.prepared.simplifies g

@@ -6,6 +6,7 @@ use Rattle.std.specs.Str.{bytes_eq}
 use Rattle.std.proofs.lemmas.Bool.{and_parts}
 use Rattle.std.proofs.lemmas.List.Elements.{All-from_recursion}
 use Rattle.std.proofs.lemmas.List.Folds.{list_any-append}
+use Rattle.std.proofs.lemmas.Slice.Eq.{bytes_eq-Decides}
 use Rattle.vx_dtype.specs.declared.Nullability.TheVariants.{NonNullable}
 use Rattle.vx_dtype.specs.Types.{Bytes, Ty, Fields}
 use Rattle.vx_dtype.specs.TypeRules.{widened, has_name, distinct_names, field_names, field_type, no_name_twice, no_name_twice_below}
@@ -32,6 +33,7 @@ use Rattle.vx_laws_parts.proofs.Outcomes.{preserved_rowless, preserved_type, pre
 use Rattle.vx_laws_parts.proofs.RootKept.{preserved-kept}
 use Rattle.vx_laws_parts.proofs.SharesHold.{annotations}
 use Rattle.vx_laws_parts.specs.Recombining.{Splits}
+use Rattle.vx_laws_parts.proofs.PartsTyped.{texts_tell_shares}
 use Rattle.vx_laws_parts.proofs.Recombined.{splits_without_refusal, split_recombines}
 use Rattle.vx_laws_columns.specs.Columns.{Prepared, SplitByColumns, SplitsByColumns, ColumnsRecombine, OnePartitionPerColumn, PartitionsOfAskedColumns, AsksItsColumn, PartitionsAskTheirColumn, StandsAlone, PartitionsStandAlone}
 use Rattle.vx_laws_columns.proofs.Sets.{set_of, has-joined, firsts}
@@ -64,8 +66,8 @@ pub splits-of : (fs : Fields) (e : Tree) (u : Ty) (d : Tree) (h : Prepared fs e 
 splits-of fs e u d h =
     let r = ready fs e u d h.simplifies in
     record {
-      decides = λ a b. (λ i. bytes_same a b i, λ i. subst (λ (z : Bytes). bytes_eq a z ≡ true) i (bytes_eq-itself a));
-      distinct = λ a b i. i;
+      decides = bytes_eq-Decides;
+      distinct = texts_tell_shares Bytes bytes_eq own_name (column_annotation (row_type fs)) d bytes_eq-Decides (λ a b i. i);
       covered = columns_cover_rowless (row_type fs) d r.rowless;
       few = h.few;
       typed = r.typed.1;
@@ -79,15 +81,15 @@ splits_by_columns fs e u d h =
 pub prepared-fits : (fs : Fields) (slots : Slots) (e : Tree) (u : Ty) (d : Tree) → Simplifies fs e u d → SlotsFit slots e → SlotsFit slots d
 prepared-fits fs slots e u d h f =
     let t = row_type fs in
-    let k = preserved-kept fs slots (some_row t) (breaking by_sum t slots (some_row t)) (breaking-observes by_sum t slots (some_row t)) (some_row-fits t) e u f h.typed in
-    subst (SlotsFit slots) (Ok-same (simplified_typed t (root_replaced fs e)) k.made d k.is h.made) k.kept.fitting
+    let k = preserved-kept fs slots (some_row t) (breaking by_sum t slots (some_row t)) (breaking-observes by_sum t slots (some_row t)) (some_row-fits t) e u h.typed in
+    subst (SlotsFit slots) (Ok-same (simplified_typed t (root_replaced fs e)) k.made d k.is h.made) (k.kept.fitting f)
 
 pub columns_recombine : ColumnsRecombine
-columns_recombine fs slots row e u d s h g f =
+columns_recombine fs slots row e u d s h g =
     let t = row_type fs in
     let q = h.prepared.simplifies in
-    split_recombines Bytes bytes_eq own_name (column_annotation t) t slots row d (ready fs e u d q).typed.0 s (splits-of fs e u d h.prepared) g (prepared-fits fs slots e u d q f) h.made
-    ∙ preserved_meaning fs slots row e u d q g f
+    split_recombines Bytes bytes_eq own_name (column_annotation t) t slots row d (ready fs e u d q).typed.0 s (splits-of fs e u d h.prepared) g h.made
+    ∙ preserved_meaning fs slots row e u d q g
 
 -- a split by columns: its partitions are those of the shares, and its root is what simplifying makes of what is left
 pub record IsSplit (t : Ty) (d : Tree) (s : Split Bytes) : Type 0 where

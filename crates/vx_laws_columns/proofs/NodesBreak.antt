@@ -62,7 +62,7 @@ parts-nodes cause t slots row (p ∷ ps) h =
     ∙ ap (λ (b : Bool). breaks_along cause t slots row p.expression [] || b) (parts-nodes cause t slots row ps h.1)
 
 pub nodes_break_as_asked : NodesBreakAsAsked
-nodes_break_as_asked fs slots row e u d s cause h g f =
+nodes_break_as_asked fs slots row e u d s cause h g =
     let t = row_type fs in
     let r = ready fs e u d h.prepared.simplifies in
     let sp = is-split fs e u d s h in
@@ -75,7 +75,7 @@ nodes_break_as_asked fs slots row e u d s cause h g f =
     let of_root : node_breaks_at cause v slots made s.root_expression ≡ breaks_along cause v slots made s.root_expression [] =
     nodes-asked cause v slots made s.root_expression (w.0, w.1) (simplified_simple v left s.root_expression sp.root_is) (simplified_typed-rowless v left s.root_expression stays.rowless sp.root_is) in
     ap (λ (b : Bool). b || node_breaks_at cause v slots made s.root_expression) (parts-nodes cause t slots row s.partitions sp.of_columns)
-    ∙ (ap (λ (b : Bool). list_any (λ (p : Partition Bytes). breaks_along cause t slots row p.expression []) s.partitions || b) of_root ∙ partitions_break_asked fs slots row e u d s cause h g f)
+    ∙ (ap (λ (b : Bool). list_any (λ (p : Partition Bytes). breaks_along cause t slots row p.expression []) s.partitions || b) of_root ∙ partitions_break_asked fs slots row e u d s cause h g)
 
 nodes-alone : (fs gs : Fields) (p : Partition Bytes) → IsOfColumn (row_type fs) p → no_name_twice (row_type gs) ≡ true → NodesStandAlone fs gs p
 nodes-alone fs gs p k h same slots row other value cause =

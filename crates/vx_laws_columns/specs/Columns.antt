@@ -10,7 +10,6 @@ use Rattle.vx_dtype.specs.Structs.{field_of, first_names}
 use Rattle.vx_expr.specs.Trees.{Tree}
 use Rattle.vx_semantics.specs.Typing.{Refusal, typed_of, names_in}
 use Rattle.vx_semantics.specs.Meaning.{Slots, mean}
-use Rattle.vx_semantics.specs.Slots.{slots_fit}
 use Rattle.vx_semantics.specs.Breaks.{Cause, breaks_by}
 use Rattle.vx_semantics.specs.Asked.{asked, column_in, asked_columns}
 use Rattle.vx_semantics.specs.Nodes.{nodes_of}
@@ -53,11 +52,11 @@ abbrev pub split_mean : Ty → Slots → Val → Split Bytes → Val
 split_mean t slots row s =
     mean (partitions_type (λ c. c) s.partitions) slots (partitions_row (λ c. c) t slots row s.partitions) s.root_expression
 
--- at each row that fits but for faults, with slots that fit, it is what the expression means
+-- at each row that fits but for faults, with any slots, it is what the expression means
 abbrev pub ColumnsRecombine : Type 0
 ColumnsRecombine =
     (fs : Fields) (slots : Slots) (row : Val) (e : Tree) (u : Ty) (d : Tree) (s : Split Bytes) → SplitByColumns fs e u d s
-    → fits_but_for_faults row (row_type fs) ≡ true → slots_fit slots e ≡ true
+    → fits_but_for_faults row (row_type fs) ≡ true
     → split_mean (row_type fs) slots row s ≡ mean (row_type fs) slots row e
 
 -- the partitions are those of the columns that it asks, one for each, in order of first use
@@ -105,16 +104,16 @@ split_breaks cause t slots row s =
     list_any (λ (p : Partition Bytes). breaks_along cause t slots row p.expression []) s.partitions
     || breaks_along cause (partitions_type (λ c. c) s.partitions) slots (partitions_row (λ c. c) t slots row s.partitions) s.root_expression []
 
--- at each row that fits but for faults, with slots that fit, such a node breaks by a cause exactly where some node of what was split does
+-- at each row that fits but for faults, with any slots, such a node breaks by a cause exactly where some node of what was split does
 abbrev pub PartitionsBreak : Type 0
 PartitionsBreak =
     (fs : Fields) (slots : Slots) (row : Val) (e : Tree) (u : Ty) (d : Tree) (s : Split Bytes) (cause : Cause) → SplitByColumns fs e u d s
-    → fits_but_for_faults row (row_type fs) ≡ true → slots_fit slots e ≡ true
+    → fits_but_for_faults row (row_type fs) ≡ true
     → split_breaks cause (row_type fs) slots row s ≡ some_node (breaks_by cause (row_type fs) slots row) d
 
 -- and exactly where a node that the expression asks does
 abbrev pub PartitionsBreakAsked : Type 0
 PartitionsBreakAsked =
     (fs : Fields) (slots : Slots) (row : Val) (e : Tree) (u : Ty) (d : Tree) (s : Split Bytes) (cause : Cause) → SplitByColumns fs e u d s
-    → fits_but_for_faults row (row_type fs) ≡ true → slots_fit slots e ≡ true
+    → fits_but_for_faults row (row_type fs) ≡ true
     → split_breaks cause (row_type fs) slots row s ≡ breaks_along cause (row_type fs) slots row e []

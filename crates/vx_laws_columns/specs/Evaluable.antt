@@ -35,11 +35,11 @@ split_nodes_break cause t slots row s =
     list_any (λ (p : Partition Bytes). node_breaks_at cause t slots row p.expression) s.partitions
     || node_breaks_at cause (partitions_type (λ c. c) s.partitions) slots (partitions_row (λ c. c) t slots row s.partitions) s.root_expression
 
--- at each row that fits but for faults, with slots that fit, such a node breaks by a cause exactly where a node that the expression asks does
+-- at each row that fits but for faults, with any slots, such a node breaks by a cause exactly where a node that the expression asks does
 abbrev pub NodesBreakAsAsked : Type 0
 NodesBreakAsAsked =
     (fs : Fields) (slots : Slots) (row : Val) (e : Tree) (u : Ty) (d : Tree) (s : Split Bytes) (cause : Cause) → SplitByColumns fs e u d s
-    → fits_but_for_faults row (row_type fs) ≡ true → slots_fit slots e ≡ true
+    → fits_but_for_faults row (row_type fs) ≡ true
     → split_nodes_break cause (row_type fs) slots row s ≡ list_any (breaks_by cause (row_type fs) slots row) (asked_nodes (row_type fs) e)
 
 -- a partition over other rows, in which its column has the same type; at such a row with the same value of the column

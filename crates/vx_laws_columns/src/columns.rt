@@ -19,7 +19,7 @@ pub fn splits_by_columns()
     ensures { SplitsByColumns }
 {}
 
-/// At each row that fits but for faults, with slots that fit, the root means at what the partitions mean
+/// At each row that fits but for faults, with any slots, the root means at what the partitions mean
 /// what the expression means at the row.
 pub fn columns_recombine()
     ensures { ColumnsRecombine }
@@ -46,7 +46,7 @@ pub fn partitions_stand_alone()
     ensures { PartitionsStandAlone }
 {}
 
-/// At each row that fits but for faults, with slots that fit, a node that a partition asks breaks by a cause,
+/// At each row that fits but for faults, with any slots, a node that a partition asks breaks by a cause,
 /// or one that the root asks at what the partitions mean, if and only if some node of what was split does,
 /// and if and only if a node that the expression asks does.
 pub fn partitions_break()

@@ -7,7 +7,7 @@ pub fn root_is_typed()
     ensures { RootIsTyped }
 {}
 
-/// At each row that fits but for faults, with slots that fit, some node of a partition breaks by a cause,
+/// At each row that fits but for faults, with any slots, some node of a partition breaks by a cause,
 /// or some node of the root at what the partitions mean, if and only if a node that the expression asks does.
 /// So evaluation, which refuses at each node whether it is asked or not, refuses the parts by the causes by which the expression breaks.
 pub fn nodes_break_as_asked()

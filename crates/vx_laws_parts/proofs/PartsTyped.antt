@@ -19,7 +19,7 @@ use Rattle.vx_passes.specs.Splitting.{Share, taken_from, part_name, part_names, 
 use Rattle.vx_laws.proofs.Inverting.{bytes_same, bytes_eq-itself}
 use Rattle.vx_laws.proofs.EachNode.{IsTyped, nodes-typed, all-map}
 use Rattle.vx_laws_parts.specs.Taking.{packed_shares}
-use Rattle.vx_laws_parts.specs.Recombining.{PartsAreTyped}
+use Rattle.vx_laws_parts.specs.Recombining.{PartsAreTyped, TextsTellShares}
 use Rattle.vx_laws_parts.proofs.SharesHold.{map-twice, SharesHold, shares-hold, taken-hold, annotations, annotations-with_part, parts_in, parts-few}
 
 same-end : (xs ys zs : Bytes) → xs ++ ys ≡ xs ++ zs → ys ≡ zs
@@ -131,7 +131,7 @@ module _ {A : Type 0} (same : A → A → Bool) (text : A → Bytes) (decides : 
 
   module _ (m : List (Entry A)) where
     -- the texts of an expression's shares differ
-    pub texts-differ : (e : Tree) → distinct_names (map text (annotations same text m (taken_from same text m e []).shares)) ≡ true
+    texts-differ : (e : Tree) → distinct_names (map text (annotations same text m (taken_from same text m e []).shares)) ≡ true
     unfolding TextsDiffer
     texts-differ e =
         taken-hold same text m (λ n. Unit {0}) (λ ss. TextsDiffer (annotations same text m ss))
@@ -141,26 +141,32 @@ module _ {A : Type 0} (same : A → A → Bool) (text : A → Bytes) (decides : 
         any-node [] = tt
         any-node (n ∷ ns) = (tt, any-node ns)
 
-    shares-typed : (t : Ty) (ss : List (Share A)) → SharesHold same text m (λ a. IsTyped t) ss → parts_in same text m ss ≤ 2 ^ 64
-        → AllByRecursion (IsTyped t) (map (λ x. packed_parts (text x.annotation) x.parts) ss)
-    shares-typed t [] h few = tt
-    shares-typed t (x ∷ xs) h few = (
-      typed-pack t (part_names (text x.annotation) 0 x.parts) x.parts h.0 (parts-distinct (text x.annotation) 0 x.parts (omega arith)) (names-many (text x.annotation) 0 x.parts),
-      shares-typed t xs h.1 (omega arith),
-    )
+pub texts_tell_shares : (A : Type 0) → TextsTellShares A
+texts_tell_shares A same text annotate e decides distinct =
+    let m = annotated same annotate e in
+    subst (λ (fs : List Bytes). distinct_names fs ≡ true) (map-twice text (λ (x : Share A). x.annotation) (taken_from same text m e []).shares) (texts-differ same text decides distinct m e)
 
-    pub packs-typed : (t : Ty) (e : Tree) → IsTyped t e → length (nodes_of e) ≤ 2 ^ 64 → IsTyped t (packed_shares text (taken_from same text m e []).shares)
-    packs-typed t e h few =
-        let ss = (taken_from same text m e []).shares in
-        let typed = shares-hold same text m (λ a. IsTyped t) (λ a b. (decides a b).0) e (all-map (IsTyped t) (λ n. (a : A) → entry_of n m ≡ a ∷ [] → IsTyped t n) (nodes_of e) (λ n k a i. k) (nodes-typed t e h.0 h.1)) [] tt in
-        let names = map (λ (x : Share A). text x.annotation) ss in
-        let same_names : map text (annotations same text m ss) ≡ names = map-twice text (λ (x : Share A). x.annotation) ss in
-        let total = parts-few same text m e [] in
-        typed-pack t names (map (λ x. packed_parts (text x.annotation) x.parts) ss) (shares-typed t ss typed (omega arith))
-        (subst (λ (fs : List Bytes). distinct_names fs ≡ true) same_names (texts-differ e)) (length-map ss (λ (x : Share A). text x.annotation) ∙ sym (length-map ss (λ (x : Share A). packed_parts (text x.annotation) x.parts)))
+module _ {A : Type 0} (same : A → A → Bool) (text : A → Bytes) (decides : (a b : A) → Decides (same a b) (a ≡ b)) (m : List (Entry A)) where
+  shares-typed : (t : Ty) (ss : List (Share A)) → SharesHold same text m (λ a. IsTyped t) ss → parts_in same text m ss ≤ 2 ^ 64
+      → AllByRecursion (IsTyped t) (map (λ x. packed_parts (text x.annotation) x.parts) ss)
+  shares-typed t [] h few = tt
+  shares-typed t (x ∷ xs) h few = (
+    typed-pack t (part_names (text x.annotation) 0 x.parts) x.parts h.0 (parts-distinct (text x.annotation) 0 x.parts (omega arith)) (names-many (text x.annotation) 0 x.parts),
+    shares-typed t xs h.1 (omega arith),
+  )
+
+  packs-typed : (t : Ty) (e : Tree) → IsTyped t e → length (nodes_of e) ≤ 2 ^ 64 → distinct_names (map (λ x. text x.annotation) (taken_from same text m e []).shares) ≡ true
+      → IsTyped t (packed_shares text (taken_from same text m e []).shares)
+  packs-typed t e h few distinct =
+      let ss = (taken_from same text m e []).shares in
+      let typed = shares-hold same text m (λ a. IsTyped t) (λ a b. (decides a b).0) e (all-map (IsTyped t) (λ n. (a : A) → entry_of n m ≡ a ∷ [] → IsTyped t n) (nodes_of e) (λ n k a i. k) (nodes-typed t e h.0 h.1)) [] tt in
+      let names = map (λ (x : Share A). text x.annotation) ss in
+      let total = parts-few same text m e [] in
+      typed-pack t names (map (λ x. packed_parts (text x.annotation) x.parts) ss) (shares-typed t ss typed (omega arith))
+      distinct (length-map ss (λ (x : Share A). text x.annotation) ∙ sym (length-map ss (λ (x : Share A). packed_parts (text x.annotation) x.parts)))
 
 pub parts_are_typed : (A : Type 0) → PartsAreTyped A
 parts_are_typed A same text annotate t e w p =
     let m = annotated same annotate e in
-    let k = packs-typed same text p.decides p.distinct m t e (w, p.typed) (omega (arith, p.few)) in
+    let k = packs-typed same text p.decides m t e (w, p.typed) (omega (arith, p.few)) p.distinct in
     (k.0, record { decides = λ a b. (p.decides a b).0; covered = p.covered; typed = k.1 })

@@ -1,6 +1,5 @@
 -- The partitions of an expression and the root over them: simplified packs, put together again.
-use Rattle.std.proofs.Common.{◌≡◌, refl, ap, sym, ◌∙◌, Bool, true, subst, List, [], ◌∷◌, map, Result, Ok}
-use Rattle.std.proofs.lemmas.Bool.{and_from}
+use Rattle.std.proofs.Common.{◌≡◌, refl, ap, sym, ◌∙◌, Bool, subst, List, [], ◌∷◌, map, Result, Ok}
 use Rattle.vx_dtype.specs.declared.Nullability.TheVariants.{NonNullable}
 use Rattle.vx_dtype.specs.Types.{Bytes, Ty, struct_ty}
 use Rattle.vx_dtype.specs.Values.{Val, struct_val}
@@ -8,18 +7,17 @@ use Rattle.vx_dtype.specs.Zipped.{zipped}
 use Rattle.vx_expr.specs.Trees.{Tree, pack, trees_of}
 use Rattle.vx_semantics.specs.Typing.{Refusal, and_then, pack_type, typed_of, all_typed}
 use Rattle.vx_semantics.specs.Meaning.{Slots, zip_members, mean, meanings}
-use Rattle.vx_semantics.specs.Slots.{slots_fit, all_slots_fit}
 use Rattle.vx_semantics.specs.Breaks.{by_sum}
-use Rattle.vx_passes.specs.Annotating.{Entry, annotated}
+use Rattle.vx_passes.specs.Annotating.{annotated}
 use Rattle.vx_passes.specs.Splitting.{Share, Partition, Split, split, partitions_type, taken_from, packed_parts, typed_part, partition_of, partitions_of, with_root}
 use Rattle.vx_passes.specs.TypedSimplifying.{simplified_typed}
 use Rattle.vx_laws.proofs.Inverting.{and_then-ok, Ok-same}
-use Rattle.vx_laws.proofs.Preserving.{FitsButFaults, mean-fits}
 use Rattle.vx_laws_simplifying.proofs.Observing.{breaking, breaking-observes}
 use Rattle.vx_laws_simplifying.specs.Narrowing.{no_more_nullable}
 use Rattle.vx_laws_simplifying.proofs.Narrows.{narrowing, Narrow}
 use Rattle.vx_laws_simplifying.proofs.Under.{UnderList, ended, further, pack-under}
-use Rattle.vx_laws_simplifying.proofs.Passes.{some_row, some_row-fits, no_slots-fit}
+use Rattle.vx_laws.proofs.AnySlots.{FitsButNulls, fits-but_nulls, mean-but_nulls}
+use Rattle.vx_laws_simplifying.proofs.Passes.{some_row, some_row-fits}
 use Rattle.vx_laws_removing.proofs.Composed.{simplified_typed-kept}
 use Rattle.vx_laws_removing.proofs.Loosened.{strict_types_are_loose}
 use Rattle.vx_laws_parts.specs.Taking.{packed_shares, TakesParts}
@@ -29,7 +27,6 @@ use Rattle.vx_laws_parts.proofs.SharesHold.{map-twice}
 use Rattle.vx_laws_parts.proofs.PartsTyped.{parts_are_typed}
 use Rattle.vx_laws_parts.proofs.Taken.{pack-is, packs-stand, taken-stands}
 use Rattle.vx_laws_parts.proofs.Narrower.{narrower}
-use Rattle.vx_laws_parts.proofs.PartsFit.{SharesFit, taken-fits}
 
 -- what simplifying by types makes of a strictly typed expression
 record Simple (t : Ty) (slots : Slots) (row : Val) (e : Tree) (w : Ty) : Type 0 where
@@ -38,14 +35,13 @@ record Simple (t : Ty) (slots : Slots) (row : Val) (e : Tree) (w : Ty) : Type 0 
   pub ty : Ty
   pub typed : typed_of t made ≡ Ok ty
   pub narrow : Narrow ty w
-  pub fitting : slots_fit slots made ≡ true
   pub means : mean t slots row made ≡ mean t slots row e
 
-simple : (t : Ty) (slots : Slots) (row : Val) (e : Tree) (w : Ty) → FitsButFaults row t → slots_fit slots e ≡ true → typed_of t e ≡ Ok w → Simple t slots row e w
-simple t slots row e w g s h =
+simple : (t : Ty) (slots : Slots) (row : Val) (e : Tree) (w : Ty) → FitsButNulls row t → typed_of t e ≡ Ok w → Simple t slots row e w
+simple t slots row e w g h =
     let o = breaking-observes by_sum t slots row in
-    let m = simplified_typed-kept t slots row (breaking by_sum t slots row) o e w g s h in
-    record { made = m.made; is = m.is; ty = m.kept.ty; typed = m.kept.typed; narrow = m.kept.narrow; fitting = m.kept.fitting; means = m.kept.means }
+    let m = simplified_typed-kept t slots row (breaking by_sum t slots row) o e w g h in
+    record { made = m.made; is = m.is; ty = m.kept.ty; typed = m.kept.typed; narrow = m.kept.narrow; means = m.kept.means }
 
 pub mean-list : (t : Ty) (slots : Slots) (row : Val) (es : List Tree) → meanings t slots row (trees_of es) ≡ map (mean t slots row) es
 unfolding mean
@@ -66,20 +62,19 @@ module _ {A : Type 0} (text : A → Bytes) (t : Ty) (slots : Slots) (row : Val) 
     pub annotations : map (λ p. p.annotation) partitions ≡ map (λ x. x.annotation) ss
     pub typed : all_typed t (trees_of (own partitions)) ≡ Ok (map (λ p. p.ty) partitions)
     pub narrow : UnderList no_more_nullable (map (λ p. p.ty) partitions) ws
-    pub fitting : all_slots_fit slots (trees_of (own partitions)) ≡ true
     pub mean_same : meanings t slots row (trees_of (own partitions)) ≡ meanings t slots row (trees_of (packs ss))
 
-  parts : (same : A → A → Bool) (m : List (Entry A)) (ss : List (Share A)) (ws : List Ty) → FitsButFaults row t → SharesFit slots same text m ss
+  parts : (ss : List (Share A)) (ws : List Ty) → FitsButNulls row t
       → all_typed t (trees_of (packs ss)) ≡ Ok ws → Parts ss ws
-  unfolding typed_of mean slots_fit
-  parts same m [] ws g s h =
-      record { partitions = []; is = refl; annotations = refl; typed = refl; narrow = subst (UnderList no_more_nullable []) (Ok-same (Ok []) [] ws refl h) ended; fitting = refl; mean_same = refl }
-  parts same m (x ∷ xs) ws g s h =
+  unfolding typed_of mean
+  parts [] ws g h =
+      record { partitions = []; is = refl; annotations = refl; typed = refl; narrow = subst (UnderList no_more_nullable []) (Ok-same (Ok []) [] ws refl h) ended; mean_same = refl }
+  parts (x ∷ xs) ws g h =
       let e = packed_parts (text x.annotation) x.parts in
       let a = and_then-ok (typed_of t e) (λ z. and_then (all_typed t (trees_of (packs xs))) (λ zs. Ok (z ∷ zs))) ws h in
       let b = and_then-ok (all_typed t (trees_of (packs xs))) (λ zs. Ok (a.given ∷ zs)) ws a.gave in
-      let k = simple t slots row e a.given g s.0 a.was in
-      let r = parts same m xs b.given g s.1 b.was in
+      let k = simple t slots row e a.given g a.was in
+      let r = parts xs b.given g b.was in
       let here : Partition A = record { annotation = x.annotation; expression = k.made; ty = k.ty } in
       let one : partition_of text t x ≡ Ok here =
       ap (λ (q : Result Tree Refusal). and_then q (typed_part t x.annotation)) k.is
@@ -96,7 +91,6 @@ module _ {A : Type 0} (text : A → Bytes) (t : Ty) (slots : Slots) (row : Val) 
         narrow =
             subst (UnderList no_more_nullable (k.ty ∷ map (λ p. p.ty) r.partitions)) (Ok-same (Ok ws) (a.given ∷ b.given) ws (sym b.gave) refl)
             (further k.ty a.given (map (λ p. p.ty) r.partitions) b.given k.narrow r.narrow);
-        fitting = and_from (slots_fit slots k.made) (all_slots_fit slots (trees_of (own r.partitions))) k.fitting r.fitting;
         mean_same =
             ap (λ (v : Val). v ∷ meanings t slots row (trees_of (own r.partitions))) k.means
             ∙ ap (λ (vs : List Val). mean t slots row e ∷ vs) r.mean_same;
@@ -109,13 +103,13 @@ module _ {A : Type 0} (text : A → Bytes) (t : Ty) (slots : Slots) (row : Val) 
     pub annotations : map (λ p. p.annotation) made.partitions ≡ map (λ x. x.annotation) ss
     pub means : mean (partitions_type text made.partitions) slots (partitions_row text t slots row made.partitions) made.root_expression ≡ mean t slots row e
 
-  splits : (same : A → A → Bool) (m : List (Entry A)) (ss : List (Share A)) (d e : Tree) (u w : Ty) → FitsButFaults row t → SharesFit slots same text m ss → slots_fit slots d ≡ true
+  splits : (ss : List (Share A)) (d e : Tree) (u w : Ty) → FitsButNulls row t
       → typed_of t (packed_shares text ss) ≡ Ok u → typed_of t e ≡ Ok w → Stands t u slots row (mean t slots row (packed_shares text ss)) d e → PutTogether ss d e
-  unfolding typed_of mean slots_fit
-  splits same m ss d e u w g s f h i stands =
+  unfolding typed_of mean
+  splits ss d e u w g h i stands =
       let names = map (λ x. text x.annotation) ss in
       let q = pack-is t names (trees_of (packs ss)) u h in
-      let r = parts same m ss q.types g s q.typed in
+      let r = parts ss q.types g q.typed in
       let ps = r.partitions in
       let tys = map (λ p. p.ty) ps in
       let mine = map (λ p. text p.annotation) ps in
@@ -137,8 +131,8 @@ module _ {A : Type 0} (text : A → Bytes) (t : Ty) (slots : Slots) (row : Val) 
       let made = mean t slots row over in
       let at : mean u slots made d ≡ mean t slots row e = ap (λ (z : Val). mean u slots z d) values ∙ stands.means in
       let n = narrower u k.ty slots made ((packs-stand t k.ty slots row over over_typed).typed ∙ over_typed) k.under d w (stands.typed ∙ i) in
-      let fits = mean-fits t slots row over k.ty g r.fitting over_typed in
-      let z = simple k.ty slots made d n.ty fits f n.typed in
+      let fits = mean-but_nulls t slots row over k.ty g over_typed in
+      let z = simple k.ty slots made d n.ty fits n.typed in
       let root_is : simplified_typed (partitions_type text ps) d ≡ Ok z.made = ap (λ (c : Ty). simplified_typed c d) scope ∙ z.is in
       record {
         made = record { root_expression = z.made; partitions = ps };
@@ -152,23 +146,22 @@ module _ {A : Type 0} (text : A → Bytes) (t : Ty) (slots : Slots) (row : Val) 
       }
 
 split-of : {A : Type 0} (same : A → A → Bool) (text : A → Bytes) (annotate : Tree → List A) (t : Ty) (slots : Slots) (row : Val) (e : Tree) (u w : Ty)
-    → TakesParts A same text (annotated same annotate e) t e u → typed_of t e ≡ Ok w → FitsButFaults row t → slots_fit slots e ≡ true
+    → TakesParts A same text (annotated same annotate e) t e u → typed_of t e ≡ Ok w → FitsButNulls row t
     → PutTogether text t slots row (taken_from same text (annotated same annotate e) e []).shares (taken_from same text (annotated same annotate e) e []).expression e
-split-of same text annotate t slots row e u w p i g f =
+split-of same text annotate t slots row e u w p i g =
     let m = annotated same annotate e in
     let x = taken_from same text m e [] in
-    let k = taken-fits slots same text m e [] f tt in
-    splits text t slots row same m x.shares x.expression e u w g k.shares k.expression p.typed i (taken-stands same text m t slots row e u p)
+    splits text t slots row x.shares x.expression e u w g p.typed i (taken-stands same text m t slots row e u p)
 
 pub splits_without_refusal : (A : Type 0) → SplitsWithoutRefusal A
 splits_without_refusal A same text annotate t e w p =
     let k = parts_are_typed A same text annotate t e w p in
-    let s = split-of same text annotate t [] (some_row t) e k.0 w k.1 p.typed (some_row-fits t) (no_slots-fit e) in
+    let s = split-of same text annotate t [] (some_row t) e k.0 w k.1 p.typed (some_row-fits t) in
     (s.made, s.is, s.annotations)
 
 pub split_recombines : (A : Type 0) → SplitRecombines A
-split_recombines A same text annotate t slots row e w s p g f h =
+split_recombines A same text annotate t slots row e w s p g h =
     let j = parts_are_typed A same text annotate t e w p in
-    let k = split-of same text annotate t slots row e j.0 w j.1 p.typed g f in
+    let k = split-of same text annotate t slots row e j.0 w j.1 p.typed (fits-but_nulls row t g) in
     let one : k.made ≡ s = Ok-same (split same text annotate t e) k.made s k.is h in
     subst (λ (z : Split A). mean (partitions_type text z.partitions) slots (partitions_row text t slots row z.partitions) z.root_expression ≡ mean t slots row e) one k.means

@@ -1,5 +1,5 @@
 -- Packs of the columns for the row, and simplifying by types after it, keep each strictly typed expression.
-use Rattle.std.proofs.Common.{◌≡◌, refl, ap, sym, ◌∙◌, Bool, true, Some, subst, List, [], ◌∷◌, Result, Ok}
+use Rattle.std.proofs.Common.{◌≡◌, refl, ap, sym, ◌∙◌, Bool, Some, subst, List, [], ◌∷◌, Result, Ok}
 use Rattle.std.specs.Prelude.{map}
 use Rattle.std.specs.List.{list_any}
 use Rattle.vx_dtype.specs.declared.Nullability.TheVariants.{NonNullable}
@@ -15,10 +15,10 @@ use Rattle.vx_semantics.specs.Tables.{row_type}
 use Rattle.vx_passes.specs.Rebuilding.{rebuilt, all_rebuilt}
 use Rattle.vx_passes.specs.Replacing.{changed_by, all_changed_by, column, packed_row, packed_where_root, root_replaced}
 use Rattle.vx_passes.specs.TypedSimplifying.{simplified_typed}
-use Rattle.vx_laws.proofs.Structs.{struct-value}
-use Rattle.vx_laws.proofs.Preserving.{FitsButFaults, distinct_type-ok}
+use Rattle.vx_laws.proofs.Preserving.{distinct_type-ok}
 use Rattle.vx_laws_simplifying.proofs.Observing.{Observes, seen, seen-below}
 use Rattle.vx_laws_simplifying.proofs.Kept.{Kept, kept-own, kept-then, Made, KeepsNodes, rebuilt-kept}
+use Rattle.vx_laws.proofs.AnySlots.{FitsButNulls, struct-but_nulls}
 use Rattle.vx_laws_removing.proofs.PackedItems.{ItemKept, items-kept}
 use Rattle.vx_laws_removing.proofs.Removed.{item-found}
 use Rattle.vx_laws_removing.proofs.Composed.{simplified_typed-kept}
@@ -63,7 +63,7 @@ module _ (change : Tree → Tree) where
         ap (λ (x : Result Tree Refusal). and_then x (λ c. and_then (all_rebuilt Always ds) (λ cs. Ok (tree c cs)))) (rebuilt-changed d)
         ∙ ap (λ (x : Result Trees Refusal). and_then x (λ cs. Ok (tree (changed_by change d) cs))) (all_rebuilt-changed ds)
 
-module _ (fs : Fields) (slots : Slots) (row : Val) (test : Asking → Bool) (o : Observes (row_type fs) slots row test) (g : FitsButFaults row (row_type fs)) where
+module _ (fs : Fields) (slots : Slots) (row : Val) (test : Asking → Bool) (o : Observes (row_type fs) slots row test) (g : FitsButNulls row (row_type fs)) where
   -- the row asks each of its columns
   row-each : (names : List Bytes) → map asks_column names ≡ each_asked (asked (row_type fs) root) names
   unfolding asked
@@ -75,11 +75,11 @@ module _ (fs : Fields) (slots : Slots) (row : Val) (test : Asking → Bool) (o :
   row-sees [] = ap (list_any test) (row-each (field_names fs))
   row-sees (c ∷ path) = refl
 
-  row-item : typed_of (row_type fs) root ≡ Ok (row_type fs) → (f : Bytes) (w : Ty) → field_type f fs ≡ Some w → ItemKept (row_type fs) slots row test o column (asked (row_type fs) root) row f w
+  row-item : typed_of (row_type fs) root ≡ Ok (row_type fs) → (f : Bytes) (w : Ty) → field_type f fs ≡ Some w → ItemKept (row_type fs) slots row test o root column (asked (row_type fs) root) row f w
   unfolding typed_of mean asked slots_fit
   row-item h f w k = record {
     typed = ap (λ (x : Result Ty Refusal). and_then x (item_type f)) h ∙ item-found f fs w k;
-    fitting = refl;
+    fitting = λ s. refl;
     means = refl;
     sees = λ path p. seen-below (row_type fs) slots row test o (get_item f root) (asked (row_type fs) root (f ∷ path)) refl;
   }
@@ -90,17 +90,17 @@ module _ (fs : Fields) (slots : Slots) (row : Val) (test : Asking → Bool) (o :
       let same : row_type fs ≡ u = distinct_type-ok (row_type fs) u h in
       let own : typed_of (row_type fs) root ≡ Ok (row_type fs) = h ∙ ap (λ (z : Ty). Ok z) (sym same) in
       subst (Kept (row_type fs) slots row test o root (packed_row fs)) same
-      (items-kept (row_type fs) slots row test o column (asked (row_type fs) root) row root fs NonNullable own (struct-value row fs g) refl (λ path p. row-sees path) (row-item own))
+      (items-kept (row_type fs) slots row test o root column (asked (row_type fs) root) row fs NonNullable own (struct-but_nulls row fs g) refl (λ path p. row-sees path) (row-item own))
 
   packed-keeps : KeepsNodes (row_type fs) slots row test o (λ n. Ok (packed_where_root fs n))
-  packed-keeps root u i h = record { made = packed_row fs; is = refl; kept = row-kept u h }
-  packed-keeps n u i h = record { made = n; is = refl; kept = kept-own (row_type fs) slots row test o n u h i }
+  packed-keeps root u h = record { made = packed_row fs; is = refl; kept = row-kept u h }
+  packed-keeps n u h = record { made = n; is = refl; kept = kept-own (row_type fs) slots row test o n u h }
 
-  pub preserved-kept : (e : Tree) (u : Ty) → slots_fit slots e ≡ true → typed_of (row_type fs) e ≡ Ok u → Made (row_type fs) slots row test o (simplified_typed (row_type fs) (root_replaced fs e)) e u
-  preserved-kept e u s h =
+  pub preserved-kept : (e : Tree) (u : Ty) → typed_of (row_type fs) e ≡ Ok u → Made (row_type fs) slots row test o (simplified_typed (row_type fs) (root_replaced fs e)) e u
+  preserved-kept e u h =
       let t = row_type fs in
-      let m = rebuilt-kept t slots row test o (λ n. Ok (packed_where_root fs n)) packed-keeps g e u s h in
-      let k = simplified_typed-kept t slots row test o m.made m.kept.ty g m.kept.fitting m.kept.typed in
+      let m = rebuilt-kept t slots row test o (λ n. Ok (packed_where_root fs n)) packed-keeps e u h in
+      let k = simplified_typed-kept t slots row test o m.made m.kept.ty g m.kept.typed in
       let same : ◌≡◌ {A = Result Tree Refusal} (Ok (root_replaced fs e)) (Ok m.made) = sym (rebuilt-changed (packed_where_root fs) e) ∙ m.is in
       record {
         made = k.made;

@@ -9,7 +9,6 @@ use Rattle.vx_expr.specs.Trees.{Tree, root, literal, get_item, binary, not_of, i
 use Rattle.vx_expr.specs.Trees.{Trees, no_trees, tree}
 use Rattle.vx_semantics.specs.Typing.{typed_of}
 use Rattle.vx_semantics.specs.Meaning.{Slots, mean}
-use Rattle.vx_semantics.specs.Slots.{slots_fit}
 use Rattle.vx_semantics.specs.Breaks.{Cause, breaks_by}
 use Rattle.vx_semantics.specs.Asked.{asked_columns}
 use Rattle.vx_semantics.specs.Tables.{row_type}
@@ -96,16 +95,16 @@ abbrev pub PreservesAskedColumns : Type 0
 PreservesAskedColumns =
     (fs : Fields) (e : Tree) (u : Ty) (d : Tree) → Simplifies fs e u d → asked_columns (row_type fs) d ≡ asked_columns (row_type fs) e
 
--- at each row that fits but for faults, with slots that fit, it means the same
+-- at each row that fits but for faults, with any slots, it means the same
 abbrev pub PreservesMeaning : Type 0
 PreservesMeaning =
     (fs : Fields) (slots : Slots) (row : Val) (e : Tree) (u : Ty) (d : Tree) → Simplifies fs e u d
-    → fits_but_for_faults row (row_type fs) ≡ true → slots_fit slots e ≡ true
+    → fits_but_for_faults row (row_type fs) ≡ true
     → mean (row_type fs) slots row d ≡ mean (row_type fs) slots row e
 
 -- there some node breaks by a cause exactly where a node that the expression asks breaks by this cause
 abbrev pub PreservesBreaks : Type 0
 PreservesBreaks =
     (fs : Fields) (slots : Slots) (row : Val) (e : Tree) (u : Ty) (d : Tree) (cause : Cause) → Simplifies fs e u d
-    → fits_but_for_faults row (row_type fs) ≡ true → slots_fit slots e ≡ true
+    → fits_but_for_faults row (row_type fs) ≡ true
     → some_node (breaks_by cause (row_type fs) slots row) d ≡ breaks_along cause (row_type fs) slots row e []

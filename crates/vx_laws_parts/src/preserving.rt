@@ -20,7 +20,7 @@ pub fn preserves_columns()
     ensures asked { PreservesAskedColumns }
 {}
 
-/// At each row that fits but for faults, with slots that fit, the result means what the expression means.
+/// At each row that fits but for faults, with any slots, the result means what the expression means.
 pub fn preserves_meaning()
     ensures { PreservesMeaning }
 {}

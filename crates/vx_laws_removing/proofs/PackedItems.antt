@@ -16,8 +16,7 @@ use Rattle.vx_semantics.specs.Meaning.{Slots, zip_members, mean, meanings}
 use Rattle.vx_semantics.specs.Slots.{slots_fit, all_slots_fit}
 use Rattle.vx_semantics.specs.Asked.{Asking, each_asked, path_or_each, asked, asked_in_pack}
 use Rattle.vx_laws.proofs.Inverting.{bytes_same}
-use Rattle.vx_laws.proofs.Structs.{IsStructOf}
-use Rattle.vx_laws.proofs.Distinct.{struct-distinct, typed-distinct, members_at-own}
+use Rattle.vx_laws.proofs.Distinct.{struct-distinct, typed-distinct}
 use Rattle.vx_laws.proofs.Paths.{path_in, first_of_path}
 use Rattle.vx_laws_simplifying.proofs.Observing.{Observes, seen, seen-below}
 use Rattle.vx_laws_simplifying.proofs.PackedRows.{TypedIn, typed_in-own, zipped-own, as_many}
@@ -25,20 +24,16 @@ use Rattle.vx_laws_simplifying.specs.Narrowing.{no_more_nullable}
 use Rattle.vx_laws_simplifying.proofs.Under.{under-own}
 use Rattle.vx_laws_simplifying.proofs.Narrows.{narrowing}
 use Rattle.vx_laws_simplifying.proofs.Kept.{Kept, two-same}
-
--- a struct is that of its fields
-pub own-fields : (v : Val) (fs : Fields) → IsStructOf v fs → distinct_names (field_names fs) ≡ true → struct_val (members_at (field_names fs) v) ≡ v
-own-fields v fs s d =
-    ap (λ (z : Val). struct_val (members_at (field_names fs) z)) s.is ∙ (ap struct_val (members_at-own s.members fs s.fit d) ∙ sym s.is)
+use Rattle.vx_laws.proofs.AnySlots.{StructButNulls, own-fields}
 
 pub pack_type-own : (fs : Fields) (n : Nullability) → distinct_names (field_names fs) ≡ true → pack_type (field_names fs) n (field_types fs) ≡ Ok (struct_ty fs n)
 pack_type-own fs n d = rw (d, eq-eqb (length (field_names fs)) (length (field_types fs)) (as_many fs), zipped-own fs) refl
 
-module _ (t : Ty) (slots : Slots) (row : Val) (test : Asking → Bool) (o : Observes t slots row test) (item : Bytes → Tree) (ask : List Bytes → List Asking) (v : Val) where
-  -- an item that stands for the field of a value, which has this type
+module _ (t : Ty) (slots : Slots) (row : Val) (test : Asking → Bool) (o : Observes t slots row test) (e : Tree) (item : Bytes → Tree) (ask : List Bytes → List Asking) (v : Val) where
+  -- an item that stands for the field of a value, which has this type, in the place of an expression
   pub record ItemKept (f : Bytes) (w : Ty) : Type 0 where
     pub typed : typed_of t (item f) ≡ Ok w
-    pub fitting : slots_fit slots (item f) ≡ true
+    pub fitting : slots_fit slots e ≡ true → slots_fit slots (item f) ≡ true
     pub means : mean t slots row (item f) ≡ field_of f v
     pub sees : (path : List Bytes) → path_in path w ≡ true → seen test t (item f) path ≡ list_any test (ask (f ∷ path))
 
@@ -53,11 +48,11 @@ module _ (t : Ty) (slots : Slots) (row : Val) (test : Asking → Bool) (o : Obse
       ap (λ (x : Result Ty Refusal). and_then x (λ a. and_then (all_typed t (trees_of (map item (field_names hs)))) (λ ts. Ok (a ∷ ts)))) (k f w h.0).typed
       ∙ ap (λ (x : Result (List Ty) Refusal). and_then x (λ ts. Ok (w ∷ ts))) (items-typed gs hs k h.1)
 
-  items-fitting : (gs hs : Fields) → ItemsKept gs → TypedIn gs hs → all_slots_fit slots (trees_of (map item (field_names hs))) ≡ true
+  items-fitting : (gs hs : Fields) → ItemsKept gs → TypedIn gs hs → slots_fit slots e ≡ true → all_slots_fit slots (trees_of (map item (field_names hs))) ≡ true
   unfolding slots_fit
-  items-fitting gs no_fields k h = refl
-  items-fitting gs (field f w hs) k h =
-      and_from (slots_fit slots (item f)) (all_slots_fit slots (trees_of (map item (field_names hs)))) (k f w h.0).fitting (items-fitting gs hs k h.1)
+  items-fitting gs no_fields k h s = refl
+  items-fitting gs (field f w hs) k h s =
+      and_from (slots_fit slots (item f)) (all_slots_fit slots (trees_of (map item (field_names hs)))) ((k f w h.0).fitting s) (items-fitting gs hs k h.1 s)
 
   items-mean : (gs hs : Fields) → ItemsKept gs → TypedIn gs hs
       → zip_members (field_names hs) (meanings t slots row (trees_of (map item (field_names hs)))) ≡ members_at (field_names hs) v
@@ -78,8 +73,8 @@ module _ (t : Ty) (slots : Slots) (row : Val) (test : Asking → Bool) (o : Obse
   items-one : (gs hs : Fields) → ItemsKept gs → TypedIn gs hs → (f : Bytes) (path : List Bytes) (w : Ty) → field_type f hs ≡ Some w → path_in path w ≡ true
       → list_any test (asked_in_pack t (field_names hs) (trees_of (map item (field_names hs))) (f ∷ path)) ≡ list_any test (ask (f ∷ path))
   unfolding asked
-  items-one gs no_fields k h f path w e p = let no : ⊥ = cc in absurd no
-  items-one gs (field g u hs) k h f path w e p = by-test (bytes_eq f g) refl e (λ i. items-one gs hs k h.1 f path w i p)
+  items-one gs no_fields k h f path w i p = let no : ⊥ = cc in absurd no
+  items-one gs (field g u hs) k h f path w i p = by-test (bytes_eq f g) refl i (λ j. items-one gs hs k h.1 f path w j p)
     where
       by-test : (b : Bool) → bytes_eq f g ≡ b → cond b (Some u) (field_type f hs) ≡ Some w
           → (field_type f hs ≡ Some w → list_any test (asked_in_pack t (field_names hs) (trees_of (map item (field_names hs))) (f ∷ path)) ≡ list_any test (ask (f ∷ path)))
@@ -98,11 +93,11 @@ module _ (t : Ty) (slots : Slots) (row : Val) (test : Asking → Bool) (o : Obse
   packed-sees gs n k h [] p = items-whole gs gs k h
   packed-sees gs n k h (f ∷ path) p = let first = first_of_path f path gs p in items-one gs gs k h f path first.own first.found first.rest
 
-  pub items-kept : (e : Tree) (gs : Fields) (n : Nullability) → typed_of t e ≡ Ok (struct_ty gs n) → IsStructOf v gs → v ≡ mean t slots row e
+  pub items-kept : (gs : Fields) (n : Nullability) → typed_of t e ≡ Ok (struct_ty gs n) → StructButNulls v gs → v ≡ mean t slots row e
       → ((path : List Bytes) → path_in path (struct_ty gs n) ≡ true → seen test t e path ≡ list_any test (path_or_each ask (field_names gs) path))
       → ItemsKept gs → Kept t slots row test o e (pack (field_names gs) (trees_of (map item (field_names gs))) n) (struct_ty gs n)
   unfolding typed_of mean asked slots_fit
-  items-kept e gs n h s w a k =
+  items-kept gs n h s w a k =
       let names = (struct-distinct gs n (typed-distinct t e (struct_ty gs n) h)).names in
       let own = typed_in-own gs names in
       let items = trees_of (map item (field_names gs)) in

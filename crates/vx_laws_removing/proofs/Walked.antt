@@ -32,7 +32,7 @@ use Rattle.vx_laws_simplifying.specs.Narrowing.{no_more_nullable}
 use Rattle.vx_laws_simplifying.specs.Keeping.{Pass}
 use Rattle.vx_laws_simplifying.proofs.Under.{structs, names-under}
 use Rattle.vx_laws_simplifying.proofs.Narrows.{narrowing, Narrow, narrow-then, not_nullable}
-use Rattle.vx_laws_simplifying.proofs.Passes.{MakesKept, some_row, some_row-fits, no_slots-fit}
+use Rattle.vx_laws_simplifying.proofs.Passes.{MakesKept, some_row, some_row-fits}
 use Rattle.vx_laws_simplifying.proofs.PackedFields.{without_packed_fields-kept}
 use Rattle.vx_laws_removing.proofs.Loosened.{loosened}
 use Rattle.vx_laws_removing.proofs.Removed.{without_select-kept, without_merge-kept}
@@ -51,7 +51,7 @@ pub record Narrowed (t : Ty) (r : Result Tree Refusal) (u : Ty) : Type 0 where
 pub narrowed : (pass : Pass) → MakesKept pass → (t : Ty) (e : Tree) (u : Ty) → typed_of t e ≡ Ok u → Narrowed t (pass t e) u
 narrowed pass p t e u h =
     let row = some_row t in
-    let m = p t [] row (breaking by_sum t [] row) (breaking-observes by_sum t [] row) e u (some_row-fits t) (no_slots-fit e) h in
+    let m = p t [] row (breaking by_sum t [] row) (breaking-observes by_sum t [] row) e u (some_row-fits t) h in
     record { made = m.made; is = m.is; ty = m.kept.ty; typed = m.kept.typed; narrow = m.kept.narrow }
 
 -- what is known of an expression of a type that narrows another

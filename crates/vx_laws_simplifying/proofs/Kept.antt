@@ -30,8 +30,7 @@ use Rattle.vx_semantics.specs.Slots.{held_fits, slots_fit, all_slots_fit}
 use Rattle.vx_passes.specs.Rebuilding.{rebuilt, all_rebuilt}
 use Rattle.vx_laws.proofs.Inverting.{and_then-ok, Ok-same}
 use Rattle.vx_laws.proofs.Merging.{some_gives, merged_type_at-step, asked_of_giver-step, givers-same, giver_names-same}
-use Rattle.vx_laws.proofs.Structs.{item_type-ok, select_type-ok, AllSourcesFit, has_field, all-own_names, source_names-same, some_gives-same}
-use Rattle.vx_laws.proofs.Preserving.{FitsButFaults, sources-fit}
+use Rattle.vx_laws.proofs.Structs.{item_type-ok, select_type-ok, has_field, all-own_names}
 use Rattle.vx_laws.proofs.Distinct.{field_names-merged}
 use Rattle.vx_laws.proofs.Lookups.{merged_fields-type, select-chosen}
 use Rattle.vx_laws.proofs.Faultless.{merge_type-ok, pack_type-ok, names_in-select, type_in-named}
@@ -40,6 +39,7 @@ use Rattle.vx_laws_simplifying.proofs.Observing.{Observes, seen, seen-both, is_s
 use Rattle.vx_laws_simplifying.specs.Narrowing.{no_more_nullable}
 use Rattle.vx_laws_simplifying.proofs.Under.{bools, UnderList, ended, further, Ranked, under-own, null-under, names_in-under, item-under, binary-under, not-under, like-under, between-under, cast-under, contains-under, dynamic-under, select-under, pack-under, merge-under}
 use Rattle.vx_laws_simplifying.proofs.Narrows.{narrowing, Narrow, narrow-then, path_in-narrow, not_nullable}
+use Rattle.vx_laws.proofs.GivenNames.{gives-typed, names-typed}
 
 -- a path in a field's type leads through the field
 pub path-item : (f : Bytes) (path : List Bytes) (a u : Ty) → item_type f a ≡ Ok u → path_in path u ≡ true → path_in (f ∷ path) a ≡ true
@@ -65,6 +65,10 @@ path-selected s f path a u h p =
     let chosen = select-chosen s f k.fields no_members first.own first.found in
     subst (λ (z : Ty). path_in (f ∷ path) z ≡ true) (sym k.is) (path_in-first f path k.fields first.own chosen.type first.rest)
 
+-- two tests that hold where two others do
+and-implied : (a b c d : Bool) → (a ≡ true → c ≡ true) → (b ≡ true → d ≡ true) → (a && b) ≡ true → (c && d) ≡ true
+and-implied a b c d f g h = let p = and_parts a b h in and_from c d (f p.0) (g p.1)
+
 module _ (t : Ty) (slots : Slots) (row : Val) (test : Asking → Bool) (o : Observes t slots row test) where
   -- another expression in the place of one of this type
   pub record Kept (e d : Tree) (u : Ty) : Type 0 where
@@ -72,12 +76,12 @@ module _ (t : Ty) (slots : Slots) (row : Val) (test : Asking → Bool) (o : Obse
     pub ty : Ty
     pub typed : typed_of t d ≡ Ok ty
     pub narrow : Narrow ty u
-    pub fitting : slots_fit slots d ≡ true
+    pub fitting : slots_fit slots e ≡ true → slots_fit slots d ≡ true
     pub means : mean t slots row d ≡ mean t slots row e
     pub sees : (path : List Bytes) → path_in path u ≡ true → seen test t d path ≡ seen test t e path
 
-  pub kept-own : (e : Tree) (u : Ty) → typed_of t e ≡ Ok u → slots_fit slots e ≡ true → Kept e e u
-  kept-own e u h s = record { was = h; ty = u; typed = h; narrow = under-own no_more_nullable narrowing u; fitting = s; means = refl; sees = λ path p. refl }
+  pub kept-own : (e : Tree) (u : Ty) → typed_of t e ≡ Ok u → Kept e e u
+  kept-own e u h = record { was = h; ty = u; typed = h; narrow = under-own no_more_nullable narrowing u; fitting = λ s. s; means = refl; sees = λ path p. refl }
 
   pub kept-then : (e n d : Tree) (u : Ty) (k : Kept e n u) → Kept n d k.ty → Kept e d u
   kept-then e n d u k m = record {
@@ -85,7 +89,7 @@ module _ (t : Ty) (slots : Slots) (row : Val) (test : Asking → Bool) (o : Obse
     ty = m.ty;
     typed = m.typed;
     narrow = narrow-then m.ty k.ty u m.narrow k.narrow;
-    fitting = m.fitting;
+    fitting = λ s. m.fitting (k.fitting s);
     means = m.means ∙ k.means;
     sees = λ path p. m.sees path (path_in-narrow path k.ty u k.narrow ∙ p) ∙ k.sees path p;
   }
@@ -124,7 +128,7 @@ module _ (t : Ty) (slots : Slots) (row : Val) (test : Asking → Bool) (o : Obse
         typed = ap (λ (z : Result Ty Refusal). and_then z (λ c. and_then (typed_of t q) (binary_type op c))) x.typed
             ∙ (ap (λ (z : Result Ty Refusal). and_then z (binary_type op x.ty)) y.typed ∙ made.is);
         narrow = made.under;
-        fitting = and_from (slots_fit slots k) (slots_fit slots q) x.fitting y.fitting;
+        fitting = and-implied (slots_fit slots l) (slots_fit slots r) (slots_fit slots k) (slots_fit slots q) x.fitting y.fitting;
         means = ap (λ (v : Val). binary3 op v (mean t slots row q)) x.means ∙ ap (binary3 op (mean t slots row l)) y.means;
         sees = λ path p. node-same (binary k op q) (binary l op r) (asked t k [] ++ asked t q []) (asked t l [] ++ asked t r []) (o.sums k l op q r x.means y.means)
             (two-same (asked t k []) (asked t l []) (asked t q []) (asked t r []) (x.sees [] refl) (y.sees [] refl));
@@ -165,7 +169,7 @@ module _ (t : Ty) (slots : Slots) (row : Val) (test : Asking → Bool) (o : Obse
         ty = made.ty;
         typed = ap (λ (z : Result Ty Refusal). and_then z (λ c. and_then (typed_of t q) (like_type c))) x.typed ∙ (ap (λ (z : Result Ty Refusal). and_then z (like_type x.ty)) y.typed ∙ made.is);
         narrow = made.under;
-        fitting = and_from (slots_fit slots k) (slots_fit slots q) x.fitting y.fitting;
+        fitting = and-implied (slots_fit slots l) (slots_fit slots r) (slots_fit slots k) (slots_fit slots q) x.fitting y.fitting;
         means = ap (λ (v : Val). like3 negated fold_case v (mean t slots row q)) x.means ∙ ap (like3 negated fold_case (mean t slots row l)) y.means;
         sees = λ path p. still-same (like k q negated fold_case) (like l r negated fold_case) (asked t k [] ++ asked t q []) (asked t l [] ++ asked t r []) refl refl
             (two-same (asked t k []) (asked t l []) (asked t q []) (asked t r []) (x.sees [] refl) (y.sees [] refl));
@@ -181,7 +185,7 @@ module _ (t : Ty) (slots : Slots) (row : Val) (test : Asking → Bool) (o : Obse
         typed = ap (λ (z : Result Ty Refusal). and_then z (λ c. and_then (typed_of t q) (contains_type c))) x.typed
             ∙ (ap (λ (z : Result Ty Refusal). and_then z (contains_type x.ty)) y.typed ∙ made.is);
         narrow = made.under;
-        fitting = and_from (slots_fit slots k) (slots_fit slots q) x.fitting y.fitting;
+        fitting = and-implied (slots_fit slots l) (slots_fit slots r) (slots_fit slots k) (slots_fit slots q) x.fitting y.fitting;
         means = ap (λ (v : Val). contains3 v (mean t slots row q)) x.means ∙ ap (contains3 (mean t slots row l)) y.means;
         sees = λ path p. still-same (list_contains k q) (list_contains l r) (asked t k [] ++ asked t q []) (asked t l [] ++ asked t r []) refl refl
             (two-same (asked t k []) (asked t l []) (asked t q []) (asked t r []) (x.sees [] refl) (y.sees [] refl));
@@ -199,7 +203,8 @@ module _ (t : Ty) (slots : Slots) (row : Val) (test : Asking → Bool) (o : Obse
             ∙ (ap (λ (z : Result Ty Refusal). and_then z (λ f. and_then (typed_of t q) (between_type v.ty f))) x.typed
             ∙ (ap (λ (z : Result Ty Refusal). and_then z (between_type v.ty x.ty)) y.typed ∙ made.is));
         narrow = made.under;
-        fitting = and_from (slots_fit slots d) (slots_fit slots k && slots_fit slots q) v.fitting (and_from (slots_fit slots k) (slots_fit slots q) x.fitting y.fitting);
+        fitting = and-implied (slots_fit slots e) (slots_fit slots l && slots_fit slots r) (slots_fit slots d) (slots_fit slots k && slots_fit slots q) v.fitting
+            (and-implied (slots_fit slots l) (slots_fit slots r) (slots_fit slots k) (slots_fit slots q) x.fitting y.fitting);
         means = ap (λ (z : Val). between3 options z (mean t slots row k) (mean t slots row q)) v.means
             ∙ (ap (λ (z : Val). between3 options (mean t slots row e) z (mean t slots row q)) x.means ∙ ap (between3 options (mean t slots row e) (mean t slots row l)) y.means);
         sees = λ path p. still-same (between d k q options) (between e l r options) (asked t d [] ++ (asked t k [] ++ asked t q [])) (asked t e [] ++ (asked t l [] ++ asked t r [])) refl refl
@@ -221,17 +226,17 @@ module _ (t : Ty) (slots : Slots) (row : Val) (test : Asking → Bool) (o : Obse
         sees = λ path p. node-same (cast d target) (cast e target) (asked t d []) (asked t e []) (o.casts d e target k.means) (k.sees [] refl);
       }
 
-  kept-dynamic : (op : CompareOperator) (i : ℕ) (slot : Ty) (default : Bool) (e d : Tree) (a u : Ty) → dynamic_type slot a ≡ Ok u → held_fits (slot_held slots i) slot ≡ true → Kept e d a
+  kept-dynamic : (op : CompareOperator) (i : ℕ) (slot : Ty) (default : Bool) (e d : Tree) (a u : Ty) → dynamic_type slot a ≡ Ok u → Kept e d a
       → Kept (dynamic e op i slot default) (dynamic d op i slot default) u
   unfolding typed_of mean asked slots_fit
-  kept-dynamic op i slot default e d a u h s k =
+  kept-dynamic op i slot default e d a u h k =
       let r = dynamic-under no_more_nullable narrowing slot k.ty a u k.narrow h in
       record {
         was = ap (λ (x : Result Ty Refusal). and_then x (dynamic_type slot)) k.was ∙ h;
         ty = r.ty;
         typed = ap (λ (x : Result Ty Refusal). and_then x (dynamic_type slot)) k.typed ∙ r.is;
         narrow = r.under;
-        fitting = and_from (held_fits (slot_held slots i) slot) (slots_fit slots d) s k.fitting;
+        fitting = and-implied (held_fits (slot_held slots i) slot) (slots_fit slots e) (held_fits (slot_held slots i) slot) (slots_fit slots d) (λ s. s) k.fitting;
         means = ap (λ (v : Val). dynamic3 op default v (slot_value slots i)) k.means;
         sees = λ path p. still-same (dynamic d op i slot default) (dynamic e op i slot default) (asked t d []) (asked t e []) refl refl (k.sees [] refl);
       }
@@ -319,10 +324,10 @@ module _ (t : Ty) (slots : Slots) (row : Val) (test : Asking → Bool) (o : Obse
   all-was _ _ _ (more_kept e d u es ds us k ks) =
       ap (λ (x : Result Ty Refusal). and_then x (λ a. and_then (all_typed t es) (λ ts. Ok (a ∷ ts)))) k.was ∙ ap (λ (x : Result (List Ty) Refusal). and_then x (λ ts. Ok (u ∷ ts))) (all-was es ds us ks)
 
-  all-fitting : (es ds : Trees) (us : List Ty) → KeptAll es ds us → all_slots_fit slots ds ≡ true
+  all-fitting : (es ds : Trees) (us : List Ty) → KeptAll es ds us → all_slots_fit slots es ≡ true → all_slots_fit slots ds ≡ true
   unfolding slots_fit
-  all-fitting _ _ _ all_kept = refl
-  all-fitting _ _ _ (more_kept e d u es ds us k ks) = and_from (slots_fit slots d) (all_slots_fit slots ds) k.fitting (all-fitting es ds us ks)
+  all-fitting _ _ _ all_kept s = s
+  all-fitting _ _ _ (more_kept e d u es ds us k ks) s = and-implied (slots_fit slots e) (all_slots_fit slots es) (slots_fit slots d) (all_slots_fit slots ds) k.fitting (all-fitting es ds us ks) s
 
   all-means : (es ds : Trees) (us : List Ty) → KeptAll es ds us → meanings t slots row ds ≡ meanings t slots row es
   unfolding mean
@@ -383,8 +388,8 @@ module _ (t : Ty) (slots : Slots) (row : Val) (test : Asking → Bool) (o : Obse
       }
 
   -- what a merge asks of the last giver of a name
-  gives-same : (f : Bytes) (es ds : Trees) (us : List Ty) → KeptAll es ds us → AllSourcesFit (sources t slots row es) us → some_gives giver_names f (givers t ds) ≡ some_gives names_in f us
-  gives-same f es ds us ks fit = givers-same t slots row f ds ∙ (ap (some_gives source_names f) (all-sources es ds us ks) ∙ some_gives-same f (sources t slots row es) us fit)
+  gives-same : (f : Bytes) (es ds : Trees) (us : List Ty) → KeptAll es ds us → some_gives giver_names f (givers t ds) ≡ some_gives names_in f us
+  gives-same f es ds us ks = givers-same t slots row f ds ∙ (ap (some_gives source_names f) (all-sources es ds us ks) ∙ gives-typed t slots row f es us (all-was es ds us ks))
 
   giver-one : (e d : Tree) (u : Ty) (es ds : Trees) (us : List Ty) → Kept e d u → (f : Bytes) (path : List Bytes) (w : Ty) (x : Bool) → cond x (merged_type_at f us) (type_in f u) ≡ Some w → path_in path w ≡ true
       → (merged_type_at f us ≡ Some w → list_any test (asked_of_giver (givers t ds) (f ∷ path)) ≡ list_any test (asked_of_giver (givers t es) (f ∷ path)))
@@ -397,47 +402,46 @@ module _ (t : Ty) (slots : Slots) (row : Val) (test : Asking → Bool) (o : Obse
       ap (λ (b : Bool). list_any test (cond b (asked t d (f ∷ path)) [])) other
       ∙ (k.sees (f ∷ path) (path-type_in f path u w h p) ∙ sym (ap (λ (b : Bool). list_any test (cond b (asked t e (f ∷ path)) [])) own))
 
-  givers-seen : (es ds : Trees) (us : List Ty) → KeptAll es ds us → AllSourcesFit (sources t slots row es) us → (f : Bytes) (path : List Bytes) (w : Ty) → merged_type_at f us ≡ Some w → path_in path w ≡ true
+  givers-seen : (es ds : Trees) (us : List Ty) → KeptAll es ds us → (f : Bytes) (path : List Bytes) (w : Ty) → merged_type_at f us ≡ Some w → path_in path w ≡ true
       → list_any test (asked_of_giver (givers t ds) (f ∷ path)) ≡ list_any test (asked_of_giver (givers t es) (f ∷ path))
   unfolding asked mean
-  givers-seen _ _ _ all_kept fit f path w h p = refl
-  givers-seen _ _ _ (more_kept e d u es ds us k ks) fit f path w h p =
-      let own_gives : some_gives giver_names f (givers t es) ≡ some_gives names_in f us = givers-same t slots row f es ∙ some_gives-same f (sources t slots row es) us fit.1 in
+  givers-seen _ _ _ all_kept f path w h p = refl
+  givers-seen _ _ _ (more_kept e d u es ds us k ks) f path w h p =
+      let own_gives : some_gives giver_names f (givers t es) ≡ some_gives names_in f us = givers-same t slots row f es ∙ gives-typed t slots row f es us (all-was es ds us ks) in
       ap (list_any test) (asked_of_giver-step f path (record { names = given_names t d; asks = asked t d }) (givers t ds))
-      ∙ (ap (λ (x : Bool). list_any test (cond x (asked_of_giver (givers t ds) (f ∷ path)) (cond (has_name f (given_names t d)) (asked t d (f ∷ path)) []))) (gives-same f es ds us ks fit.1)
-      ∙ (giver-one e d u es ds us k f path w (some_gives names_in f us) (sym (merged_type_at-step f u us) ∙ h) p (λ i. givers-seen es ds us ks fit.1 f path w i p)
+      ∙ (ap (λ (x : Bool). list_any test (cond x (asked_of_giver (givers t ds) (f ∷ path)) (cond (has_name f (given_names t d)) (asked t d (f ∷ path)) []))) (gives-same f es ds us ks)
+      ∙ (giver-one e d u es ds us k f path w (some_gives names_in f us) (sym (merged_type_at-step f u us) ∙ h) p (λ i. givers-seen es ds us ks f path w i p)
       ∙ (sym (ap (λ (x : Bool). list_any test (cond x (asked_of_giver (givers t es) (f ∷ path)) (cond (has_name f (given_names t e)) (asked t e (f ∷ path)) []))) own_gives)
       ∙ sym (ap (list_any test) (asked_of_giver-step f path (record { names = given_names t e; asks = asked t e }) (givers t es))))))
 
-  merge-one : (n : Nullability) (es ds : Trees) (us : List Ty) (u : Ty) → merge_type n us ≡ Ok u → KeptAll es ds us → AllSourcesFit (sources t slots row es) us → (f : Bytes) (path : List Bytes) → path_in (f ∷ path) u ≡ true
+  merge-one : (n : Nullability) (es ds : Trees) (us : List Ty) (u : Ty) → merge_type n us ≡ Ok u → KeptAll es ds us → (f : Bytes) (path : List Bytes) → path_in (f ∷ path) u ≡ true
       → list_any test (asked_of_giver (givers t ds) (f ∷ path)) ≡ list_any test (asked_of_giver (givers t es) (f ∷ path))
-  merge-one n es ds us u h ks fit f path p =
+  merge-one n es ds us u h ks f path p =
       let k = merge_type-ok us n u h in
       let first = first_of_path f path (merged_fields_at (merged_names names_in us) us) (subst (λ (z : Ty). path_in (f ∷ path) z ≡ true) k.gives p) in
       let found = merged_fields-type (merged_names names_in us) us f first.own first.found in
-      givers-seen es ds us ks fit f path first.own found.type first.rest
+      givers-seen es ds us ks f path first.own found.type first.rest
 
-  merge-sees : (n : Nullability) (es ds : Trees) (us : List Ty) (u : Ty) → merge_type n us ≡ Ok u → KeptAll es ds us → AllSourcesFit (sources t slots row es) us → (path : List Bytes) → path_in path u ≡ true
+  merge-sees : (n : Nullability) (es ds : Trees) (us : List Ty) (u : Ty) → merge_type n us ≡ Ok u → KeptAll es ds us → (path : List Bytes) → path_in path u ≡ true
       → list_any test (path_or_each (asked_of_giver (givers t ds)) (merged_names giver_names (givers t ds)) path)
       ≡ list_any test (path_or_each (asked_of_giver (givers t es)) (merged_names giver_names (givers t es)) path)
-  merge-sees n es ds us u h ks fit (f ∷ path) p = merge-one n es ds us u h ks fit f path p
-  merge-sees n es ds us u h ks fit [] p =
+  merge-sees n es ds us u h ks (f ∷ path) p = merge-one n es ds us u h ks f path p
+  merge-sees n es ds us u h ks [] p =
       let k = merge_type-ok us n u h in
       let fs = merged_fields_at (merged_names names_in us) us in
       let names : flat_map giver_names (givers t ds) ≡ flat_map giver_names (givers t es) =
       giver_names-same t slots row ds ∙ (ap (λ (ss : List Source). flat_map source_names ss) (all-sources es ds us ks) ∙ sym (giver_names-same t slots row es)) in
-      let same : merged_names giver_names (givers t es) ≡ field_names fs = ap first_names (giver_names-same t slots row es ∙ source_names-same (sources t slots row es) us fit) ∙ sym (field_names-merged us) in
+      let same : merged_names giver_names (givers t es) ≡ field_names fs = ap first_names (giver_names-same t slots row es ∙ names-typed t slots row es us (all-was es ds us ks)) ∙ sym (field_names-merged us) in
       ap (λ (ns : List Bytes). list_any test (each_asked (asked_of_giver (givers t ds)) (first_names ns))) names
       ∙ each-same (asked_of_giver (givers t ds)) (asked_of_giver (givers t es)) fs (merged_names giver_names (givers t es))
-      (λ f found. merge-one n es ds us u h ks fit f [] (subst (λ (z : Ty). path_in (f ∷ []) z ≡ true) (sym k.gives) found))
+      (λ f found. merge-one n es ds us u h ks f [] (subst (λ (z : Ty). path_in (f ∷ []) z ≡ true) (sym k.gives) found))
       (subst (AllByRecursion (λ f. has_name f (field_names fs) ≡ true)) (sym same) (all-own_names (field_names fs)))
 
-  kept-merge : (n : Nullability) (es ds : Trees) (us : List Ty) (u : Ty) → merge_type n us ≡ Ok u → FitsButFaults row t → all_slots_fit slots es ≡ true → KeptAll es ds us → Kept (merge es n) (merge ds n) u
+  kept-merge : (n : Nullability) (es ds : Trees) (us : List Ty) (u : Ty) → merge_type n us ≡ Ok u → KeptAll es ds us → Kept (merge es n) (merge ds n) u
   unfolding typed_of mean asked slots_fit
-  kept-merge n es ds us u h g s ks =
+  kept-merge n es ds us u h ks =
       let a = all-ranked es ds us ks in
       let r = merge-under no_more_nullable narrowing n a.tys us u a.under h in
-      let fit = sources-fit t slots row es us g s (all-was es ds us ks) in
       record {
         was = ap (λ (x : Result (List Ty) Refusal). and_then x (merge_type n)) (all-was es ds us ks) ∙ h;
         ty = r.ty;
@@ -446,7 +450,7 @@ module _ (t : Ty) (slots : Slots) (row : Val) (test : Asking → Bool) (o : Obse
         fitting = all-fitting es ds us ks;
         means = ap merged (all-sources es ds us ks);
         sees = λ path p. still-same (merge ds n) (merge es n) (path_or_each (asked_of_giver (givers t ds)) (merged_names giver_names (givers t ds)) path)
-            (path_or_each (asked_of_giver (givers t es)) (merged_names giver_names (givers t es)) path) refl refl (merge-sees n es ds us u h ks fit path p);
+            (path_or_each (asked_of_giver (givers t es)) (merged_names giver_names (givers t es)) path) refl refl (merge-sees n es ds us u h ks path p);
       }
 
   -- what a pass makes of an expression, kept in its place
@@ -462,110 +466,103 @@ module _ (t : Ty) (slots : Slots) (row : Val) (test : Asking → Bool) (o : Obse
 
   -- a step that keeps each strictly typed node
   abbrev pub KeepsNodes : (Tree → Result Tree Refusal) → Type 0
-  KeepsNodes step = (n : Tree) (u : Ty) → slots_fit slots n ≡ true → typed_of t n ≡ Ok u → Made (step n) n u
+  KeepsNodes step = (n : Tree) (u : Ty) → typed_of t n ≡ Ok u → Made (step n) n u
 
   finished : (step : Tree → Result Tree Refusal) → KeepsNodes step → (r : Result Tree Refusal) (e n : Tree) (u : Ty) → r ≡ step n → Kept e n u → Made r e u
-  finished step s r e n u h k = let m = s n k.ty k.fitting k.typed in record { made = m.made; is = h ∙ m.is; kept = kept-then e n m.made u k m.kept }
+  finished step s r e n u h k = let m = s n k.ty k.typed in record { made = m.made; is = h ∙ m.is; kept = kept-then e n m.made u k m.kept }
 
   mutual
-    unfolding rebuilt typed_of slots_fit
+    unfolding rebuilt typed_of
 
     -- a pass from the leaves up keeps each strictly typed expression where its step does
-    pub rebuilt-kept : (step : Tree → Result Tree Refusal) → KeepsNodes step → FitsButFaults row t → (e : Tree) (u : Ty) → slots_fit slots e ≡ true → typed_of t e ≡ Ok u → Made (rebuilt step e) e u
-    rebuilt-kept step s g root u i h = s root u i h
-    rebuilt-kept step s g (literal c) u i h = s (literal c) u i h
-    rebuilt-kept step s g (get_item f d) u i h =
+    pub rebuilt-kept : (step : Tree → Result Tree Refusal) → KeepsNodes step → (e : Tree) (u : Ty) → typed_of t e ≡ Ok u → Made (rebuilt step e) e u
+    rebuilt-kept step s root u h = s root u h
+    rebuilt-kept step s (literal c) u h = s (literal c) u h
+    rebuilt-kept step s (get_item f d) u h =
         let a = and_then-ok (typed_of t d) (item_type f) u h in
-        let m = rebuilt-kept step s g d a.given i a.was in
+        let m = rebuilt-kept step s d a.given a.was in
         finished step s (rebuilt step (get_item f d)) (get_item f d) (get_item f m.made) u (ap (λ (x : Result Tree Refusal). and_then x (λ c. step (get_item f c))) m.is)
         (kept-get_item f d m.made a.given u a.gave m.kept)
-    rebuilt-kept step s g (binary l op r) u i h =
-        let parts = and_parts (slots_fit slots l) (slots_fit slots r) i in
+    rebuilt-kept step s (binary l op r) u h =
         let a = and_then-ok (typed_of t l) (λ x. and_then (typed_of t r) (binary_type op x)) u h in
         let b = and_then-ok (typed_of t r) (binary_type op a.given) u a.gave in
-        let m = rebuilt-kept step s g l a.given parts.0 a.was in
-        let k = rebuilt-kept step s g r b.given parts.1 b.was in
+        let m = rebuilt-kept step s l a.given a.was in
+        let k = rebuilt-kept step s r b.given b.was in
         finished step s (rebuilt step (binary l op r)) (binary l op r) (binary m.made op k.made) u
         (ap (λ (x : Result Tree Refusal). and_then x (λ c. and_then (rebuilt step r) (λ d. step (binary c op d)))) m.is ∙ ap (λ (x : Result Tree Refusal). and_then x (λ d. step (binary m.made op d))) k.is)
         (kept-binary op l m.made r k.made a.given b.given u b.gave m.kept k.kept)
-    rebuilt-kept step s g (not_of d) u i h =
+    rebuilt-kept step s (not_of d) u h =
         let a = and_then-ok (typed_of t d) not_type u h in
-        let m = rebuilt-kept step s g d a.given i a.was in
+        let m = rebuilt-kept step s d a.given a.was in
         finished step s (rebuilt step (not_of d)) (not_of d) (not_of m.made) u (ap (λ (x : Result Tree Refusal). and_then x (λ c. step (not_of c))) m.is) (kept-not d m.made a.given u a.gave m.kept)
-    rebuilt-kept step s g (is_null_of d) u i h =
+    rebuilt-kept step s (is_null_of d) u h =
         let a = and_then-ok (typed_of t d) (λ x. Ok (bool_ty NonNullable)) u h in
-        let m = rebuilt-kept step s g d a.given i a.was in
+        let m = rebuilt-kept step s d a.given a.was in
         finished step s (rebuilt step (is_null_of d)) (is_null_of d) (is_null_of m.made) u (ap (λ (x : Result Tree Refusal). and_then x (λ c. step (is_null_of c))) m.is)
         (subst (Kept (is_null_of d) (is_null_of m.made)) (Ok-same (Ok u) (bool_ty NonNullable) u (sym a.gave) refl) (kept-is_null d m.made a.given m.kept))
-    rebuilt-kept step s g (like d p negated fold_case) u i h =
-        let parts = and_parts (slots_fit slots d) (slots_fit slots p) i in
+    rebuilt-kept step s (like d p negated fold_case) u h =
         let a = and_then-ok (typed_of t d) (λ x. and_then (typed_of t p) (like_type x)) u h in
         let b = and_then-ok (typed_of t p) (like_type a.given) u a.gave in
-        let m = rebuilt-kept step s g d a.given parts.0 a.was in
-        let k = rebuilt-kept step s g p b.given parts.1 b.was in
+        let m = rebuilt-kept step s d a.given a.was in
+        let k = rebuilt-kept step s p b.given b.was in
         finished step s (rebuilt step (like d p negated fold_case)) (like d p negated fold_case) (like m.made k.made negated fold_case) u
         (ap (λ (x : Result Tree Refusal). and_then x (λ c. and_then (rebuilt step p) (λ q. step (like c q negated fold_case)))) m.is
         ∙ ap (λ (x : Result Tree Refusal). and_then x (λ q. step (like m.made q negated fold_case))) k.is)
         (kept-like negated fold_case d m.made p k.made a.given b.given u b.gave m.kept k.kept)
-    rebuilt-kept step s g (between d lower upper options) u i h =
-        let parts = and_parts (slots_fit slots d) (slots_fit slots lower && slots_fit slots upper) i in
-        let more = and_parts (slots_fit slots lower) (slots_fit slots upper) parts.1 in
+    rebuilt-kept step s (between d lower upper options) u h =
         let a = and_then-ok (typed_of t d) (λ x. and_then (typed_of t lower) (λ y. and_then (typed_of t upper) (between_type x y))) u h in
         let b = and_then-ok (typed_of t lower) (λ y. and_then (typed_of t upper) (between_type a.given y)) u a.gave in
         let c = and_then-ok (typed_of t upper) (between_type a.given b.given) u b.gave in
-        let m = rebuilt-kept step s g d a.given parts.0 a.was in
-        let k = rebuilt-kept step s g lower b.given more.0 b.was in
-        let l = rebuilt-kept step s g upper c.given more.1 c.was in
+        let m = rebuilt-kept step s d a.given a.was in
+        let k = rebuilt-kept step s lower b.given b.was in
+        let l = rebuilt-kept step s upper c.given c.was in
         finished step s (rebuilt step (between d lower upper options)) (between d lower upper options) (between m.made k.made l.made options) u
         (ap (λ (x : Result Tree Refusal). and_then x (λ e. and_then (rebuilt step lower) (λ f. and_then (rebuilt step upper) (λ j. step (between e f j options))))) m.is
         ∙ (ap (λ (x : Result Tree Refusal). and_then x (λ f. and_then (rebuilt step upper) (λ j. step (between m.made f j options)))) k.is
         ∙ ap (λ (x : Result Tree Refusal). and_then x (λ j. step (between m.made k.made j options))) l.is))
         (kept-between options d m.made lower k.made upper l.made a.given b.given c.given u c.gave m.kept k.kept l.kept)
-    rebuilt-kept step s g (cast d target) u i h =
+    rebuilt-kept step s (cast d target) u h =
         let a = and_then-ok (typed_of t d) (cast_type target) u h in
-        let m = rebuilt-kept step s g d a.given i a.was in
+        let m = rebuilt-kept step s d a.given a.was in
         finished step s (rebuilt step (cast d target)) (cast d target) (cast m.made target) u (ap (λ (x : Result Tree Refusal). and_then x (λ c. step (cast c target))) m.is)
         (kept-cast target d m.made a.given u a.gave m.kept)
-    rebuilt-kept step s g (list_contains l v) u i h =
-        let parts = and_parts (slots_fit slots l) (slots_fit slots v) i in
+    rebuilt-kept step s (list_contains l v) u h =
         let a = and_then-ok (typed_of t l) (λ x. and_then (typed_of t v) (contains_type x)) u h in
         let b = and_then-ok (typed_of t v) (contains_type a.given) u a.gave in
-        let m = rebuilt-kept step s g l a.given parts.0 a.was in
-        let k = rebuilt-kept step s g v b.given parts.1 b.was in
+        let m = rebuilt-kept step s l a.given a.was in
+        let k = rebuilt-kept step s v b.given b.was in
         finished step s (rebuilt step (list_contains l v)) (list_contains l v) (list_contains m.made k.made) u
         (ap (λ (x : Result Tree Refusal). and_then x (λ c. and_then (rebuilt step v) (λ d. step (list_contains c d)))) m.is ∙ ap (λ (x : Result Tree Refusal). and_then x (λ d. step (list_contains m.made d))) k.is)
         (kept-contains l m.made v k.made a.given b.given u b.gave m.kept k.kept)
-    rebuilt-kept step s g (pack names es n) u i h =
+    rebuilt-kept step s (pack names es n) u h =
         let a = and_then-ok (all_typed t es) (pack_type names n) u h in
-        let m = all_rebuilt-kept step s g es a.given i a.was in
+        let m = all_rebuilt-kept step s es a.given a.was in
         finished step s (rebuilt step (pack names es n)) (pack names es n) (pack names m.made n) u (ap (λ (x : Result Trees Refusal). and_then x (λ ds. step (pack names ds n))) m.is)
         (kept-pack names n es m.made a.given u a.gave m.kept)
-    rebuilt-kept step s g (merge es n) u i h =
+    rebuilt-kept step s (merge es n) u h =
         let a = and_then-ok (all_typed t es) (merge_type n) u h in
-        let m = all_rebuilt-kept step s g es a.given i a.was in
+        let m = all_rebuilt-kept step s es a.given a.was in
         finished step s (rebuilt step (merge es n)) (merge es n) (merge m.made n) u (ap (λ (x : Result Trees Refusal). and_then x (λ ds. step (merge ds n))) m.is)
-        (kept-merge n es m.made a.given u a.gave g i m.kept)
-    rebuilt-kept step s g (select c d) u i h =
+        (kept-merge n es m.made a.given u a.gave m.kept)
+    rebuilt-kept step s (select c d) u h =
         let a = and_then-ok (typed_of t d) (select_type c) u h in
-        let m = rebuilt-kept step s g d a.given i a.was in
+        let m = rebuilt-kept step s d a.given a.was in
         finished step s (rebuilt step (select c d)) (select c d) (select c m.made) u (ap (λ (x : Result Tree Refusal). and_then x (λ b. step (select c b))) m.is) (kept-select c d m.made a.given u a.gave m.kept)
-    rebuilt-kept step s g (dynamic d op j slot default) u i h =
-        let parts = and_parts (held_fits (slot_held slots j) slot) (slots_fit slots d) i in
+    rebuilt-kept step s (dynamic d op j slot default) u h =
         let a = and_then-ok (typed_of t d) (dynamic_type slot) u h in
-        let m = rebuilt-kept step s g d a.given parts.1 a.was in
+        let m = rebuilt-kept step s d a.given a.was in
         finished step s (rebuilt step (dynamic d op j slot default)) (dynamic d op j slot default) (dynamic m.made op j slot default) u
-        (ap (λ (x : Result Tree Refusal). and_then x (λ b. step (dynamic b op j slot default))) m.is) (kept-dynamic op j slot default d m.made a.given u a.gave parts.0 m.kept)
+        (ap (λ (x : Result Tree Refusal). and_then x (λ b. step (dynamic b op j slot default))) m.is) (kept-dynamic op j slot default d m.made a.given u a.gave m.kept)
 
-    pub all_rebuilt-kept : (step : Tree → Result Tree Refusal) → KeepsNodes step → FitsButFaults row t → (es : Trees) (us : List Ty) → all_slots_fit slots es ≡ true → all_typed t es ≡ Ok us
+    pub all_rebuilt-kept : (step : Tree → Result Tree Refusal) → KeepsNodes step → (es : Trees) (us : List Ty) → all_typed t es ≡ Ok us
         → AllMade (all_rebuilt step es) es us
-    all_rebuilt-kept step s g no_trees us i h =
+    all_rebuilt-kept step s no_trees us h =
         record { made = no_trees; is = refl; kept = subst (KeptAll no_trees no_trees) (Ok-same (Ok us) [] us (sym h) refl) all_kept }
-    all_rebuilt-kept step s g (tree d ds) us i h =
-        let parts = and_parts (slots_fit slots d) (all_slots_fit slots ds) i in
+    all_rebuilt-kept step s (tree d ds) us h =
         let a = and_then-ok (typed_of t d) (λ x. and_then (all_typed t ds) (λ xs. Ok (x ∷ xs))) us h in
         let b = and_then-ok (all_typed t ds) (λ xs. Ok (a.given ∷ xs)) us a.gave in
-        let m = rebuilt-kept step s g d a.given parts.0 a.was in
-        let k = all_rebuilt-kept step s g ds b.given parts.1 b.was in
+        let m = rebuilt-kept step s d a.given a.was in
+        let k = all_rebuilt-kept step s ds b.given b.was in
         record {
           made = tree m.made k.made;
           is = ap (λ (x : Result Tree Refusal). and_then x (λ c. and_then (all_rebuilt step ds) (λ cs. Ok (tree c cs)))) m.is ∙ ap (λ (x : Result Trees Refusal). and_then x (λ cs. Ok (tree m.made cs))) k.is;

@@ -47,58 +47,57 @@ module _ (t : Ty) (slots : Slots) (row : Val) (test : Asking → Bool) (o : Obse
     pub value : Tree
     pub found : packed_value f names es ≡ Some value
     pub typed : typed_of t value ≡ Ok w
-    pub fitting : slots_fit slots value ≡ true
+    pub fitting : all_slots_fit slots es ≡ true → slots_fit slots value ≡ true
     pub means : mean t slots row value ≡ unwrap_or (member_named f (zip_members names (meanings t slots row es))) fault
     pub sees : (path : List Bytes) → seen test t value path ≡ list_any test (asked_in_pack t names es (f ∷ path))
 
-  valued-first : (f : Bytes) (names : List Bytes) (es : Trees) (us : List Ty) (w : Ty) → all_typed t es ≡ Ok us → all_slots_fit slots es ≡ true → field_type f (zipped names us) ≡ Some w → Valued f names es w
+  valued-first : (f : Bytes) (names : List Bytes) (es : Trees) (us : List Ty) (w : Ty) → all_typed t es ≡ Ok us → field_type f (zipped names us) ≡ Some w → Valued f names es w
   unfolding typed_of mean asked slots_fit
-  valued-first f [] es us w h s e = let no : ⊥ = cc in absurd no
-  valued-first f (g ∷ names) es [] w h s e = let no : ⊥ = cc in absurd no
-  valued-first f (g ∷ names) no_trees (u ∷ us) w h s e = let no : ⊥ = cc in absurd no
-  valued-first f (g ∷ names) (tree d ds) (v ∷ vs) w h s e =
+  valued-first f [] es us w h e = let no : ⊥ = cc in absurd no
+  valued-first f (g ∷ names) es [] w h e = let no : ⊥ = cc in absurd no
+  valued-first f (g ∷ names) no_trees (u ∷ us) w h e = let no : ⊥ = cc in absurd no
+  valued-first f (g ∷ names) (tree d ds) (v ∷ vs) w h e =
       let a = and_then-ok (typed_of t d) (λ x. and_then (all_typed t ds) (λ xs. Ok (x ∷ xs))) (v ∷ vs) h in
       let b = and_then-ok (all_typed t ds) (λ xs. Ok (a.given ∷ xs)) (v ∷ vs) a.gave in
       let same : a.given ∷ b.given ≡ v ∷ vs = Ok-same (Ok (v ∷ vs)) (a.given ∷ b.given) (v ∷ vs) (sym b.gave) refl in
       let head : a.given ≡ v = cc in
       let tail : b.given ≡ vs = cc in
-      let parts = and_parts (slots_fit slots d) (all_slots_fit slots ds) s in
-      by-test (bytes_eq f g) refl (a.was ∙ ap (λ (z : Ty). Ok z) head) parts.0 e (valued-first f names ds vs w (b.was ∙ ap (λ (z : List Ty). Ok z) tail) parts.1)
+      by-test (bytes_eq f g) refl (a.was ∙ ap (λ (z : Ty). Ok z) head) e (valued-first f names ds vs w (b.was ∙ ap (λ (z : List Ty). Ok z) tail))
     where
-      by-test : (x : Bool) → bytes_eq f g ≡ x → typed_of t d ≡ Ok v → slots_fit slots d ≡ true → cond x (Some v) (field_type f (zipped names vs)) ≡ Some w
+      by-test : (x : Bool) → bytes_eq f g ≡ x → typed_of t d ≡ Ok v → cond x (Some v) (field_type f (zipped names vs)) ≡ Some w
           → (field_type f (zipped names vs) ≡ Some w → Valued f names ds w) → Valued f (g ∷ names) (tree d ds) w
-      by-test true j k i q r =
+      by-test true j k q r =
           let own : v ≡ w = cc in
           record {
             value = d;
             found = rw j refl;
             typed = k ∙ ap (λ (z : Ty). Ok z) own;
-            fitting = i;
+            fitting = λ s. (and_parts (slots_fit slots d) (all_slots_fit slots ds) s).0;
             means = rw j refl;
             sees = λ path. rw j refl;
           }
-      by-test false j k i q r =
+      by-test false j k q r =
           let x = r q in
           record {
             value = x.value;
             found = rw j x.found;
             typed = x.typed;
-            fitting = x.fitting;
+            fitting = λ s. x.fitting (and_parts (slots_fit slots d) (all_slots_fit slots ds) s).1;
             means = rw j x.means;
             sees = λ path. rw j (x.sees path);
           }
 
-  pack-field : (f : Bytes) (names : List Bytes) (es : Trees) (n : Nullability) (u : Ty) → slots_fit slots (get_item f (pack names es n)) ≡ true → typed_of t (get_item f (pack names es n)) ≡ Ok u
+  pack-field : (f : Bytes) (names : List Bytes) (es : Trees) (n : Nullability) (u : Ty) → typed_of t (get_item f (pack names es n)) ≡ Ok u
       → Made t slots row test o (known_field (packed_value f names es)) (get_item f (pack names es n)) u
   unfolding typed_of mean asked slots_fit
-  pack-field f names es n u s h =
+  pack-field f names es n u h =
       let a = and_then-ok (typed_of t (pack names es n)) (item_type f) u h in
       let b = and_then-ok (all_typed t es) (pack_type names n) a.given a.was in
       let struct = pack_type-ok names n b.given a.given b.gave in
       let i = item_type-ok f a.given u a.gave in
       let both : struct_ty (zipped names b.given) n ≡ struct_ty i.fields i.nullability = sym struct ∙ i.is in
       let fields : zipped names b.given ≡ i.fields = cc in
-      let x = valued-first f names es b.given i.own b.was s (ap (field_type f) fields ∙ i.found) in
+      let x = valued-first f names es b.given i.own b.was (ap (field_type f) fields ∙ i.found) in
       record {
         made = x.value;
         is = ap known_field x.found;
@@ -116,14 +115,14 @@ module _ (t : Ty) (slots : Slots) (row : Val) (test : Asking → Bool) (o : Obse
       }
 
   field_of_pack-keeps : KeepsNodes t slots row test o field_of_pack
-  field_of_pack-keeps (get_item f (pack names es n)) u s h = pack-field f names es n u s h
-  field_of_pack-keeps n u s h = record { made = n; is = refl; kept = kept-own t slots row test o n u h s }
+  field_of_pack-keeps (get_item f (pack names es n)) u h = pack-field f names es n u h
+  field_of_pack-keeps n u h = record { made = n; is = refl; kept = kept-own t slots row test o n u h }
 
 pub without_packed_fields-kept : MakesKept (λ t e. without_packed_fields e)
-without_packed_fields-kept t slots row test o e u g s h = rebuilt-kept t slots row test o field_of_pack (field_of_pack-keeps t slots row test o) g e u s h
+without_packed_fields-kept t slots row test o e u g h = rebuilt-kept t slots row test o field_of_pack (field_of_pack-keeps t slots row test o) e u h
 
 pub ranged-kept : MakesKept (λ t e. Ok (ranged e))
-ranged-kept t slots row test o e u g s h = record {
+ranged-kept t slots row test o e u g h = record {
   made = ranged e;
   is = refl;
   kept = record {
@@ -131,7 +130,7 @@ ranged-kept t slots row test o e u g s h = record {
     ty = u;
     typed = ranges_typed t e u h;
     narrow = under-own no_more_nullable narrowing u;
-    fitting = ranges-fitting slots e ∙ s;
+    fitting = λ s. ranges-fitting slots e ∙ s;
     means = ranges_mean t slots row e;
     sees = λ path p. ranges-seen t slots row test o e path;
   };

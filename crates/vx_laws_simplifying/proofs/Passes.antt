@@ -14,13 +14,14 @@ use Rattle.vx_semantics.specs.Slots.{held_fits, slots_fit, all_slots_fit}
 use Rattle.vx_semantics.specs.Breaks.{by_sum}
 use Rattle.vx_semantics.specs.Asked.{Asking}
 use Rattle.vx_laws.proofs.Inverting.{Ok-same}
-use Rattle.vx_laws.proofs.Preserving.{FitsButFaults}
 use Rattle.vx_laws.proofs.Structs.{members-fit, struct-fits}
 use Rattle.vx_laws.proofs.Paths.{in_option, path_in}
 use Rattle.vx_laws_simplifying.proofs.Observing.{Observes, breaking, is_column, breaking-observes, is_column-observes, breaks-kept, columns-kept, asked_columns-kept}
 use Rattle.vx_laws_simplifying.specs.Keeping.{Pass, has_path, KeepsType, KeepsColumns, KeepsAskedColumns, KeepsSlots, KeepsMeaning, KeepsBreaks}
 use Rattle.vx_laws_simplifying.proofs.Narrows.{narrow-narrows}
 use Rattle.vx_laws_simplifying.proofs.Kept.{Kept, kept-then, Made}
+use Rattle.vx_laws.specs.Values.{plain_nullable, fields_nullable}
+use Rattle.vx_laws.proofs.AnySlots.{FitsButNulls, fits-but_nulls}
 
 path_in-has : (path : List Bytes) (u : Ty) → path_in path u ≡ has_path path u
 path_in-has [] u = refl
@@ -42,18 +43,18 @@ mutual
   some_members (field f t fs) = member f (some_row t) (some_members fs)
 
 mutual
-  unfolding fits_but_for_faults some_row
+  unfolding fits_but_for_faults some_row plain_nullable
 
-  pub some_row-fits : (t : Ty) → FitsButFaults (some_row t) t
+  pub some_row-fits : (t : Ty) → FitsButNulls (some_row t) t
   some_row-fits (list_ty e n) = refl
-  some_row-fits (struct_ty fs n) = struct-fits (some_members fs) fs n (some_members-fit fs)
+  some_row-fits (struct_ty fs n) = struct-fits (some_members fs) (fields_nullable fs) n (some_members-fit fs)
   some_row-fits (bool_ty n) = refl
   some_row-fits (int_ty p n) = refl
   some_row-fits (text_ty n) = refl
 
-  some_members-fit : (fs : Fields) → members_fit_but_for_faults (some_members fs) fs ≡ true
+  some_members-fit : (fs : Fields) → members_fit_but_for_faults (some_members fs) (fields_nullable fs) ≡ true
   some_members-fit no_fields = refl
-  some_members-fit (field f t fs) = members-fit f (some_row t) (some_members fs) t fs (some_row-fits t) (some_members-fit fs)
+  some_members-fit (field f t fs) = members-fit f (some_row t) (some_members fs) (plain_nullable t) (fields_nullable fs) (some_row-fits t) (some_members-fit fs)
 
 none-held : (k : ℕ) → slot_held [] k ≡ None
 none-held k = refl
@@ -88,13 +89,13 @@ mutual
 abbrev pub MakesKept : Pass → Type 0
 MakesKept pass =
     (t : Ty) (slots : Slots) (row : Val) (test : Asking → Bool) (o : Observes t slots row test) (e : Tree) (u : Ty)
-    → FitsButFaults row t → slots_fit slots e ≡ true → typed_of t e ≡ Ok u → Made t slots row test o (pass t e) e u
+    → FitsButNulls row t → typed_of t e ≡ Ok u → Made t slots row test o (pass t e) e u
 
 -- one pass after another
 pub passes-then : (first second : Pass) → MakesKept first → MakesKept second → MakesKept (λ t e. and_then (first t e) (second t))
-passes-then first second p q t slots row test o e u g s h =
-    let m = p t slots row test o e u g s h in
-    let k = q t slots row test o m.made m.kept.ty g m.kept.fitting m.kept.typed in
+passes-then first second p q t slots row test o e u g h =
+    let m = p t slots row test o e u g h in
+    let k = q t slots row test o m.made m.kept.ty g m.kept.typed in
     record {
       made = k.made;
       is = ap (λ (x : Result Tree Refusal). and_then x (second t)) m.is ∙ k.is;
@@ -108,13 +109,13 @@ made-kept t slots row test o r e u d m h = subst (λ (z : Tree). Kept t slots ro
 pub keeps_type : (pass : Pass) → MakesKept pass → KeepsType pass
 keeps_type pass p t e u h =
     let o = breaking-observes by_sum t [] (some_row t) in
-    let m = p t [] (some_row t) (breaking by_sum t [] (some_row t)) o e u (some_row-fits t) (no_slots-fit e) h in
+    let m = p t [] (some_row t) (breaking by_sum t [] (some_row t)) o e u (some_row-fits t) h in
     (m.made, m.kept.ty, m.is, m.kept.typed, narrow-narrows m.kept.ty u m.kept.narrow)
 
 pub keeps_columns : (pass : Pass) → MakesKept pass → KeepsColumns pass
 keeps_columns pass p t e u d h i path c k =
     let o = is_column-observes c t [] (some_row t) in
-    let m = made-kept t [] (some_row t) (is_column c) o (pass t e) e u d (p t [] (some_row t) (is_column c) o e u (some_row-fits t) (no_slots-fit e) h) i in
+    let m = made-kept t [] (some_row t) (is_column c) o (pass t e) e u d (p t [] (some_row t) (is_column c) o e u (some_row-fits t) h) i in
     columns-kept t e d path c (m.sees path (path_in-has path u ∙ k))
 
 pub keeps_asked_columns : (pass : Pass) → MakesKept pass → KeepsAskedColumns pass
@@ -124,15 +125,15 @@ pub keeps_slots : (pass : Pass) → MakesKept pass → KeepsSlots pass
 keeps_slots pass p t slots e u d h i s =
     let row = some_row t in
     let o = breaking-observes by_sum t slots row in
-    (made-kept t slots row (breaking by_sum t slots row) o (pass t e) e u d (p t slots row (breaking by_sum t slots row) o e u (some_row-fits t) s h) i).fitting
+    (made-kept t slots row (breaking by_sum t slots row) o (pass t e) e u d (p t slots row (breaking by_sum t slots row) o e u (some_row-fits t) h) i).fitting s
 
 pub keeps_meaning : (pass : Pass) → MakesKept pass → KeepsMeaning pass
-keeps_meaning pass p t slots row e u d h i g s =
+keeps_meaning pass p t slots row e u d h i g =
     let o = breaking-observes by_sum t slots row in
-    (made-kept t slots row (breaking by_sum t slots row) o (pass t e) e u d (p t slots row (breaking by_sum t slots row) o e u g s h) i).means
+    (made-kept t slots row (breaking by_sum t slots row) o (pass t e) e u d (p t slots row (breaking by_sum t slots row) o e u (fits-but_nulls row t g) h) i).means
 
 pub keeps_breaks : (pass : Pass) → MakesKept pass → KeepsBreaks pass
-keeps_breaks pass p t slots row e u d h i g s cause path k =
+keeps_breaks pass p t slots row e u d h i g cause path k =
     let o = breaking-observes cause t slots row in
-    let m = made-kept t slots row (breaking cause t slots row) o (pass t e) e u d (p t slots row (breaking cause t slots row) o e u g s h) i in
+    let m = made-kept t slots row (breaking cause t slots row) o (pass t e) e u d (p t slots row (breaking cause t slots row) o e u (fits-but_nulls row t g) h) i in
     breaks-kept cause t slots row e d path (m.sees path (path_in-has path u ∙ k))

@@ -43,16 +43,16 @@ KeepsSlots pass =
     (t : Ty) (slots : Slots) (e : Tree) (u : Ty) (d : Tree)
     → typed_of t e ≡ Ok u → pass t e ≡ Ok d → slots_fit slots e ≡ true → slots_fit slots d ≡ true
 
--- what it makes means the same at each row that fits but for faults, with slots that fit
+-- what it makes means the same at each row that fits but for faults, with any slots
 abbrev pub KeepsMeaning : Pass → Type 0
 KeepsMeaning pass =
     (t : Ty) (slots : Slots) (row : Val) (e : Tree) (u : Ty) (d : Tree)
-    → typed_of t e ≡ Ok u → pass t e ≡ Ok d → fits_but_for_faults row t ≡ true → slots_fit slots e ≡ true
+    → typed_of t e ≡ Ok u → pass t e ≡ Ok d → fits_but_for_faults row t ≡ true
     → mean t slots row d ≡ mean t slots row e
 
 -- there a node that it asks along a path of the type breaks by a cause where one does that was asked
 abbrev pub KeepsBreaks : Pass → Type 0
 KeepsBreaks pass =
     (t : Ty) (slots : Slots) (row : Val) (e : Tree) (u : Ty) (d : Tree)
-    → typed_of t e ≡ Ok u → pass t e ≡ Ok d → fits_but_for_faults row t ≡ true → slots_fit slots e ≡ true
+    → typed_of t e ≡ Ok u → pass t e ≡ Ok d → fits_but_for_faults row t ≡ true
     → (cause : Cause) (path : List Bytes) → has_path path u ≡ true → breaks_along cause t slots row d path ≡ breaks_along cause t slots row e path

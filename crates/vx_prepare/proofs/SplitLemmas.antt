@@ -121,7 +121,7 @@ module _ (laws : Laws) (fs : Fields) (slots : Slots) (e : Tree) (u : Ty) (d : Tr
   asked_split : (cause : Cause) → asked_breaks_by cause (row_type fs) slots e rows ≡ (list_any (part_breaks cause) s.partitions || list_any (root_breaks cause) rows)
   asked_split cause =
       sym (any_fit (row_type fs) (λ row. split_nodes_break cause (row_type fs) slots row s) (λ row. list_any (breaks_by cause (row_type fs) slots row) (asked_nodes (row_type fs) e))
-      (λ row fits. laws.nodes_break fs slots row e u d s cause splits (laws.fits row (row_type fs) fits) fit) rows have.fit)
+      (λ row fits. laws.nodes_break fs slots row e u d s cause splits (laws.fits row (row_type fs) fits)) rows have.fit)
       ∙ any_or (λ row. list_any (λ (p : Partition Bytes). node_breaks_at cause (row_type fs) slots row p.expression) s.partitions) (root_breaks cause) rows
       ∙ ap (λ b. b || list_any (root_breaks cause) rows) (any_swap (λ row. λ (p : Partition Bytes). node_breaks_at cause (row_type fs) slots row p.expression) rows s.partitions)
 
@@ -158,7 +158,7 @@ module _ (laws : Laws) (fs : Fields) (slots : Slots) (e : Tree) (u : Ty) (d : Tr
       let typed = laws.root_typed fs e u d s splits in
       let narrow : narrows c.ty u ≡ true = ap (λ x. narrows x u) o.0 ∙ typed.2 in
       let means = o.1 ∙ map_fit (row_type fs) (λ row. mean (partitions_type (λ c. c) s.partitions) slots (partitions_row (λ c. c) (row_type fs) slots row s.partitions) s.root_expression)
-      (λ row. mean (row_type fs) slots row e) (λ row fits. laws.recombine fs slots row e u d s splits (laws.fits row (row_type fs) fits) fit) rows have.fit in
+      (λ row. mean (row_type fs) slots row e) (λ row fits. laws.recombine fs slots row e u d s splits (laws.fits row (row_type fs) fits)) rows have.fit in
       let quiet = λ (cause : Cause). both_false cause (list_any (part_breaks cause) s.partitions) (list_any (root_breaks cause) rows) (asked_split cause) (none_broken s.partitions cs made cause) (o.2 cause) in
       let none = asked_by_cause (row_type fs) slots e rows ∙ ap (λ b. b || asked_breaks_by by_cast (row_type fs) slots e rows) (quiet by_sum) ∙ quiet by_cast in
       (narrow, means, none)
