@@ -3,7 +3,6 @@ use Rattle.std.proofs.Common.{◌≡◌, ℕ, refl, ap, sym, ◌∙◌, Bool, tr
 use Rattle.std.specs.Prelude.{unwrap_or, option_map, map}
 use Rattle.std.specs.Str.{bytes_eq}
 use Rattle.std.specs.List.{flat_map, AllByRecursion}
-use Rattle.std.proofs.lemmas.Bool.{and_parts}
 use Rattle.vx_dtype.specs.declared.Nullability.{Nullability}
 use Rattle.vx_dtype.specs.declared.Nullability.TheVariants.{NonNullable}
 use Rattle.vx_dtype.specs.declared.CompareOperator.{CompareOperator}
@@ -29,12 +28,13 @@ use Rattle.vx_semantics.specs.Merging.{merged_names}
 use Rattle.vx_semantics.specs.Asked.{Asking, asks_node, asks_column, giver_names, givers, each_asked, asked, asked_in_pack, asked_of_giver}
 use Rattle.vx_semantics.specs.Tables.{row_type}
 use Rattle.vx_semantics.specs.Paths.{path_value}
-use Rattle.vx_expr.specs.Slots.{slot_held}
-use Rattle.vx_semantics.specs.Slots.{held_fits, slots_fit, all_slots_fit}
 use Rattle.vx_laws.proofs.Inverting.{and_then-ok, Ok-same}
-use Rattle.vx_laws.proofs.Structs.{IsStructOf, struct-value, item_type-ok, select_type-ok, select3-fits, AllSourcesFit, merged-fits, has_field, all-own_names, source_names-same, some_gives-same}
-use Rattle.vx_laws.proofs.Preserving.{FitsButFaults, distinct_type-ok, mean-fits, sources-fit}
-use Rattle.vx_laws.proofs.Distinct.{struct-distinct, typed-distinct, field_names-merged, members_at-own}
+use Rattle.vx_laws.specs.Values.{plain_nullable}
+use Rattle.vx_laws.proofs.GivenNames.{gives-typed, names-typed}
+use Rattle.vx_laws.proofs.Structs.{item_type-ok, select_type-ok, has_field, all-own_names}
+use Rattle.vx_laws.proofs.Preserving.{distinct_type-ok}
+use Rattle.vx_laws.proofs.AnySlots.{FitsButNulls, StructButNulls, struct-but_nulls, own-fields, select-but_nulls, mean-but_nulls}
+use Rattle.vx_laws.proofs.Distinct.{struct-distinct, typed-distinct, field_names-merged}
 use Rattle.vx_laws.proofs.Lookups.{merged_fields-type, merged_members-value, select-chosen}
 use Rattle.vx_laws.proofs.Paths.{in_option, path_in, first_of_path, path_in-first, path_in-widened}
 use Rattle.vx_laws.proofs.Merging.{some_gives, merged_type_at-step, merged_value-step, asked_of_giver-step, givers-same, giver_names-same}
@@ -95,13 +95,9 @@ members_at-same [] v w h = refl
 members_at-same (f ∷ names) v w h = ap (λ (x : Val). member f x (members_at names v)) h.0 ∙ ap (member f (field_of f w)) (members_at-same names v w h.1)
 
 -- two structs of the same distinct names with the same fields are the same
-pub same-struct : (v w : Val) (fs : Fields) → IsStructOf v fs → IsStructOf w fs → distinct_names (field_names fs) ≡ true → AllByRecursion (λ f. field_of f v ≡ field_of f w) (field_names fs) → v ≡ w
-same-struct v w fs s r d h =
-    let own : v ≡ struct_val (members_at (field_names fs) v) =
-    s.is ∙ (ap struct_val (sym (members_at-own s.members fs s.fit d)) ∙ ap (λ (z : Val). struct_val (members_at (field_names fs) z)) (sym s.is)) in
-    let other : w ≡ struct_val (members_at (field_names fs) w) =
-    r.is ∙ (ap struct_val (sym (members_at-own r.members fs r.fit d)) ∙ ap (λ (z : Val). struct_val (members_at (field_names fs) z)) (sym r.is)) in
-    own ∙ (ap struct_val (members_at-same (field_names fs) v w h) ∙ sym other)
+pub same-struct : (v w : Val) (fs : Fields) → StructButNulls v fs → StructButNulls w fs → distinct_names (field_names fs) ≡ true → AllByRecursion (λ f. field_of f v ≡ field_of f w) (field_names fs)
+    → v ≡ w
+same-struct v w fs s r d h = sym (own-fields v fs s d) ∙ (ap struct_val (members_at-same (field_names fs) v w h) ∙ own-fields w fs r d)
 
 -- the row itself
 root-names : (columns : Fields) (slots : Slots) (a b : Val) (names : List Bytes) → AllByRecursion (λ f. has_name f (field_names columns) ≡ true) names → AskedAgree columns slots a b (map asks_column names)
@@ -121,12 +117,12 @@ field_type-has f (field g t fs) w h = by-test (bytes_eq f g) h (field_type-has f
     by-test true k r = refl
     by-test false k r = r k
 
-root-agreeing : (columns : Fields) (slots : Slots) (a b : Val) (u : Ty) → FitsButFaults a (row_type columns) → FitsButFaults b (row_type columns) → typed_of (row_type columns) root ≡ Ok u → Agreeing columns slots a b root u
+root-agreeing : (columns : Fields) (slots : Slots) (a b : Val) (u : Ty) → FitsButNulls a (row_type columns) → FitsButNulls b (row_type columns) → typed_of (row_type columns) root ≡ Ok u → Agreeing columns slots a b root u
 unfolding asked mean typed_of
 root-agreeing columns slots a b u h k e [] p q =
     let distinct = struct-distinct columns NonNullable (subst (λ (z : Ty). no_name_twice z ≡ true) (sym (distinct_type-ok (row_type columns) u e)) (typed-distinct (row_type columns) root u e)) in
     record {
-      value = same-struct a b columns (struct-value a columns h) (struct-value b columns k) distinct.names (root-names columns slots a b (field_names columns) (all-own_names (field_names columns)) q);
+      value = same-struct a b columns (struct-but_nulls a columns h) (struct-but_nulls b columns k) distinct.names (root-names columns slots a b (field_names columns) (all-own_names (field_names columns)) q);
       nodes = columns-nodes columns slots a b (field_names columns);
     }
 root-agreeing columns slots a b u h k e (c ∷ path) p q =
@@ -237,14 +233,14 @@ dynamic-agreeing columns slots a b d op k slot default s u x path p q =
     record { value = ap (λ (v : Val). path_value path (dynamic3 op default v (slot_value slots k))) o.value; nodes = (refl, o.nodes) }
 
 -- a selected field
-select-one : (columns : Fields) (slots : Slots) (a b : Val) (c : FieldSelection) (d : Tree) (s u : Ty) → select_type c s ≡ Ok u → FitsButFaults (mean (row_type columns) slots a d) s
-    → FitsButFaults (mean (row_type columns) slots b d) s → Agreeing columns slots a b d s
+select-one : (columns : Fields) (slots : Slots) (a b : Val) (c : FieldSelection) (d : Tree) (s u : Ty) → select_type c s ≡ Ok u → FitsButNulls (mean (row_type columns) slots a d) s
+    → FitsButNulls (mean (row_type columns) slots b d) s → Agreeing columns slots a b d s
     → (f : Bytes) (path : List Bytes) → path_in (f ∷ path) u ≡ true → AskedAgree columns slots a b (asked (row_type columns) d (f ∷ path))
     → Outcome columns slots a b (asked (row_type columns) d (f ∷ path)) (f ∷ path) (select3 c (mean (row_type columns) slots a d)) (select3 c (mean (row_type columns) slots b d))
 select-one columns slots a b c d s u e h g r f path p q =
     let k = select_type-ok c s u e in
-    let v = struct-value (mean (row_type columns) slots a d) k.fields (subst (FitsButFaults (mean (row_type columns) slots a d)) k.is h) in
-    let w = struct-value (mean (row_type columns) slots b d) k.fields (subst (FitsButFaults (mean (row_type columns) slots b d)) k.is g) in
+    let v = struct-but_nulls (mean (row_type columns) slots a d) k.fields (subst (FitsButNulls (mean (row_type columns) slots a d)) k.is h) in
+    let w = struct-but_nulls (mean (row_type columns) slots b d) k.fields (subst (FitsButNulls (mean (row_type columns) slots b d)) k.is g) in
     let first = first_of_path f path (selected_fields c k.fields) (subst (λ (z : Ty). path_in (f ∷ path) z ≡ true) k.gives p) in
     let in_first = select-chosen c f k.fields v.members first.own first.found in
     let in_second = select-chosen c f k.fields w.members first.own first.found in
@@ -256,7 +252,7 @@ select-one columns slots a b c d s u e h g r f path p q =
     record { value = ap (path_value path) own ∙ (o.value ∙ sym (ap (path_value path) other)); nodes = o.nodes }
 
 select-agreeing : (columns : Fields) (slots : Slots) (a b : Val) (c : FieldSelection) (d : Tree) (s u : Ty) → typed_of (row_type columns) (select c d) ≡ Ok u → select_type c s ≡ Ok u
-    → FitsButFaults (mean (row_type columns) slots a d) s → FitsButFaults (mean (row_type columns) slots b d) s → Agreeing columns slots a b d s → Agreeing columns slots a b (select c d) u
+    → FitsButNulls (mean (row_type columns) slots a d) s → FitsButNulls (mean (row_type columns) slots b d) s → Agreeing columns slots a b d s → Agreeing columns slots a b (select c d) u
 unfolding asked mean
 select-agreeing columns slots a b c d s u e g h k r (f ∷ path) p q =
     let o = select-one columns slots a b c d s u g h k r f path p q in record { value = o.value; nodes = (refl, o.nodes) }
@@ -265,8 +261,8 @@ select-agreeing columns slots a b c d s u e g h k r [] p q =
     let fs = selected_fields c i.fields in
     let v = select3 c (mean (row_type columns) slots a d) in
     let w = select3 c (mean (row_type columns) slots b d) in
-    let is = struct-value v fs (subst (FitsButFaults v) i.gives (select3-fits c (mean (row_type columns) slots a d) s u h g)) in
-    let other = struct-value w fs (subst (FitsButFaults w) i.gives (select3-fits c (mean (row_type columns) slots b d) s u k g)) in
+    let is = struct-but_nulls v fs (subst (FitsButNulls v) i.gives (select-but_nulls c (mean (row_type columns) slots a d) s u h g)) in
+    let other = struct-but_nulls w fs (subst (FitsButNulls w) i.gives (select-but_nulls c (mean (row_type columns) slots b d) s u k g)) in
     let distinct = struct-distinct fs NonNullable (subst (λ (z : Ty). no_name_twice z ≡ true) i.gives (typed-distinct (row_type columns) (select c d) u e)) in
     let same = names_in-select (row_type columns) (select c d) u fs NonNullable e i.gives in
     let each = each-outcome columns slots a b (asked (row_type columns) d) fs (given_names (row_type columns) (select c d)) v w
@@ -295,16 +291,15 @@ giver-own columns slots a b d s f path w e p r q = by-type (field_type f (fields
         r (f ∷ path) (path_in-first f path (fields_of s) v j inner) q
 
 givers-agreeing : (columns : Fields) (slots : Slots) (a b : Val) (d : Tree) (ds : Trees) (s : Ty) (us : List Ty) → given_names (row_type columns) d ≡ names_in s
-    → AllSourcesFit (sources (row_type columns) slots a ds) us → AllSourcesFit (sources (row_type columns) slots b ds) us
-    → Agreeing columns slots a b d s → GiversAgreeing columns slots a b ds us → GiversAgreeing columns slots a b (tree d ds) (s ∷ us)
+    → all_typed (row_type columns) ds ≡ Ok us → Agreeing columns slots a b d s → GiversAgreeing columns slots a b ds us → GiversAgreeing columns slots a b (tree d ds) (s ∷ us)
 unfolding mean asked
-givers-agreeing columns slots a b d ds s us named fit other own rest f path w e p q =
+givers-agreeing columns slots a b d ds s us named were own rest f path w e p q =
     let t = row_type columns in
     let xs = sources t slots a ds in
     let ys = sources t slots b ds in
     let here = has_name f (given_names t d) in
-    let gives = some_gives-same f xs us fit in
-    let gives_other = some_gives-same f ys us other in
+    let gives = gives-typed t slots a f ds us were in
+    let gives_other = gives-typed t slots b f ds us were in
     let value = merged_value-step f (record { names = given_names t d; whole = mean t slots a d }) xs
     ∙ ap (λ (x : Bool). cond x (merged_value f xs) (cond here (field_of f (mean t slots a d)) fault)) gives in
     let value_other = merged_value-step f (record { names = given_names t d; whole = mean t slots b d }) ys
@@ -331,11 +326,11 @@ givers-agreeing columns slots a b d ds s us named fit other own rest f path w e 
           subst (λ (x : Bool). NodesSame columns slots a b (cond x (asked t d (f ∷ path)) [])) (sym here) o.nodes,
         )
 
-merge-one : (columns : Fields) (slots : Slots) (a b : Val) (es : Trees) (n : Nullability) (us : List Ty) (u : Ty) → merge_type n us ≡ Ok u → AllSourcesFit (sources (row_type columns) slots a es) us
-    → AllSourcesFit (sources (row_type columns) slots b es) us → GiversAgreeing columns slots a b es us
+merge-one : (columns : Fields) (slots : Slots) (a b : Val) (es : Trees) (n : Nullability) (us : List Ty) (u : Ty) → merge_type n us ≡ Ok u → all_typed (row_type columns) es ≡ Ok us
+    → GiversAgreeing columns slots a b es us
     → (f : Bytes) (path : List Bytes) → path_in (f ∷ path) u ≡ true → AskedAgree columns slots a b (asked_of_giver (givers (row_type columns) es) (f ∷ path))
     → Outcome columns slots a b (asked_of_giver (givers (row_type columns) es) (f ∷ path)) (f ∷ path) (merged (sources (row_type columns) slots a es)) (merged (sources (row_type columns) slots b es))
-merge-one columns slots a b es n us u e h g r f path p q =
+merge-one columns slots a b es n us u e were r f path p q =
     let k = merge_type-ok us n u e in
     let xs = sources (row_type columns) slots a es in
     let ys = sources (row_type columns) slots b es in
@@ -343,40 +338,40 @@ merge-one columns slots a b es n us u e h g r f path p q =
     let found = merged_fields-type (merged_names names_in us) us f first.own first.found in
     let own = first_names (flat_map source_names xs) in
     let other = first_names (flat_map source_names ys) in
-    let in_own : has_name f own ≡ true = ap (λ (z : List Bytes). has_name f (first_names z)) (source_names-same xs us h) ∙ found.name in
-    let in_other : has_name f other ≡ true = ap (λ (z : List Bytes). has_name f (first_names z)) (source_names-same ys us g) ∙ found.name in
+    let in_own : has_name f own ≡ true = ap (λ (z : List Bytes). has_name f (first_names z)) (names-typed (row_type columns) slots a es us were) ∙ found.name in
+    let in_other : has_name f other ≡ true = ap (λ (z : List Bytes). has_name f (first_names z)) (names-typed (row_type columns) slots b es us were) ∙ found.name in
     let done = r f path first.own found.type first.rest q in
     record {
       value = ap (path_value path) (merged_members-value own xs f in_own) ∙ (done.0 ∙ sym (ap (path_value path) (merged_members-value other ys f in_other)));
       nodes = done.1;
     }
 
-merge-struct : (t : Ty) (slots : Slots) (row : Val) (es : Trees) (n : Nullability) (us : List Ty) (u : Ty) → merge_type n us ≡ Ok u → AllSourcesFit (sources t slots row es) us
-    → IsStructOf (merged (sources t slots row es)) (merged_fields_at (merged_names names_in us) us)
-unfolding fits_but_for_faults
-merge-struct t slots row es n us u e h =
-    let k = merge_type-ok us n u e in
+merge-struct : (t : Ty) (slots : Slots) (row : Val) (es : Trees) (n : Nullability) (us : List Ty) (u : Ty) → FitsButNulls row t → typed_of t (merge es n) ≡ Ok u → merge_type n us ≡ Ok u
+    → StructButNulls (merged (sources t slots row es)) (merged_fields_at (merged_names names_in us) us)
+unfolding fits_but_for_faults plain_nullable mean
+merge-struct t slots row es n us u h e g =
     let ss = sources t slots row es in
-    record { members = merged_members (first_names (flat_map source_names ss)) ss; is = refl; fit = subst (FitsButFaults (merged ss)) k.gives (merged-fits n ss us u h e) }
+    let fit = subst (FitsButNulls (merged ss)) (merge_type-ok us n u g).gives (mean-but_nulls t slots row (merge es n) u h e) in
+    record { members = merged_members (first_names (flat_map source_names ss)) ss; is = refl; fit = fit }
 
 merge-agreeing : (columns : Fields) (slots : Slots) (a b : Val) (es : Trees) (n : Nullability) (us : List Ty) (u : Ty) → typed_of (row_type columns) (merge es n) ≡ Ok u → merge_type n us ≡ Ok u
-    → AllSourcesFit (sources (row_type columns) slots a es) us → AllSourcesFit (sources (row_type columns) slots b es) us → GiversAgreeing columns slots a b es us → Agreeing columns slots a b (merge es n) u
+    → all_typed (row_type columns) es ≡ Ok us → FitsButNulls a (row_type columns) → FitsButNulls b (row_type columns) → GiversAgreeing columns slots a b es us → Agreeing columns slots a b (merge es n) u
 unfolding asked mean
-merge-agreeing columns slots a b es n us u e g h k r (f ∷ path) p q =
-    let o = merge-one columns slots a b es n us u g h k r f path p q in record { value = o.value; nodes = (refl, o.nodes) }
-merge-agreeing columns slots a b es n us u e g h k r [] p q =
+merge-agreeing columns slots a b es n us u e g were h k r (f ∷ path) p q =
+    let o = merge-one columns slots a b es n us u g were r f path p q in record { value = o.value; nodes = (refl, o.nodes) }
+merge-agreeing columns slots a b es n us u e g were h k r [] p q =
     let t = row_type columns in
     let i = merge_type-ok us n u g in
     let fs = merged_fields_at (merged_names names_in us) us in
     let xs = sources t slots a es in
     let ys = sources t slots b es in
     let distinct = struct-distinct fs n (subst (λ (z : Ty). no_name_twice z ≡ true) i.gives (typed-distinct t (merge es n) u e)) in
-    let same : merged_names giver_names (givers t es) ≡ field_names fs = ap first_names (giver_names-same t slots a es ∙ source_names-same xs us h) ∙ sym (field_names-merged us) in
+    let same : merged_names giver_names (givers t es) ≡ field_names fs = ap first_names (giver_names-same t slots a es ∙ names-typed t slots a es us were) ∙ sym (field_names-merged us) in
     let each = each-outcome columns slots a b (asked_of_giver (givers t es)) fs (merged_names giver_names (givers t es)) (merged xs) (merged ys)
-    (λ f found one. merge-one columns slots a b es n us u g h k r f [] (subst (λ (z : Ty). path_in (f ∷ []) z ≡ true) (sym i.gives) found) one)
+    (λ f found one. merge-one columns slots a b es n us u g were r f [] (subst (λ (z : Ty). path_in (f ∷ []) z ≡ true) (sym i.gives) found) one)
     (subst (AllByRecursion (λ f. has_name f (field_names fs) ≡ true)) (sym same) (all-own_names (field_names fs))) q in
     record {
-      value = same-struct (merged xs) (merged ys) fs (merge-struct t slots a es n us u g h) (merge-struct t slots b es n us u g k) distinct.names
+      value = same-struct (merged xs) (merged ys) fs (merge-struct t slots a es n us u h e g) (merge-struct t slots b es n us u k e g) distinct.names
           (subst (AllByRecursion (λ f. field_of f (merged xs) ≡ field_of f (merged ys))) same each.values);
       nodes = (refl, each.nodes);
     }
@@ -442,94 +437,86 @@ unfolding asked mean
 literal-agreeing columns slots a b c u path p q = record { value = refl; nodes = (refl, tt) }
 
 mutual
-  unfolding typed_of slots_fit
+  unfolding typed_of
 
-  pub mean-agreeing : (columns : Fields) (slots : Slots) (a b : Val) (e : Tree) (u : Ty) → FitsButFaults a (row_type columns) → FitsButFaults b (row_type columns) → slots_fit slots e ≡ true → typed_of (row_type columns) e ≡ Ok u
+  pub mean-agreeing : (columns : Fields) (slots : Slots) (a b : Val) (e : Tree) (u : Ty) → FitsButNulls a (row_type columns) → FitsButNulls b (row_type columns) → typed_of (row_type columns) e ≡ Ok u
       → Agreeing columns slots a b e u
-  mean-agreeing columns slots a b root u h k s e = root-agreeing columns slots a b u h k e
-  mean-agreeing columns slots a b (literal c) u h k s e = literal-agreeing columns slots a b c u
-  mean-agreeing columns slots a b (get_item f d) u h k s e =
+  mean-agreeing columns slots a b root u h k e = root-agreeing columns slots a b u h k e
+  mean-agreeing columns slots a b (literal c) u h k e = literal-agreeing columns slots a b c u
+  mean-agreeing columns slots a b (get_item f d) u h k e =
       let t = row_type columns in
       let x = and_then-ok (typed_of t d) (item_type f) u e in
-      get_item-agreeing columns slots a b f d x.given u x.gave (mean-agreeing columns slots a b d x.given h k s x.was)
-  mean-agreeing columns slots a b (binary l op r) u h k s e =
+      get_item-agreeing columns slots a b f d x.given u x.gave (mean-agreeing columns slots a b d x.given h k x.was)
+  mean-agreeing columns slots a b (binary l op r) u h k e =
       let t = row_type columns in
-      let parts = and_parts (slots_fit slots l) (slots_fit slots r) s in
       let x = and_then-ok (typed_of t l) (λ z. and_then (typed_of t r) (binary_type op z)) u e in
       let y = and_then-ok (typed_of t r) (binary_type op x.given) u x.gave in
-      binary-agreeing columns slots a b l op r x.given y.given u (mean-agreeing columns slots a b l x.given h k parts.0 x.was) (mean-agreeing columns slots a b r y.given h k parts.1 y.was)
-  mean-agreeing columns slots a b (not_of d) u h k s e =
+      binary-agreeing columns slots a b l op r x.given y.given u (mean-agreeing columns slots a b l x.given h k x.was) (mean-agreeing columns slots a b r y.given h k y.was)
+  mean-agreeing columns slots a b (not_of d) u h k e =
       let t = row_type columns in
       let x = and_then-ok (typed_of t d) not_type u e in
-      not-agreeing columns slots a b d x.given u (mean-agreeing columns slots a b d x.given h k s x.was)
-  mean-agreeing columns slots a b (is_null_of d) u h k s e =
+      not-agreeing columns slots a b d x.given u (mean-agreeing columns slots a b d x.given h k x.was)
+  mean-agreeing columns slots a b (is_null_of d) u h k e =
       let t = row_type columns in
       let x = and_then-ok (typed_of t d) (λ z. Ok (bool_ty NonNullable)) u e in
-      is_null-agreeing columns slots a b d x.given u (mean-agreeing columns slots a b d x.given h k s x.was)
-  mean-agreeing columns slots a b (like l r negated fold_case) u h k s e =
+      is_null-agreeing columns slots a b d x.given u (mean-agreeing columns slots a b d x.given h k x.was)
+  mean-agreeing columns slots a b (like l r negated fold_case) u h k e =
       let t = row_type columns in
-      let parts = and_parts (slots_fit slots l) (slots_fit slots r) s in
       let x = and_then-ok (typed_of t l) (λ z. and_then (typed_of t r) (like_type z)) u e in
       let y = and_then-ok (typed_of t r) (like_type x.given) u x.gave in
-      like-agreeing columns slots a b l r negated fold_case x.given y.given u (mean-agreeing columns slots a b l x.given h k parts.0 x.was) (mean-agreeing columns slots a b r y.given h k parts.1 y.was)
-  mean-agreeing columns slots a b (between d lower upper options) u h k s e =
+      like-agreeing columns slots a b l r negated fold_case x.given y.given u (mean-agreeing columns slots a b l x.given h k x.was) (mean-agreeing columns slots a b r y.given h k y.was)
+  mean-agreeing columns slots a b (between d lower upper options) u h k e =
       let t = row_type columns in
-      let parts = and_parts (slots_fit slots d) (slots_fit slots lower && slots_fit slots upper) s in
-      let more = and_parts (slots_fit slots lower) (slots_fit slots upper) parts.1 in
       let x = and_then-ok (typed_of t d) (λ z. and_then (typed_of t lower) (λ w. and_then (typed_of t upper) (between_type z w))) u e in
       let y = and_then-ok (typed_of t lower) (λ w. and_then (typed_of t upper) (between_type x.given w)) u x.gave in
       let z = and_then-ok (typed_of t upper) (between_type x.given y.given) u y.gave in
-      between-agreeing columns slots a b d lower upper options x.given y.given z.given u (mean-agreeing columns slots a b d x.given h k parts.0 x.was)
-      (mean-agreeing columns slots a b lower y.given h k more.0 y.was) (mean-agreeing columns slots a b upper z.given h k more.1 z.was)
-  mean-agreeing columns slots a b (cast d target) u h k s e =
+      between-agreeing columns slots a b d lower upper options x.given y.given z.given u (mean-agreeing columns slots a b d x.given h k x.was)
+      (mean-agreeing columns slots a b lower y.given h k y.was) (mean-agreeing columns slots a b upper z.given h k z.was)
+  mean-agreeing columns slots a b (cast d target) u h k e =
       let t = row_type columns in
       let x = and_then-ok (typed_of t d) (cast_type target) u e in
-      cast-agreeing columns slots a b d target x.given u (mean-agreeing columns slots a b d x.given h k s x.was)
-  mean-agreeing columns slots a b (list_contains l r) u h k s e =
+      cast-agreeing columns slots a b d target x.given u (mean-agreeing columns slots a b d x.given h k x.was)
+  mean-agreeing columns slots a b (list_contains l r) u h k e =
       let t = row_type columns in
-      let parts = and_parts (slots_fit slots l) (slots_fit slots r) s in
       let x = and_then-ok (typed_of t l) (λ z. and_then (typed_of t r) (contains_type z)) u e in
       let y = and_then-ok (typed_of t r) (contains_type x.given) u x.gave in
-      contains-agreeing columns slots a b l r x.given y.given u (mean-agreeing columns slots a b l x.given h k parts.0 x.was) (mean-agreeing columns slots a b r y.given h k parts.1 y.was)
-  mean-agreeing columns slots a b (pack names es n) u h k s e =
+      contains-agreeing columns slots a b l r x.given y.given u (mean-agreeing columns slots a b l x.given h k x.was) (mean-agreeing columns slots a b r y.given h k y.was)
+  mean-agreeing columns slots a b (pack names es n) u h k e =
       let x = and_then-ok (all_typed (row_type columns) es) (pack_type names n) u e in
-      pack-agreeing columns slots a b names es n x.given u x.gave (packed-agreeing columns slots a b names es x.given h k s x.was)
-  mean-agreeing columns slots a b (merge es n) u h k s e =
+      pack-agreeing columns slots a b names es n x.given u x.gave (packed-agreeing columns slots a b names es x.given h k x.was)
+  mean-agreeing columns slots a b (merge es n) u h k e =
       let t = row_type columns in
       let x = and_then-ok (all_typed t es) (merge_type n) u e in
-      merge-agreeing columns slots a b es n x.given u e x.gave (sources-fit t slots a es x.given h s x.was) (sources-fit t slots b es x.given k s x.was) (merged-agreeing columns slots a b es x.given h k s x.was)
-  mean-agreeing columns slots a b (select c d) u h k s e =
+      merge-agreeing columns slots a b es n x.given u e x.gave x.was h k (merged-agreeing columns slots a b es x.given h k x.was)
+  mean-agreeing columns slots a b (select c d) u h k e =
       let t = row_type columns in
       let x = and_then-ok (typed_of t d) (select_type c) u e in
-      select-agreeing columns slots a b c d x.given u e x.gave (mean-fits t slots a d x.given h s x.was) (mean-fits t slots b d x.given k s x.was) (mean-agreeing columns slots a b d x.given h k s x.was)
-  mean-agreeing columns slots a b (dynamic d op j slot default) u h k s e =
+      select-agreeing columns slots a b c d x.given u e x.gave (mean-but_nulls t slots a d x.given h x.was) (mean-but_nulls t slots b d x.given k x.was) (mean-agreeing columns slots a b d x.given h k x.was)
+  mean-agreeing columns slots a b (dynamic d op j slot default) u h k e =
       let t = row_type columns in
-      let parts = and_parts (held_fits (slot_held slots j) slot) (slots_fit slots d) s in
       let x = and_then-ok (typed_of t d) (dynamic_type slot) u e in
-      dynamic-agreeing columns slots a b d op j slot default x.given u (mean-agreeing columns slots a b d x.given h k parts.1 x.was)
+      dynamic-agreeing columns slots a b d op j slot default x.given u (mean-agreeing columns slots a b d x.given h k x.was)
 
-  packed-agreeing : (columns : Fields) (slots : Slots) (a b : Val) (names : List Bytes) (es : Trees) (us : List Ty) → FitsButFaults a (row_type columns) → FitsButFaults b (row_type columns) → all_slots_fit slots es ≡ true
+  packed-agreeing : (columns : Fields) (slots : Slots) (a b : Val) (names : List Bytes) (es : Trees) (us : List Ty) → FitsButNulls a (row_type columns) → FitsButNulls b (row_type columns)
       → all_typed (row_type columns) es ≡ Ok us → PackAgreeing columns slots a b names es us
-  packed-agreeing columns slots a b names no_trees us h k s e =
+  packed-agreeing columns slots a b names no_trees us h k e =
       subst (λ (z : List Ty). PackAgreeing columns slots a b names no_trees z) (Ok-same (Ok us) [] us (sym e) refl) (pack-none columns slots a b names)
-  packed-agreeing columns slots a b [] (tree d ds) us h k s e = pack-unnamed columns slots a b d ds us
-  packed-agreeing columns slots a b (g ∷ names) (tree d ds) us h k s e =
+  packed-agreeing columns slots a b [] (tree d ds) us h k e = pack-unnamed columns slots a b d ds us
+  packed-agreeing columns slots a b (g ∷ names) (tree d ds) us h k e =
       let t = row_type columns in
-      let parts = and_parts (slots_fit slots d) (all_slots_fit slots ds) s in
       let x = and_then-ok (typed_of t d) (λ z. and_then (all_typed t ds) (λ zs. Ok (z ∷ zs))) us e in
       let y = and_then-ok (all_typed t ds) (λ zs. Ok (x.given ∷ zs)) us x.gave in
       subst (λ (z : List Ty). PackAgreeing columns slots a b (g ∷ names) (tree d ds) z) (Ok-same (Ok us) (x.given ∷ y.given) us (sym y.gave) refl)
-      (pack-more columns slots a b g names d ds x.given y.given (mean-agreeing columns slots a b d x.given h k parts.0 x.was) (packed-agreeing columns slots a b names ds y.given h k parts.1 y.was))
+      (pack-more columns slots a b g names d ds x.given y.given (mean-agreeing columns slots a b d x.given h k x.was) (packed-agreeing columns slots a b names ds y.given h k y.was))
 
-  merged-agreeing : (columns : Fields) (slots : Slots) (a b : Val) (es : Trees) (us : List Ty) → FitsButFaults a (row_type columns) → FitsButFaults b (row_type columns) → all_slots_fit slots es ≡ true
+  merged-agreeing : (columns : Fields) (slots : Slots) (a b : Val) (es : Trees) (us : List Ty) → FitsButNulls a (row_type columns) → FitsButNulls b (row_type columns)
       → all_typed (row_type columns) es ≡ Ok us → GiversAgreeing columns slots a b es us
-  merged-agreeing columns slots a b no_trees us h k s e =
+  merged-agreeing columns slots a b no_trees us h k e =
       subst (λ (z : List Ty). GiversAgreeing columns slots a b no_trees z) (Ok-same (Ok us) [] us (sym e) refl) (λ f path w p i q. let no : ⊥ = cc in absurd no)
-  merged-agreeing columns slots a b (tree d ds) us h k s e =
+  merged-agreeing columns slots a b (tree d ds) us h k e =
       let t = row_type columns in
-      let parts = and_parts (slots_fit slots d) (all_slots_fit slots ds) s in
       let x = and_then-ok (typed_of t d) (λ z. and_then (all_typed t ds) (λ zs. Ok (z ∷ zs))) us e in
       let y = and_then-ok (all_typed t ds) (λ zs. Ok (x.given ∷ zs)) us x.gave in
       subst (λ (z : List Ty). GiversAgreeing columns slots a b (tree d ds) z) (Ok-same (Ok us) (x.given ∷ y.given) us (sym y.gave) refl)
-      (givers-agreeing columns slots a b d ds x.given y.given (ap (λ (r : Result Ty Refusal). names_in (type_or_empty r)) x.was) (sources-fit t slots a ds y.given h parts.1 y.was) (sources-fit t slots b ds y.given k parts.1 y.was)
-      (mean-agreeing columns slots a b d x.given h k parts.0 x.was) (merged-agreeing columns slots a b ds y.given h k parts.1 y.was))
+      (givers-agreeing columns slots a b d ds x.given y.given (ap (λ (r : Result Ty Refusal). names_in (type_or_empty r)) x.was) y.was
+      (mean-agreeing columns slots a b d x.given h k x.was) (merged-agreeing columns slots a b ds y.given h k y.was))

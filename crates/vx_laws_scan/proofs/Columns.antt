@@ -1,5 +1,5 @@
 -- From the asked columns to what rows and tables have in common.
-use Rattle.std.proofs.Common.{◌≡◌, ℕ, suc, refl, ap, sym, ◌∙◌, Bool, true, false, cond, not, ◌||◌, subst, List, [], ◌∷◌, ◌++◌}
+use Rattle.std.proofs.Common.{◌≡◌, ℕ, suc, refl, ap, sym, ◌∙◌, Bool, true, false, cond, not, ◌||◌, subst, List, [], ◌∷◌, ◌++◌, Ok}
 use Rattle.std.specs.Prelude.{map}
 use Rattle.std.specs.Str.{bytes_eq}
 use Rattle.std.specs.List.{list_all, flat_map, filter, AllByRecursion, AllZip}
@@ -12,6 +12,7 @@ use Rattle.vx_dtype.specs.Fits.{val_fits}
 use Rattle.vx_dtype.specs.Logic.{is_true_val}
 use Rattle.vx_dtype.specs.Structs.{field_of}
 use Rattle.vx_expr.specs.Trees.{Tree}
+use Rattle.vx_semantics.specs.Typing.{typed_of}
 use Rattle.vx_semantics.specs.Meaning.{Slots, mean}
 use Rattle.vx_semantics.specs.Breaks.{break_of}
 use Rattle.vx_semantics.specs.Asked.{Asking, asks_node, asks_column, node_in, column_in, asked, asked_nodes, asked_columns}
@@ -20,7 +21,8 @@ use Rattle.vx_semantics.specs.Pruning.{rules_out}
 use Rattle.vx_semantics.specs.Scans.{matching_rows, block_rows, has_rows, reads_in, further_columns}
 use Rattle.vx_laws.proofs.Inverting.{bytes_same, bytes_eq-itself}
 use Rattle.vx_laws.proofs.Fitting.{fits-but_for_faults}
-use Rattle.vx_laws_scan.specs.Agreeing.{AgreeOn, AreAlike, AgreeingRowsMeanTheSame, AgreeingRowsBreakTheSame, BlocksAgree, IsTyped, all_rows_fit, TablesAgree, table_of, AgreeingTablesHaveTheSameRows, AgreeingTablesHaveTheSameReads}
+use Rattle.vx_laws.proofs.AnySlots.{fits-but_nulls}
+use Rattle.vx_laws_scan.specs.Agreeing.{AgreeOn, AreAlike, AgreeingRowsMeanTheSame, AgreeingRowsBreakTheSame, BlocksAgree, all_rows_fit, TablesAgree, table_of, AgreeingTablesHaveTheSameRows, AgreeingTablesHaveTheSameReads}
 use Rattle.vx_laws_scan.proofs.Alike.{AskedAgree, NodesSame, Outcome, mean-agreeing}
 use Rattle.vx_laws_scan.proofs.Keeping.{kept_rows_are_all}
 use Rattle.vx_laws_scan.proofs.BlockReads.{block_reads, reads_by_block}
@@ -61,9 +63,9 @@ alike-asked columns slots e a b h =
     asked-agree columns slots a b (asked t e [])
     (λ c i k. kept-name (λ d. field_of d a ≡ field_of d b) test (field_names columns) c (recursion_from_All (λ d. field_of d a ≡ field_of d b) (asked_columns t e) h) k i)
 
-whole : (columns : Fields) (slots : Slots) (e : Tree) (u : Ty) (a b : Val) → AreAlike columns slots e u a b
+whole : (columns : Fields) (slots : Slots) (e : Tree) (u : Ty) (a b : Val) → AreAlike columns e u a b
     → Outcome columns slots a b (asked (row_type columns) e []) [] (mean (row_type columns) slots a e) (mean (row_type columns) slots b e)
-whole columns slots e u a b h = mean-agreeing columns slots a b e u h.first_fits h.second_fits h.is_typed.fitting h.is_typed.typed [] refl (alike-asked columns slots e a b h.agree)
+whole columns slots e u a b h = mean-agreeing columns slots a b e u (fits-but_nulls a (row_type columns) h.first_fits) (fits-but_nulls b (row_type columns) h.second_fits) h.typed [] refl (alike-asked columns slots e a b h.agree)
 
 pub agreeing_rows_mean : AgreeingRowsMeanTheSame
 agreeing_rows_mean columns slots e u a b h = (whole columns slots e u a b h).value
@@ -83,7 +85,7 @@ agreeing_rows_break columns slots e u a b h =
 abbrev pub SameMeanings : Ty → Slots → Tree → List Val → List Val → Type 0
 SameMeanings t slots e rows others = AllZip (λ a b. mean t slots a e ≡ mean t slots b e) rows others
 
-same-meanings : (columns : Fields) (slots : Slots) (e : Tree) (u : Ty) (rows others : List Val) → IsTyped columns slots e u → list_all (λ row. val_fits row (row_type columns)) rows ≡ true
+same-meanings : (columns : Fields) (slots : Slots) (e : Tree) (u : Ty) (rows others : List Val) → typed_of (row_type columns) e ≡ Ok u → list_all (λ row. val_fits row (row_type columns)) rows ≡ true
     → list_all (λ row. val_fits row (row_type columns)) others ≡ true → AllZip (AgreeOn (asked_columns (row_type columns) e)) rows others → SameMeanings (row_type columns) slots e rows others
 same-meanings columns slots e u [] [] t h k z = tt
 same-meanings columns slots e u [] (b ∷ others) t h k z = absurd z
@@ -92,7 +94,7 @@ same-meanings columns slots e u (a ∷ rows) (b ∷ others) t h k z =
     let x = and_parts (val_fits a (row_type columns)) (list_all (λ row. val_fits row (row_type columns)) rows) h in
     let y = and_parts (val_fits b (row_type columns)) (list_all (λ row. val_fits row (row_type columns)) others) k in (
       agreeing_rows_mean columns slots e u a b
-          (record { is_typed = t; first_fits = fits-but_for_faults a (row_type columns) x.0; second_fits = fits-but_for_faults b (row_type columns) y.0; agree = z.0 }),
+          (record { typed = t; first_fits = fits-but_for_faults a (row_type columns) x.0; second_fits = fits-but_for_faults b (row_type columns) y.0; agree = z.0 }),
       same-meanings columns slots e u rows others t x.1 y.1 z.1,
     )
 
@@ -131,7 +133,7 @@ BlocksSame zones slots t f p n (rows ∷ blocks) (others ∷ more) =
     (rules_out zones slots n f ≡ false → SameMeanings t slots p (matching_rows t slots f rows) (matching_rows t slots f others)) × BlocksSame zones slots t f p (suc n) blocks more
 BlocksSame zones slots t f p n _ _ = ⊥
 
-blocks-same : (zones : Zones) (columns : Fields) (slots : Slots) (f p : Tree) (u w : Ty) (n : ℕ) (blocks others : List (List Val)) → IsTyped columns slots f u → IsTyped columns slots p w
+blocks-same : (zones : Zones) (columns : Fields) (slots : Slots) (f p : Tree) (u w : Ty) (n : ℕ) (blocks others : List (List Val)) → typed_of (row_type columns) f ≡ Ok u → typed_of (row_type columns) p ≡ Ok w
     → all_rows_fit (row_type columns) blocks ≡ true → all_rows_fit (row_type columns) others ≡ true → BlocksAgree zones slots f (asked_columns (row_type columns) f) n blocks others
     → BlocksAgree zones slots f (asked_columns (row_type columns) p) n blocks others → BlocksSame zones slots (row_type columns) f p n blocks others
 blocks-same zones columns slots f p u w n [] [] x y h k i j = tt

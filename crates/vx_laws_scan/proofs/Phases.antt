@@ -14,8 +14,8 @@ use Rattle.vx_semantics.specs.Tables.{Table, row_type, numbered_from}
 use Rattle.vx_semantics.specs.Pruning.{rules_out}
 use Rattle.vx_semantics.specs.Scans.{matching_rows, block_rows, has_rows, Phase, reads_in, further_columns, block_phases, phase_breaks}
 use Rattle.vx_laws.proofs.Faultless.{no_break_no_fault}
-use Rattle.vx_laws_scan.specs.Agreeing.{IsTyped, all_rows_fit}
-use Rattle.vx_laws_scan.specs.Quiet.{QuietRowsHoldNoFault}
+use Rattle.vx_laws_scan.specs.Agreeing.{all_rows_fit}
+use Rattle.vx_laws_scan.specs.Quiet.{IsTyped, QuietRowsHoldNoFault}
 
 -- what a typed expression means at the rows of a phase that does not break
 phase-faultless : (table : Table) (slots : Slots) (p : Tree) (u : Ty) (rows : List Val) → IsTyped table.columns slots p u → list_all (λ row. val_fits row (row_type table.columns)) rows ≡ true

@@ -14,34 +14,29 @@ use Rattle.vx_semantics.specs.Tables.{Table, Zones, row_type}
 use Rattle.vx_semantics.specs.Honest.{IsHonest}
 use Rattle.vx_semantics.specs.Pruning.{rules_out}
 use Rattle.vx_semantics.specs.Scans.{rows_of, reads_of}
-use Rattle.vx_semantics.specs.Slots.{slots_fit}
 
 -- two rows have the same values in these columns
 abbrev pub AgreeOn : List Bytes → Val → Val → Type 0
 AgreeOn columns a b = All (λ c. field_of c a ≡ field_of c b) columns
 
--- an expression that is strictly typed over the rows of these columns, whose slots fit
-pub record IsTyped (columns : Fields) (slots : Slots) (e : Tree) (u : Ty) : Type 0 where
+-- an expression that is strictly typed over the rows of these columns, and two rows of their type, but perhaps for faults in place of plain values,
+-- that agree on its asked columns
+pub record AreAlike (columns : Fields) (e : Tree) (u : Ty) (a b : Val) : Type 0 where
   pub typed : typed_of (row_type columns) e ≡ Ok u
-  pub fitting : slots_fit slots e ≡ true
-
--- such an expression and two rows of that type, but perhaps for faults in place of plain values, that agree on its asked columns
-pub record AreAlike (columns : Fields) (slots : Slots) (e : Tree) (u : Ty) (a b : Val) : Type 0 where
-  pub is_typed : IsTyped columns slots e u
   pub first_fits : fits_but_for_faults a (row_type columns) ≡ true
   pub second_fits : fits_but_for_faults b (row_type columns) ≡ true
   pub agree : AgreeOn (asked_columns (row_type columns) e) a b
 
--- rows that agree on the asked columns mean the same, faults included
+-- rows that agree on the asked columns mean the same, faults included, with any slots
 abbrev pub AgreeingRowsMeanTheSame : Type 0
 AgreeingRowsMeanTheSame =
-    (columns : Fields) (slots : Slots) (e : Tree) (u : Ty) (a b : Val) → AreAlike columns slots e u a b
+    (columns : Fields) (slots : Slots) (e : Tree) (u : Ty) (a b : Val) → AreAlike columns e u a b
     → mean (row_type columns) slots a e ≡ mean (row_type columns) slots b e
 
 -- at them the same asked nodes break, by the same cause
 abbrev pub AgreeingRowsBreakTheSame : Type 0
 AgreeingRowsBreakTheSame =
-    (columns : Fields) (slots : Slots) (e : Tree) (u : Ty) (a b : Val) → AreAlike columns slots e u a b
+    (columns : Fields) (slots : Slots) (e : Tree) (u : Ty) (a b : Val) → AreAlike columns e u a b
     → All (λ n. break_of (row_type columns) slots a n ≡ break_of (row_type columns) slots b n) (asked_nodes (row_type columns) e)
 
 -- two tables have as many blocks, numbered from n, and in those blocks that the filter keeps as many rows, which agree on the columns
@@ -59,8 +54,8 @@ all_rows_fit t blocks = list_all (λ rows. list_all (λ row. val_fits row t) row
 pub record TablesAgree (zones : Zones) (columns : Fields) (slots : Slots) (filter_expr projection : Tree) (blocks others : List (List Val)) : Type 0 where
   pub filter_type : Ty
   pub projection_type : Ty
-  pub filter_typed : IsTyped columns slots filter_expr filter_type
-  pub projection_typed : IsTyped columns slots projection projection_type
+  pub filter_typed : typed_of (row_type columns) filter_expr ≡ Ok filter_type
+  pub projection_typed : typed_of (row_type columns) projection ≡ Ok projection_type
   pub first_fits : all_rows_fit (row_type columns) blocks ≡ true
   pub second_fits : all_rows_fit (row_type columns) others ≡ true
   pub filter_agrees : BlocksAgree zones slots filter_expr (asked_columns (row_type columns) filter_expr) 0 blocks others

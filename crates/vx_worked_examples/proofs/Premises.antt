@@ -53,8 +53,8 @@ unfolding all_definitions
 tables_agree = record {
   filter_type = bool_ty NonNullable;
   projection_type = int_ty I8 NonNullable;
-  filter_typed = record { typed = refl; fitting = refl };
-  projection_typed = record { typed = refl; fitting = refl };
+  filter_typed = refl;
+  projection_typed = refl;
   first_fits = refl;
   second_fits = refl;
   filter_agrees = (λ e. absurd cc, (λ e. (agree_on_x 6 3 8, (agree_on_x 7 4 7, tt)), tt));

@@ -16,7 +16,7 @@ ghost use Rattle.vx_worked_examples.specs.Agreeing.{two_columns, row_of, blocks,
 
 /// Two rows that differ in a column that the filter doesn't ask are alike for it.
 pub fn rows_are_alike_but_for_a_column()
-    ensures { AreAlike two_columns [] above_five (bool_ty NonNullable) (row_of 6 1) (row_of 6 2) }
+    ensures { AreAlike two_columns above_five (bool_ty NonNullable) (row_of 6 1) (row_of 6 2) }
 {}
 
 /// Two tables that differ in a column that is not asked, and in whatever of a block that is skipped, agree; the statistics are honest for both.
