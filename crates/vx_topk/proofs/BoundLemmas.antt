@@ -1,10 +1,10 @@
 -- The bound is the key of the last held row.
-use Rattle.std.proofs.Common.{◌≡◌, refl, ap, ap₂, sym, ◌∙◌, subst, ℕ, zero, suc, ◌-◌, ◌≤◌, ◌<◌, Bool, true, false, cond, Option, Some, None, List, [], ◌∷◌, map, length, arith, ⊎_elim}
+use Rattle.std.proofs.Common.{◌≡◌, refl, ap, ap₂, sym, ◌∙◌, subst, ℕ, suc, ◌-◌, ◌≤◌, ◌<◌, Bool, true, false, cond, Option, Some, None, List, [], ◌∷◌, map, length, arith, ⊎_elim}
 use Rattle.std.specs.Prelude.{nat_le, slice_get}
 use Rattle.std.specs.List.{AllByRecursion}
 use Rattle.std.proofs.lemmas.Bool.{cases_Bool, leb-false, lt-leb}
 use Rattle.std.proofs.lemmas.List.{length-take}
-use Rattle.vx_dtype.specs.Types.{Ty, bool_ty, int_ty, text_ty, list_ty, struct_ty}
+use Rattle.vx_dtype.specs.Types.{Ty, bool_ty, int_ty, text_ty}
 use Rattle.vx_dtype.specs.TypeRules.{is_plain}
 use Rattle.vx_dtype.specs.Values.{Typed, Val, valued}
 use Rattle.vx_dtype.specs.Fits.{fits}
@@ -20,7 +20,7 @@ use Rattle.vx_topk.specs.declared.row_keys.SortKey.TheVariants as keys
 use Rattle.vx_topk.specs.declared.row_keys.RowPlace.{RowPlace}
 use Rattle.vx_topk.specs.declared.row_keys.RowKey.{RowKey}
 use Rattle.vx_topk.specs.declared.first_rows.FirstRows.{FirstRows}
-use Rattle.vx_topk.proofs.HoldLemmas.{map-length, held-few}
+use Rattle.vx_topk.proofs.HoldLemmas.{map-length}
 
 -- the last of a list, by its place
 abbrev IsLast : Entry → List Entry → Type 0

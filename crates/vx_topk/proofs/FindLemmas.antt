@@ -1,31 +1,28 @@
 -- The finding of first rows from the first block to the last: how far it has come, one block more, and each way in which it ends.
-use Rattle.std.proofs.Common.{◌≡◌, refl, ap, sym, ◌∙◌, ℕ, ◌+◌, ◌<◌, ◌≤◌, Bool, true, false, ◌||◌, Option, Some, None, List, [], ◌∷◌, ◌++◌, map, length, Result, Ok, Err, append-nil, append_assoc, arith, subst, inl, inr, ⊎_elim}
+use Rattle.std.proofs.Common.{◌≡◌, refl, ap, sym, ◌∙◌, ℕ, ◌+◌, ◌<◌, ◌≤◌, Bool, true, false, ◌||◌, Option, Some, None, List, [], ◌∷◌, ◌++◌, map, length, Result, Ok, Err, append-nil, append_assoc, arith, subst, inl, inr}
 use Rattle.std.specs.Prelude.{nat_eq}
-use Rattle.std.specs.List.{list_any, slice_get}
-use Rattle.std.proofs.lemmas.List.{append_cancel_left, length-take}
+use Rattle.std.specs.List.{list_any}
+use Rattle.std.proofs.lemmas.List.{append_cancel_left}
 use Rattle.vx_dtype.specs.Types.{Ty}
 use Rattle.vx_dtype.specs.Values.{Val}
-use Rattle.vx_semantics.specs.Meaning.{Slots}
 use Rattle.vx_semantics.specs.Breaks.{Cause, by_sum, by_cast}
 use Rattle.vx_semantics.specs.Pruning.{rules_out}
 use Rattle.vx_semantics.specs.Tables.{Table, Zones, row_type}
-use Rattle.vx_semantics.specs.Scans.{Phase, block_phases, block_rows}
+use Rattle.vx_semantics.specs.Scans.{block_phases}
 use Rattle.vx_io.specs.Counts.{one_more}
 use Rattle.vx_laws_topk.specs.TopRows.{Keyed, TopAsk, bounded_filter, bound_before, bound_slots, top_skips, block_keyed}
 use Rattle.vx_laws_topk.specs.TopLaws.{has_no_slot}
-use Rattle.vx_laws_topk.specs.TopPhases.{SlottedPhase, keyed_projection, top_phases, top_asked, top_reads_to_break, first_top_breaks_by, first_slotted_breaks_by, slotted_reads, slotted_to_break}
-use Rattle.vx_laws_topk.specs.BoundLaws.{packed, unpacked}
+use Rattle.vx_laws_topk.specs.TopPhases.{SlottedPhase, keyed_projection, top_phases, top_asked, top_reads_to_break, first_top_breaks_by}
+use Rattle.vx_laws_topk.specs.BoundLaws.{unpacked}
 use Rattle.vx_laws_topk.proofs.BoundedFilters.{block_rows_are_packed, packed_is_unpacked}
 use Rattle.vx_scan.specs.Stores.{Read, StoreSeen, WhereTold, AgreesWith, IsSameStore}
-use Rattle.vx_scan.specs.Scanning.{AreAmong, asks_breaking, some_block}
-use Rattle.vx_scan.specs.BlockRuns.{block_asked, FailedAmong, BrokeBy, RunsBlock, RunsBlockOf}
-use Rattle.vx_scan.specs.Runs.{GrowsAmong}
+use Rattle.vx_scan.specs.Scanning.{AreAmong, asks_breaking}
+use Rattle.vx_scan.specs.BlockRuns.{block_asked, FailedAmong, BrokeBy, RunsBlockOf}
 use Rattle.vx_scan.specs.declared.errors.ScanError.{ScanError}
 use Rattle.vx_scan.specs.declared.errors.ScanError.TheVariants as errors
-use Rattle.vx_scan.proofs.AmongLemmas.{among_more}
 use Rattle.vx_scan.proofs.RunLemmas.{logged}
 use Rattle.vx_scan.proofs.ScanLemmas.{told_all, told_so, told_both, same_store, same_after}
-use Rattle.vx_scan.proofs.StepLemmas.{block_there, no_more_blocks}
+use Rattle.vx_scan.proofs.StepLemmas.{block_there}
 use Rattle.vx_topk.specs.FirstRows.{HoldFirst, start_of}
 use Rattle.vx_topk.specs.RuledRuns.{AreRuledBehind}
 use Rattle.vx_topk.specs.TopEnds.{is_read_of, IsTypedTop, IsTopBroken, IsTopFault, IsTopCutOff}
@@ -33,7 +30,7 @@ use Rattle.vx_topk.specs.TopRuns.{TopRuns, top_phases_before, found_before, top_
 use Rattle.vx_topk.specs.declared.finding.Finding.{Finding}
 use Rattle.vx_topk.specs.declared.first_rows.FirstRows.{FirstRows}
 use Rattle.vx_topk.proofs.TopRunLemmas.{slotted, top_runs, top_run_nothing, top_run_on, top_run_more, top_run_cut}
-use Rattle.vx_topk.proofs.TopStepLemmas.{phases-out, found-out, skipped-out, phases-in, found-in, skipped-in, phases-end, phases-split, found-end, skipped-end, not-ruled, among-out, among-in, among-all, block-there, asks-same}
+use Rattle.vx_topk.proofs.TopStepLemmas.{phases-out, found-out, skipped-out, phases-in, found-in, skipped-in, phases-split, not-ruled, among-out, among-in, among-all, block-there, asks-same}
 use Rattle.vx_topk.proofs.SkipLemmas.{skips-out, skips-in}
 use Rattle.vx_topk.proofs.UnreadLemmas.{unread-here, unread-out, unread-in}
 

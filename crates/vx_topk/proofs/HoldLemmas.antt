@@ -1,5 +1,5 @@
 -- What is held stays the first rows while rows come in.
-use Rattle.std.proofs.Common.{◌≡◌, refl, ap, sym, ◌∙◌, subst, ℕ, zero, suc, ◌+◌, ◌≤◌, ◌<◌, Bool, true, false, cond, List, [], ◌∷◌, ◌++◌, map, length, take, arith}
+use Rattle.std.proofs.Common.{◌≡◌, refl, ap, sym, ◌∙◌, subst, ℕ, zero, suc, ◌≤◌, Bool, true, false, cond, List, [], ◌∷◌, ◌++◌, map, length, take, arith}
 use Rattle.std.specs.List.{AllByRecursion, All}
 use Rattle.std.specs.Map.{keys_of}
 use Rattle.std.specs.BTreeMap.{insert_entry}
@@ -12,7 +12,7 @@ use Rattle.std.proofs.lemmas.List.{take_all, take-append-le, length-take}
 use Rattle.std.proofs.lemmas.List.Elements.{recursion_from_All}
 use Rattle.vx_dtype.specs.Types.{Ty}
 use Rattle.vx_dtype.specs.TypeRules.{is_plain}
-use Rattle.vx_dtype.specs.Values.{Raw, raw_null, Val, null_val, valued}
+use Rattle.vx_dtype.specs.Values.{Raw, valued}
 use Rattle.vx_dtype.specs.Logic.{is_null_val}
 use Rattle.vx_dtype.specs.Fits.{fits, val_fits}
 use Rattle.vx_dtype.specs.RawViews.{raw_view}
@@ -21,9 +21,8 @@ use Rattle.vx_dtype.proofs.ValuedLemmas.{val_fits_valued}
 use Rattle.vx_laws.proofs.EachNode.{all-both, all-map}
 use Rattle.vx_laws_stats.proofs.Extremes.{is_of, or_second}
 use Rattle.vx_laws_topk.specs.TopRows.{Keyed, stands_before, in_key_order, top}
-use Rattle.vx_laws_topk.specs.TopLaws.{keys_of as row_keys, HaveKeys}
 use Rattle.vx_laws_topk.specs.BoundLaws.{put_behind_ties}
-use Rattle.vx_laws_topk.proofs.Inserting.{OfType, length-in_key_order}
+use Rattle.vx_laws_topk.proofs.Inserting.{OfType}
 use Rattle.vx_laws_topk.proofs.OneMore.{further_among}
 use Rattle.vx_topk.specs.RowKeys.{key_raw, place_cmp, row_cmp}
 use Rattle.vx_topk.specs.RowOrders.{place_cmp_total, row_cmp_total}

@@ -1,9 +1,9 @@
 -- A packed row is a struct of its key and its value.
-use Rattle.std.proofs.Common.{◌≡◌, refl, ap, ap₂, sym, ◌∙◌, Bool, true, ◌&&◌, List, [], ◌∷◌, map, length}
+use Rattle.std.proofs.Common.{◌≡◌, refl, ap, ap₂, sym, ◌∙◌, true, ◌&&◌, List, [], ◌∷◌, map, length}
 use Rattle.std.proofs.Math.ListN.{get_or}
 use Rattle.std.proofs.lemmas.Bool.{and_parts}
-use Rattle.vx_dtype.specs.Types.{Ty, no_fields, field}
-use Rattle.vx_dtype.specs.Values.{Raw, raw_struct, Raws, no_raws, raw, valued}
+use Rattle.vx_dtype.specs.Types.{Ty}
+use Rattle.vx_dtype.specs.Values.{Raw, raw_struct, valued}
 use Rattle.vx_dtype.specs.Fits.{fits}
 use Rattle.vx_dtype.specs.RawViews.{raw_view, raws_of}
 use Rattle.vx_dtype.specs.declared.values.ScalarValue.{ScalarValue}

@@ -1,18 +1,17 @@
 -- How the rows that are held stand: the steps of the comparison, and that a row behind all places stands before another exactly where its key does.
-use Rattle.std.proofs.Common.{◌≡◌, refl, ap, sym, ◌∙◌, ℕ, suc, ◌<◌, Bool, true, false, cond, List, [], ◌∷◌, arith}
-use Rattle.std.specs.Prelude.{ℤ}
+use Rattle.std.proofs.Common.{◌≡◌, refl, ap, sym, ◌∙◌, ℕ, suc, Bool, true, false, cond, arith}
 use Rattle.std.specs.declared.cmp.Ordering.{Ordering}
 use Rattle.std.specs.declared.cmp.Ordering.TheVariants.{Less, Equal, Greater}
-use Rattle.std.specs.Ordering.{nat_cmp, int_cmp, bool_cmp, ordering_then, ordering_reverse, is_lt, is_gt, MatchOrdering}
+use Rattle.std.specs.Ordering.{nat_cmp, int_cmp, bool_cmp, ordering_then, ordering_reverse, is_lt, is_gt}
 use Rattle.std.specs.Cmp.{ranked, nat_cmp_is, int_cmp_total, bool_cmp_total}
 use Rattle.std.specs.Cmp.Lexicographic.{slice_cmp, nat_list_cmp_total}
-use Rattle.vx_dtype.specs.Types.{Ty, bool_ty, int_ty, text_ty, list_ty, struct_ty}
+use Rattle.vx_dtype.specs.Types.{Ty, bool_ty, int_ty, text_ty}
 use Rattle.vx_dtype.specs.TypeRules.{is_plain}
-use Rattle.vx_dtype.specs.Values.{Val, bool_val, valued}
+use Rattle.vx_dtype.specs.Values.{bool_val, valued}
 use Rattle.vx_dtype.specs.Logic.{is_true_val}
 use Rattle.vx_dtype.specs.Fits.{fits}
 use Rattle.vx_laws_topk.specs.TopRows.{stands_before}
-use Rattle.vx_topk.specs.RowKeys.{key_raw, key_kind, kin_cmp, directed_cmp, rising, falling, place_cmp, row_cmp}
+use Rattle.vx_topk.specs.RowKeys.{key_raw, key_kind, kin_cmp, directed_cmp, place_cmp, row_cmp}
 use Rattle.vx_topk.specs.RowOrders.{place_cmp_total}
 use Rattle.vx_topk.specs.declared.row_keys.SortKey.{SortKey}
 use Rattle.vx_topk.specs.declared.row_keys.SortKey.TheVariants as keys

@@ -1,12 +1,12 @@
 -- An expression whose nodes have no slots of their own compares with none.
-use Rattle.std.proofs.Common.{◌≡◌, refl, ap, true, false, not, List, [], ◌∷◌}
+use Rattle.std.proofs.Common.{◌≡◌, refl, ap, false, not, List, [], ◌∷◌}
 use Rattle.std.specs.Prelude.{None}
 use Rattle.std.specs.List.{flat_map, list_any}
 use Rattle.vx_expr.specs.Trees.{Tree, root, literal, get_item, binary, not_of, is_null_of, like, between, cast, list_contains, pack, merge, select, dynamic}
 use Rattle.vx_semantics.specs.Nodes.{nodes_of}
 use Rattle.vx_semantics.specs.Meaning.{Slots}
-use Rattle.vx_eval.specs.Versions.{own_slots, compared_slots, first_seen}
-use Rattle.vx_laws_topk.specs.TopLaws.{is_slot_comparison, has_no_slot}
+use Rattle.vx_eval.specs.Versions.{own_slots, first_seen}
+use Rattle.vx_laws_topk.specs.TopLaws.{is_slot_comparison}
 use Rattle.vx_topk.specs.SlotLaws.{UnseenSlotsAreNone}
 
 -- nodes with no slots of their own compare with none

@@ -1,7 +1,7 @@
 -- The blocks before a block, one more of them, and all of them: the phases, the rows that are found, the skipped blocks and the reads that may be made.
-use Rattle.std.proofs.Common.{◌≡◌, refl, ap, ap₂, sym, ◌∙◌, subst, ℕ, ◌+◌, ◌<◌, ◌≤◌, Bool, true, false, cond, ◌||◌, Some, List, [], ◌∷◌, ◌++◌, map, length, take, append-nil, arith, ⊎_elim}
+use Rattle.std.proofs.Common.{◌≡◌, refl, ap, ap₂, sym, ◌∙◌, subst, ℕ, ◌+◌, ◌<◌, ◌≤◌, Bool, true, false, cond, ◌||◌, Some, List, [], ◌∷◌, ◌++◌, map, length, take, append-nil, ⊎_elim}
 use Rattle.std.specs.Prelude.{nat_eq}
-use Rattle.std.specs.List.{filter, flat_map, list_any, slice_get}
+use Rattle.std.specs.List.{filter, flat_map, slice_get}
 use Rattle.std.proofs.lemmas.Bool.{cases_Bool, or_parts}
 use Rattle.std.proofs.lemmas.Grind.{flat_map-append}
 use Rattle.vx_dtype.specs.Values.{Val}
@@ -16,12 +16,12 @@ use Rattle.vx_laws_topk.specs.TopPhases.{SlottedPhase, keyed_projection, phases_
 use Rattle.vx_laws_topk.specs.BoundLaws.{PassesNoFurther}
 use Rattle.vx_laws_topk.proofs.BoundedFilters.{bounded_filter_rules_out, bounded_filter_asks, keyed_projection_asks}
 use Rattle.vx_laws_topk.proofs.OneMore.{found_over_more, phases_over_more, skipped_over_more}
-use Rattle.vx_scan.specs.Stores.{Read, AgreesWith}
+use Rattle.vx_scan.specs.Stores.{Read}
 use Rattle.vx_scan.specs.Scanning.{AreAmong, can_break_by, asks_breaking, some_block}
 use Rattle.vx_scan.specs.BlockRuns.{block_asked}
 use Rattle.vx_scan.specs.Runs.{kept_numbers_before}
 use Rattle.vx_scan.proofs.AmongLemmas.{among_more, among_append}
-use Rattle.vx_scan.proofs.StepLemmas.{passing, step_in, step_end, step_split, kept_numbers_out, kept_numbers_in, kept_numbers_end, kept_numbers_split, block_kept}
+use Rattle.vx_scan.proofs.StepLemmas.{step_in, step_end, step_split, kept_numbers_out, kept_numbers_in, kept_numbers_split, block_kept}
 use Rattle.vx_topk.specs.TopRuns.{top_phases_before, found_before, top_skipped_before, top_asked_before}
 use Rattle.vx_topk.proofs.TopRunLemmas.{slotted}
 

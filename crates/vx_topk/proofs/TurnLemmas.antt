@@ -5,17 +5,17 @@ use Rattle.std.specs.List.{AllByRecursion}
 use Rattle.std.specs.Result.{IsErr, IsErrAnd}
 use Rattle.vx_dtype.specs.Types.{Ty}
 use Rattle.vx_dtype.specs.TypeViews.{type_view}
-use Rattle.vx_dtype.specs.Values.{Val, Typed}
+use Rattle.vx_dtype.specs.Values.{Val}
 use Rattle.vx_dtype.specs.Fits.{val_fits}
 use Rattle.vx_dtype.specs.Logic.{is_null_val}
 use Rattle.vx_dtype.specs.declared.values.ScalarValue.{ScalarValue}
-use Rattle.vx_column.specs.Columns.{seen_rows, values_fit}
+use Rattle.vx_column.specs.Columns.{seen_rows}
 use Rattle.vx_expr.specs.Trees.{Tree}
 use Rattle.vx_semantics.specs.Meaning.{Slots}
 use Rattle.vx_semantics.specs.Slots.{slots_fit}
 use Rattle.vx_semantics.specs.Pruning.{rules_out}
 use Rattle.vx_semantics.specs.Tables.{Zones}
-use Rattle.vx_laws_stats.proofs.Extremes.{is_of, known_part}
+use Rattle.vx_laws_stats.proofs.Extremes.{known_part}
 use Rattle.vx_laws_topk.specs.TopRows.{Keyed, TopAsk, bounded_filter, bound_before, bound_slots, top_skips}
 use Rattle.vx_laws_topk.specs.TopPhases.{keyed_projection}
 use Rattle.vx_laws_topk.specs.BoundLaws.{IsBoundOf, keyed_type, unpacked}
@@ -29,9 +29,9 @@ use Rattle.vx_scan.specs.Opening.{IsPreparedScan}
 use Rattle.vx_scan.specs.declared.errors.ScanError.{ScanError}
 use Rattle.vx_scan.specs.declared.errors.ScanError.TheVariants as errors
 use Rattle.vx_topk.specs.FirstRows.{HoldFirst, IsAskedBy, start_of}
-use Rattle.vx_topk.specs.Ready.{CanBeReady, IsReady}
+use Rattle.vx_topk.specs.Ready.{IsReady}
 use Rattle.vx_topk.specs.RuledRuns.{AreTold, AreRuledBehind}
-use Rattle.vx_topk.specs.TopRuns.{GivesRows, RunsUnder, Ends, EndsBehind, TakesTurn}
+use Rattle.vx_topk.specs.TopRuns.{TakesTurn}
 use Rattle.vx_topk.specs.declared.finding.Finding.{Finding}
 use Rattle.vx_topk.specs.declared.first_rows.FirstRows.{FirstRows}
 use Rattle.vx_topk.specs.declared.row_keys.RowPlace.{RowPlace}

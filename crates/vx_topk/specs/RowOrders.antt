@@ -1,11 +1,8 @@
 -- For the checker: no public clause cites this.
 -- The order of the rows that are held is total.
-use Rattle.std.specs.Prelude.{ℕ}
-use Rattle.std.specs.Ordering.{nat_cmp, int_cmp, bool_cmp}
 use Rattle.std.specs.Cmp.{IsTotalOrder, nat_cmp_total, int_cmp_total, bool_cmp_total, on_total, back_total, then_total}
-use Rattle.std.specs.Cmp.Lexicographic.{slice_cmp, nat_list_cmp_total}
+use Rattle.std.specs.Cmp.Lexicographic.{nat_list_cmp_total}
 use Rattle.vx_topk.specs.RowKeys.{key_kind, key_truth, key_number, key_text, kin_cmp, rising, falling, place_cmp, row_cmp}
-use Rattle.vx_topk.specs.declared.row_keys.SortKey.{SortKey}
 use Rattle.vx_topk.specs.declared.row_keys.RowPlace.{RowPlace}
 use Rattle.vx_topk.specs.declared.row_keys.RowKey.{RowKey}
 

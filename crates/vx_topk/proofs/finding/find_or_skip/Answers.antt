@@ -2,7 +2,7 @@ use Rattle.std.proofs.Common.{◌≡◌, ◌∙◌, ◌+◌, ◌++◌, ap₂, sy
 use Rattle.vx_dtype.specs.TypeViews.{type_view}
 use Rattle.vx_dtype.specs.declared.values.ScalarValue.{ScalarValue}
 use Rattle.vx_column.specs.Columns.{seen_rows, values_fit}
-use Rattle.vx_laws_topk.specs.TopRows.{bounded_filter, top_skips}
+use Rattle.vx_laws_topk.specs.TopRows.{bounded_filter}
 use Rattle.vx_laws_topk.specs.TopPhases.{keyed_projection}
 use Rattle.vx_laws_topk.specs.BoundLaws.{keyed_type, unpacked}
 use Rattle.vx_scan.specs.declared.errors.ScanError.TheVariants as errors

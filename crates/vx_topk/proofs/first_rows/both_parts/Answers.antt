@@ -1,9 +1,5 @@
-use Rattle.std.proofs.Common.{◌≡◌, ◌∙◌, ap, subst, sym, length, arith, true, List}
-use Rattle.std.proofs.Math.ListN.{get_or}
-use Rattle.vx_dtype.specs.Fits.{fits}
-use Rattle.vx_dtype.specs.RawViews.{raw_view}
-use Rattle.vx_dtype.specs.declared.values.ScalarValue.{ScalarValue}
-use Rattle.vx_topk.proofs.PairLemmas.{is_pair, pair-first, pair-second, pair-parts, pair-long}
+use Rattle.std.proofs.Common.{arith}
+use Rattle.vx_topk.proofs.PairLemmas.{pair-first, pair-parts, pair-long}
 use Rattle.vx_topk.proofs.first_rows.both_parts.Goals as goal
 
 pub bounds-parts-0 : goal.bounds-parts-0

@@ -1,4 +1,4 @@
-use Rattle.std.proofs.Common.{◌≡◌, ◌∙◌, refl, ap, sym, subst, None, [], ◌∷◌, Ok}
+use Rattle.std.proofs.Common.{◌≡◌, ◌∙◌, refl, ap, subst, None, [], ◌∷◌}
 use Rattle.vx_dtype.specs.Types.{bool_ty}
 use Rattle.vx_dtype.specs.TypeViews.{type_view}
 use Rattle.vx_expr.specs.Trees.{Tree}

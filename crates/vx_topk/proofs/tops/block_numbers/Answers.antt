@@ -1,6 +1,4 @@
-use Rattle.std.proofs.Common.{◌≡◌, ◌∙◌, ◌<◌, ◌++◌, ◌∷◌, [], ap, sym, ℕ, List, length, arith, subst}
-use Rattle.std.proofs.lemmas.List.{take_all}
-use Rattle.vx_topk.specs.TopEnds.{numbers_of}
+use Rattle.std.proofs.Common.{◌∙◌, ◌<◌, ◌++◌, ◌∷◌, [], ap, sym, ℕ, List, length, arith}
 use Rattle.vx_topk.proofs.SkipLemmas.{numbers-more}
 use Rattle.vx_topk.proofs.tops.block_numbers.Goals as goal
 

@@ -1,4 +1,4 @@
-use Rattle.std.proofs.Common.{◌≡◌, ◌∙◌, ap, ℕ}
+use Rattle.std.proofs.Common.{◌∙◌, ap, ℕ}
 use Rattle.std.specs.Prelude.{nat_eq}
 use Rattle.vx_dtype.specs.TypeViews.{type_view}
 use Rattle.vx_semantics.specs.Tables.{Zones}

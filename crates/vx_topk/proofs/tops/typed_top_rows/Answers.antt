@@ -1,7 +1,6 @@
-use Rattle.std.proofs.Common.{◌≡◌, sym, refl, subst, length, inr}
+use Rattle.std.proofs.Common.{sym, refl, subst, length, inr}
 use Rattle.vx_dtype.specs.TypeViews.{type_view}
 use Rattle.vx_semantics.specs.Tables.{Zones}
-use Rattle.vx_laws_topk.specs.TopRows.{TopAsk}
 use Rattle.vx_topk.specs.TopEnds.{top_ask}
 use Rattle.vx_topk.specs.FirstRows.{IsAskedBy}
 use Rattle.vx_topk.specs.Ready.{top_error, CanBeReady}

@@ -1,4 +1,4 @@
-use Rattle.std.proofs.Common.{◌∙◌, ◌≡◌, ◌∷◌, [], sym, ap, arith, Option, List}
+use Rattle.std.proofs.Common.{◌∙◌, ◌≡◌, ◌∷◌, [], ap, arith, Option}
 use Rattle.std.proofs.lemmas.Result.{IfOk-weaker}
 use Rattle.vx_dtype.specs.Values.{Typed}
 use Rattle.vx_dtype.specs.TypeViews.{type_view}

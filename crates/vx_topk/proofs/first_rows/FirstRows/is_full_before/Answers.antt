@@ -1,5 +1,4 @@
-use Rattle.std.proofs.Common.{◌∙◌, sym, ap, ◌≡◌, arith}
-use Rattle.std.specs.Ordering.{ordering_index}
+use Rattle.std.proofs.Common.{◌∙◌, sym, arith}
 use Rattle.vx_topk.proofs.HoldLemmas.{greater, behind-last}
 use Rattle.vx_topk.proofs.first_rows.FirstRows.is_full_before.Goals as goal
 

@@ -1,4 +1,4 @@
-use Rattle.std.proofs.Common.{◌≡◌, ◌++◌, ◌<◌, ℕ, map, take, length, subst, sym, arith}
+use Rattle.std.proofs.Common.{◌≡◌, ◌++◌, ◌<◌, ℕ, map, take, length, subst, arith}
 use Rattle.vx_column.specs.Columns.{seen_rows}
 use Rattle.vx_laws_topk.specs.BoundLaws.{keyed_type, unpacked}
 use Rattle.vx_topk.specs.FirstRows.{ArePutIn}
