@@ -18,8 +18,10 @@ use Rattle.vx_display.specs.ValueTexts.{value_text}
 use Rattle.vx_wire.specs.Encodings.{is_default_kind}
 use Rattle.vx_wire.specs.declared.ExprEncoding.{ExprEncoding}
 use Rattle.vx_tables.specs.Blocks.{table_of_blocks, table_refusal, have_lengths, have_types}
+use Rattle.vx_scan.specs.ErrorKinds.{ErrorKind, of_memory, of_text, of_types, of_break, of_read, kind_of, OnlyOfText}
 use Rattle.vx_scan.specs.Reports.{Report, report_view}
-use Rattle.vx_scan.specs.Scanning.{IsScan, IsReport, IsScanBroken}
+use Rattle.vx_scan.specs.Scanning.{IsScan, IsReport, IsScanBroken, IsScanStopped}
+use Rattle.vx_scan.specs.ScanLaws.{kind_breaks, is_break}
 use Rattle.vx_scan.specs.Stores.{Read, StoreSeen, IsSameStore}
 use Rattle.vx_scan.specs.StoreViews.{StoreState, store_seen}
 use Rattle.vx_scan.specs.Texts.{SpellBoth, AreRefused}
@@ -31,11 +33,11 @@ use Rattle.vx_request.specs.Requests.{RequestedScan, request_of}
 use Rattle.vx_request.specs.RequestViews.{RequestAnswers, scan_view}
 use Rattle.vx_request.specs.declared.errors.RequestError.{RequestError}
 use Rattle.vx_request.specs.declared.errors.RequestError.TheVariants as requests
-use Rattle.vx_query.specs.EndingViews.{EndsBy, IsScanned, IsUnreported}
+use Rattle.vx_query.specs.EndingViews.{break_ending, EndsAs, EndsBy, IsScanned, IsUnreported}
 use Rattle.vx_query.specs.Running.{scan_table, scan_reads, scan_report, scan_breaks, scan_breaks_by, store_with, scanned_store, broken_store}
-use Rattle.vx_query.specs.RefusalViews.{IsUnanswered, request_refusal}
+use Rattle.vx_query.specs.RefusalViews.{IsUnanswered, IsUnscanned, request_refusal, kind_refusal, scan_refusal}
 use Rattle.vx_query.specs.declared.endings.Ending.{Ending}
-use Rattle.vx_query.specs.declared.endings.Ending.TheVariants.{Report as Told, Overflow, BadCast}
+use Rattle.vx_query.specs.declared.endings.Ending.TheVariants.{Report as Told}
 use Rattle.vx_query.specs.declared.refusals.Refusal.{Refusal}
 use Rattle.vx_query.proofs.CellLemmas.{and_left, and_right}
 
@@ -116,50 +118,75 @@ reported_scan a holds before s r text kinds is same ended told =
       }
     ]
 
--- two texts are never refused by a sum or a cast that has no value, nor by a read that failed
-no_break : (a : RequestedScan) → ¬ (AreRefused is_default_kind a.filter a.projection scans.Overflow)
-no_break a refused = elim refused [ inl none ↦ none | inr later ↦ later.1 ]
-
-no_bad_cast : (a : RequestedScan) → ¬ (AreRefused is_default_kind a.filter a.projection scans.BadCast)
-no_bad_cast a refused = elim refused [ inl none ↦ none | inr later ↦ later.1 ]
-
-no_fault : (a : RequestedScan) → ¬ (AreRefused is_default_kind a.filter a.projection scans.StoreFault)
-no_fault a refused = elim refused [ inl none ↦ none | inr later ↦ later.1 ]
-
 -- the scan of a filter and a projection that breaks ends so
-broken_scan : (cause : Cause) (ending : Ending) (a : RequestedScan) (f p : Tree) (s : StoreSeen) → SpellBoth is_default_kind a.filter a.projection f p
-    → IsSameStore (fresh a) s → IsScanBroken cause [] f p (fresh a) s
-    → ((scan_breaks_by cause a f p ≡ true) × (s ≡ broken_store a f p) → EndsBy a f p ending s) → IsScanned a ending s
-broken_scan cause ending a f p s spelled same broken ends = record {
+ends_broken : (cause : Cause) (a : RequestedScan) (f p : Tree) (s : StoreSeen) → (scan_breaks_by cause a f p ≡ true) × (s ≡ broken_store a f p)
+    → EndsBy a f p (break_ending cause) s
+ends_broken by_sum a f p s h = h
+ends_broken by_cast a f p s h = h
+
+broken_scan : (cause : Cause) (a : RequestedScan) (f p : Tree) (s : StoreSeen) → SpellBoth is_default_kind a.filter a.projection f p
+    → IsSameStore (fresh a) s → IsScanBroken cause [] f p (fresh a) s → IsScanned a (break_ending cause) s
+broken_scan cause a f p s spelled same broken = record {
   filter = f;
   projection = p;
   spelled = spelled;
   ty = broken.ty;
   typed = broken.typed;
-  ends = ends (broken_told cause a f p s same broken);
+  ends = ends_broken cause a f p s (broken_told cause a f p s same broken);
 }
 
 -- a scan of such a store that gives no report
-pub unreported_fresh : (a : RequestedScan) (s : StoreSeen) (e : ScanError) → IsSameStore (fresh a) s
-    → IsScan is_default_kind a.filter a.projection (fresh a) s (Err e)
-    → IsUnreported a e s
-unreported_fresh a s scans.NoMemory same ended = tt
-unreported_fresh a s scans.Overflow same ended =
-    elim ended [ inl none ↦ absurd (no_break a none.1) | inr own ↦ broken_scan by_sum Overflow a own.0 own.1 s own.2 same own.3 (λ h. h) ]
-unreported_fresh a s scans.BadCast same ended =
-    elim ended [ inl none ↦ absurd (no_bad_cast a none.1) | inr own ↦ broken_scan by_cast BadCast a own.0 own.1 s own.2 same own.3 (λ h. h) ]
-unreported_fresh a s scans.StoreFault same ended =
-    elim ended [ inl none ↦ no_fault a none.1 | inr own ↦ absurd (omega (arith, own.3.risen, same.quiet refl)) ]
-unreported_fresh a s e same ended = elim ended [ inl none ↦ inl none.1 | inr own ↦ inr (own.0, own.1, own.2, own.3.1) ]
+unreported_fresh : (a : RequestedScan) (s : StoreSeen) (e : ScanError) → IsSameStore (fresh a) s
+    → IsScan is_default_kind a.filter a.projection (fresh a) s (Err e) → IsUnreported (kind_of e) a e s
+unreported_fresh a s e same (inl h) = by (kind_of e) h.1
+  where
+    by : (k : ErrorKind) → OnlyOfText k (AreRefused is_default_kind a.filter a.projection e) → IsUnreported k a e s
+    by of_memory r = tt
+    by of_text r = inl r
+    by of_types r = absurd r
+    by (of_break cause) r = absurd r
+    by of_read r = r
+unreported_fresh a s e same (inr (f, p, spelled, h)) = by (kind_of e) h
+  where
+    by : (k : ErrorKind) → IsScanStopped k [] f p (fresh a) s e → IsUnreported k a e s
+    by of_memory h = tt
+    by of_text h = absurd h
+    by of_types h = inr (f, p, spelled, h.1)
+    by (of_break cause) h = broken_scan cause a f p s spelled same h
+    by of_read h = absurd (omega (arith, h.risen, same.quiet refl))
 
 pub unreported_scan : (a : RequestedScan) (holds : ExprEncoding → Bool) (before s : StoreSeen) (e : ScanError) → holds ≡ is_default_kind → before ≡ fresh a
-    → IsSameStore before s → IsScan holds a.filter a.projection before s (Err e) → IsUnreported a e s
+    → IsSameStore before s → IsScan holds a.filter a.projection before s (Err e) → IsUnreported (kind_of e) a e s
 unreported_scan a holds before s e kinds is same ended =
     unreported_fresh a s e (subst (λ b. IsSameStore b s) is same) (subst (λ k. k) (λ i. IsScan (kinds i) a.filter a.projection (is i) s (Err e)) ended)
 
 -- and that is never a read that failed
-pub unfailing : (a : RequestedScan) (s : StoreSeen) (e : ScanError) → IsUnreported a e s → e ≢ scans.StoreFault
-unfailing a s e h is = subst (λ g. IsUnreported a g s) is h
+pub unfailing : (a : RequestedScan) (s : StoreSeen) (e : ScanError) → IsUnreported (kind_of e) a e s → e ≢ scans.StoreFault
+unfailing a s e h is = subst (λ g. IsUnreported (kind_of g) a g s) is h
+
+-- it ends as a break does
+pub scanned_as : (a : RequestedScan) (e : ScanError) (ending : Ending) (s : StoreSeen) → IsUnreported (kind_of e) a e s → EndsAs (kind_of e) ending
+    → IsScanned a ending s
+scanned_as a e ending s h ends = by (kind_of e) h ends
+  where
+    by : (k : ErrorKind) → IsUnreported k a e s → EndsAs k ending → IsScanned a ending s
+    by of_memory h ends = absurd ends
+    by of_text h ends = absurd ends
+    by of_types h ends = absurd ends
+    by (of_break cause) h ends = subst (λ x. IsScanned a x s) (sym ends) h
+    by of_read h ends = absurd ends
+
+-- or its expressions are refused
+pub unscanned_as : (a : RequestedScan) (e : ScanError) (r : Refusal) (s : StoreSeen) → IsUnreported (kind_of e) a e s → is_break e ≡ false
+    → r ≡ scan_refusal e → IsUnscanned a r
+unscanned_as a e r s h none same = subst (IsUnscanned a) (sym same) (by (kind_of e) h none)
+  where
+    by : (k : ErrorKind) → IsUnreported k a e s → kind_breaks k ≡ false → IsUnscanned a (kind_refusal k e)
+    by of_memory h none = tt
+    by of_text h none = h
+    by of_types h none = h
+    by (of_break cause) h none = absurd cc
+    by of_read h none = absurd h
 
 -- blocks that agree with zones are a table with them
 pub table_of_agreeing : (z : Zones) (bs : List (List Column)) → (have_lengths z bs && have_types z bs) ≡ true → table_refusal z bs ≡ None

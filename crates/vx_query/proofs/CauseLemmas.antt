@@ -149,16 +149,11 @@ stopped form i i' o o' used none run = by (request_end form i i' o o' used 5 (br
     by (no_request input e s taken why written held) = absurd (omega (arith, s))
     by (no_scan input e s taken why free written held) = absurd (omega (arith, s))
     by (breaks own cause input a f p s scans taken asks broken written held) = record {
-      statistics = own;
-      scans = scans;
-      input = input;
-      asked = a;
-      filter = f;
-      projection = p;
       cause = cause;
-      taken = taken;
-      asks = asks;
-      breaks = broken;
+      broken = record {
+        scan = record { statistics = own; scans = scans; input = input; asked = a; filter = f; projection = p; taken = taken; asks = asks };
+        breaks = broken;
+      };
       written = written;
       held = held;
     }
@@ -213,17 +208,7 @@ told_break cause form i i' o o' used none tells =
     let same : found.cause ≡ cause =
     one_cause found.cause cause
     (told_name o.bytes o'.bytes tells.before (break_name cause) (break_name found.cause) tells.stood tells.written found.written) in
-    record {
-      statistics = found.statistics;
-      scans = found.scans;
-      input = found.input;
-      asked = found.asked;
-      filter = found.filter;
-      projection = found.projection;
-      taken = found.taken;
-      asks = found.asks;
-      breaks = subst (λ c. scan_breaks_by c (scan_by found.statistics found.asked) found.filter found.projection ≡ true) same found.breaks;
-    }
+    subst (λ c. HasBroken c form i i') same found.broken
 
 -- ---- what is taken of an input
 

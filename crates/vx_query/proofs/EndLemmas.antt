@@ -23,7 +23,7 @@ source_unread form i i' o o' used run = by run.outcome run.writing run.comes run
     by helped whole comes written held = absurd (omega (arith, written.0))
     by versioned whole comes written held = absurd (omega (arith, written.0))
     by out_of_memory whole comes written held = absurd (omega (arith, written.0))
-    by unread whole comes written held = record { reads = comes.0; part = comes.1.0; risen = comes.1.1; written = written.1.0; unheld = held }
+    by unread whole comes written held = record { failed = comes; written = written.1.0; unheld = held }
     by (refused input e) whole comes written held = absurd (omega (arith, written.0))
     by (unscanned input e) whole comes written held = absurd (omega (arith, written.0))
     by (broken chosen cause input a f p) whole comes written held = absurd (omega (arith, written.0))
@@ -122,22 +122,22 @@ risen_unread form i i' o o' used status below risen quiet run = by run.outcome r
     by versioned whole comes written = kept comes.1
     by out_of_memory whole comes written = elim comes [ inl part ↦ unrisen part.1.1 | inr word ↦ kept word.1 ]
     by unread whole comes written = written.0
-    by (refused input e) whole comes written = unrisen comes.1.0.quiet
-    by (unscanned input e) whole comes written = unrisen comes.1.0.quiet
-    by (broken chosen cause input a f p) whole comes written = unrisen comes.1.0.quiet
-    by (answered chosen input a f p) whole comes written = unrisen comes.1.0.quiet
-    by (explained input a f p) whole comes written = unrisen comes.1.0.quiet
-    by undecoded whole comes written = kept comes.1
-    by (unshown e) whole comes written = kept comes.1
-    by (shown showing e) whole comes written = kept comes.1
-    by (unnamed e) whole comes written = kept comes.1
-    by unserialized whole comes written = kept comes.1
-    by overlong whole comes written = kept comes.1
-    by (named e) whole comes written = kept comes.1
+    by (refused input e) whole comes written = unrisen comes.taken.quiet
+    by (unscanned input e) whole comes written = unrisen comes.taken.quiet
+    by (broken chosen cause input a f p) whole comes written = unrisen comes.taken.quiet
+    by (answered chosen input a f p) whole comes written = unrisen comes.taken.quiet
+    by (explained input a f p) whole comes written = unrisen comes.taken.quiet
+    by undecoded whole comes written = kept comes.untaken
+    by (unshown e) whole comes written = kept comes.untaken
+    by (shown showing e) whole comes written = kept comes.untaken
+    by (unnamed e) whole comes written = kept comes.untaken
+    by unserialized whole comes written = kept comes.untaken
+    by overlong whole comes written = kept comes.untaken
+    by (named e) whole comes written = kept comes.untaken
     by (summed rows) whole comes written = kept comes.1
-    by (unkeyed top input r) whole comes written = unrisen comes.1.0.quiet
-    by (top_broken cause input a ask) whole comes written = unrisen comes.1.0.quiet
-    by (topped input a ask) whole comes written = unrisen comes.1.0.quiet
+    by (unkeyed top input r) whole comes written = unrisen comes.taken.quiet
+    by (top_broken cause input a ask) whole comes written = unrisen comes.taken.quiet
+    by (topped input a ask) whole comes written = unrisen comes.taken.quiet
 
 -- ---- help, and the version
 
@@ -167,23 +167,23 @@ help_told i i' o o' used status run quiet = by run.outcome run.writing run.comes
         | inr rows ↦ absurd (not_none (sym rows.1))
       ]
     ]
-    by unread whole comes written held = absurd (true≢false (sym comes.0))
-    by (refused input e) whole comes written held = absurd (true≢false (sym comes.0))
-    by (unscanned input e) whole comes written held = absurd (true≢false (sym comes.0))
-    by (broken chosen cause input a f p) whole comes written held = absurd (true≢false (sym (ap reads_request comes.0)))
-    by (answered chosen input a f p) whole comes written held = absurd (true≢false (sym (ap reads_request comes.0)))
-    by (explained input a f p) whole comes written held = absurd (true≢false (sym (ap reads_request comes.0)))
-    by undecoded whole comes written held = absurd (not_none (sym comes.0.1))
-    by (unshown e) whole comes written held = absurd (not_none (sym comes.0.1))
-    by (shown showing e) whole comes written held = absurd (not_none (sym (ap shown_word comes.0.1)))
-    by (unnamed e) whole comes written held = absurd (not_none (sym comes.0.1))
-    by unserialized whole comes written held = absurd (not_none (sym comes.0.2))
-    by overlong whole comes written held = absurd (not_none (sym comes.0.2))
-    by (named e) whole comes written held = absurd (not_none (sym comes.0.1))
+    by unread whole comes written held = absurd (true≢false (sym comes.reads))
+    by (refused input e) whole comes written held = absurd (true≢false (sym comes.asks))
+    by (unscanned input e) whole comes written held = absurd (true≢false (sym comes.asks))
+    by (broken chosen cause input a f p) whole comes written held = absurd (true≢false (sym (ap reads_request comes.asks)))
+    by (answered chosen input a f p) whole comes written held = absurd (true≢false (sym (ap reads_request comes.asks)))
+    by (explained input a f p) whole comes written held = absurd (true≢false (sym (ap reads_request comes.asks)))
+    by undecoded whole comes written held = absurd (not_none (sym comes.asks))
+    by (unshown e) whole comes written held = absurd (not_none (sym comes.asks))
+    by (shown showing e) whole comes written held = absurd (not_none (sym (ap shown_word comes.asks)))
+    by (unnamed e) whole comes written held = absurd (not_none (sym comes.asks))
+    by unserialized whole comes written held = absurd (not_none (sym comes.asks))
+    by overlong whole comes written held = absurd (not_none (sym comes.asks))
+    by (named e) whole comes written held = absurd (not_none (sym comes.asks))
     by (summed rows) whole comes written held = absurd (not_none (sym (ap asked_rows comes.0)))
-    by (unkeyed top input r) whole comes written held = absurd (true≢false (sym (ap reads_request comes.0)))
-    by (top_broken cause input a ask) whole comes written held = absurd (true≢false (sym (ap reads_request comes.0)))
-    by (topped input a ask) whole comes written held = absurd (true≢false (sym (ap reads_request comes.0)))
+    by (unkeyed top input r) whole comes written held = absurd (true≢false (sym (ap reads_request comes.asks)))
+    by (top_broken cause input a ask) whole comes written held = absurd (true≢false (sym (ap reads_request comes.asks)))
+    by (topped input a ask) whole comes written held = absurd (true≢false (sym (ap reads_request comes.asks)))
 
 pub version_told : (i i' o o' : End) (used : Option StoreSeen) (status : ℕ) → IsRun (Some version_form) i i' o o' used status → ¬ (HasRisen o o')
     → IsTold version_text i i' o o' used status
@@ -203,23 +203,23 @@ version_told i i' o o' used status run quiet = by run.outcome run.writing run.co
         | inr rows ↦ absurd (not_none (sym rows.1))
       ]
     ]
-    by unread whole comes written held = absurd (true≢false (sym comes.0))
-    by (refused input e) whole comes written held = absurd (true≢false (sym comes.0))
-    by (unscanned input e) whole comes written held = absurd (true≢false (sym comes.0))
-    by (broken chosen cause input a f p) whole comes written held = absurd (true≢false (sym (ap reads_request comes.0)))
-    by (answered chosen input a f p) whole comes written held = absurd (true≢false (sym (ap reads_request comes.0)))
-    by (explained input a f p) whole comes written held = absurd (true≢false (sym (ap reads_request comes.0)))
-    by undecoded whole comes written held = absurd (not_none (sym comes.0.1))
-    by (unshown e) whole comes written held = absurd (not_none (sym comes.0.1))
-    by (shown showing e) whole comes written held = absurd (not_none (sym (ap shown_word comes.0.1)))
-    by (unnamed e) whole comes written held = absurd (not_none (sym comes.0.1))
-    by unserialized whole comes written held = absurd (not_none (sym comes.0.2))
-    by overlong whole comes written held = absurd (not_none (sym comes.0.2))
-    by (named e) whole comes written held = absurd (not_none (sym comes.0.1))
+    by unread whole comes written held = absurd (true≢false (sym comes.reads))
+    by (refused input e) whole comes written held = absurd (true≢false (sym comes.asks))
+    by (unscanned input e) whole comes written held = absurd (true≢false (sym comes.asks))
+    by (broken chosen cause input a f p) whole comes written held = absurd (true≢false (sym (ap reads_request comes.asks)))
+    by (answered chosen input a f p) whole comes written held = absurd (true≢false (sym (ap reads_request comes.asks)))
+    by (explained input a f p) whole comes written held = absurd (true≢false (sym (ap reads_request comes.asks)))
+    by undecoded whole comes written held = absurd (not_none (sym comes.asks))
+    by (unshown e) whole comes written held = absurd (not_none (sym comes.asks))
+    by (shown showing e) whole comes written held = absurd (not_none (sym (ap shown_word comes.asks)))
+    by (unnamed e) whole comes written held = absurd (not_none (sym comes.asks))
+    by unserialized whole comes written held = absurd (not_none (sym comes.asks))
+    by overlong whole comes written held = absurd (not_none (sym comes.asks))
+    by (named e) whole comes written held = absurd (not_none (sym comes.asks))
     by (summed rows) whole comes written held = absurd (not_none (sym (ap asked_rows comes.0)))
-    by (unkeyed top input r) whole comes written held = absurd (true≢false (sym (ap reads_request comes.0)))
-    by (top_broken cause input a ask) whole comes written held = absurd (true≢false (sym (ap reads_request comes.0)))
-    by (topped input a ask) whole comes written held = absurd (true≢false (sym (ap reads_request comes.0)))
+    by (unkeyed top input r) whole comes written held = absurd (true≢false (sym (ap reads_request comes.asks)))
+    by (top_broken cause input a ask) whole comes written held = absurd (true≢false (sym (ap reads_request comes.asks)))
+    by (topped input a ask) whole comes written held = absurd (true≢false (sym (ap reads_request comes.asks)))
 
 -- ---- words and queries that are refused
 

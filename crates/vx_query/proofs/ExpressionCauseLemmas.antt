@@ -9,6 +9,7 @@ use Rattle.vx_semantics.specs.Tables.{row_type}
 use Rattle.vx_semantics.specs.Typing.{Refusal, not_struct, nullable_select, unknown_field, duplicate_field, type_mismatch, typed_of, and_then, unless}
 use Rattle.vx_laws_simplifying.proofs.Passes.{no_slots-fit}
 use Rattle.vx_wire.specs.Encodings.{is_default_kind}
+use Rattle.vx_scan.specs.ErrorKinds.{ErrorKind, of_text, of_types, kind_of}
 use Rattle.vx_scan.specs.Scanning.{typing_error, on_side, after_filter}
 use Rattle.vx_scan.specs.Texts.{AreRefused}
 use Rattle.vx_scan.specs.declared.errors.Side.{Side}
@@ -160,34 +161,23 @@ untyped_text a side type_mismatch h = elim h [ inl none ↦ none | inr later ↦
 no_boolean_text : (a : RequestedScan) → ¬ (AreRefused is_default_kind a.filter a.projection scans.FilterNotBool)
 no_boolean_text a h = elim h [ inl none ↦ none | inr later ↦ later.1 ]
 
--- whether a refusal is one of a byte text
-pub is_of_text : ScanError → Bool
-is_of_text (scans.BadWire side) = true
-is_of_text (scans.TooDeep side) = true
-is_of_text (scans.TooManyNodes side) = true
-is_of_text (scans.UnknownExpr side) = true
-is_of_text (scans.BadMetadata side) = true
-is_of_text (scans.WrongChildren side) = true
-is_of_text _ = false
+-- a refusal of typing is none of a byte text
+typing_kind : (side : Side) (r : Refusal) → kind_of (typing_error side r) ≡ of_types
+typing_kind side not_struct = refl
+typing_kind side nullable_select = refl
+typing_kind side unknown_field = refl
+typing_kind side duplicate_field = refl
+typing_kind side type_mismatch = refl
 
-typing_no_text : (side : Side) (r : Refusal) → is_of_text (typing_error side r) ≡ false
-unfolding is_of_text
-typing_no_text side not_struct = refl
-typing_no_text side nullable_select = refl
-typing_no_text side unknown_field = refl
-typing_no_text side duplicate_field = refl
-typing_no_text side type_mismatch = refl
+types_no_text : (k : ErrorKind) → k ≡ of_types → k ≡ of_text → ⊥
+types_no_text k h text = absurd cc
 
-boolean_no_text : is_of_text scans.FilterNotBool ≡ false
-unfolding is_of_text
-boolean_no_text = refl
+typed_no_text : (a : RequestedScan) (f p : Tree) (e : ScanError) → IllTyped a f p e → kind_of e ≡ of_text → ⊥
+typed_no_text a f p e (filter_refused r h same) text = types_no_text (kind_of e) (sym (ap kind_of same) ∙ typing_kind Filter r) text
+typed_no_text a f p e (no_boolean h same) text = types_no_text (kind_of e) (sym (ap kind_of same)) text
+typed_no_text a f p e (projection_refused r b h same) text = types_no_text (kind_of e) (sym (ap kind_of same) ∙ typing_kind Projection r) text
 
-typed_no_text : (a : RequestedScan) (f p : Tree) (e : ScanError) → IllTyped a f p e → is_of_text e ≡ true → ⊥
-typed_no_text a f p e (filter_refused r h same) text = true≢false (sym text ∙ sym (ap is_of_text same) ∙ typing_no_text Filter r)
-typed_no_text a f p e (no_boolean h same) text = true≢false (sym text ∙ sym (ap is_of_text same) ∙ boolean_no_text)
-typed_no_text a f p e (projection_refused r b h same) text = true≢false (sym text ∙ sym (ap is_of_text same) ∙ typing_no_text Projection r)
-
-bad_text : (e : ScanError) → is_of_text e ≡ true → (input : Bytes) → HoldsRefused input e → HoldsBadText e input
+bad_text : (e : ScanError) → kind_of e ≡ of_text → (input : Bytes) → HoldsRefused input e → HoldsBadText e input
 bad_text e text input h = by h.refused
   where
     by : IsScanRefused h.asked e → HoldsBadText e input
@@ -197,14 +187,8 @@ bad_text e text input h = by h.refused
 refused_text : (e : ScanError) (input : Bytes) → HoldsBadText e input → HoldsRefused input e
 refused_text e input h = record { asked = h.asked; held = h.held; refused = inl h.refused }
 
-pub text_row : WireLaws → (e : ScanError) → is_of_text e ≡ true → RequestsEndSo 4 (scan_refusal_name e) (HoldsBadText e)
+pub text_row : WireLaws → (e : ScanError) → kind_of e ≡ of_text → RequestsEndSo 4 (scan_refusal_name e) (HoldsBadText e)
 text_row laws e text = expression_row laws e (HoldsBadText e) (bad_text e text) (refused_text e) (text_free e)
-
-pub of_text : (side : Side) → (is_of_text (scans.BadWire side) ≡ true) × (is_of_text (scans.TooDeep side) ≡ true)
-    × (is_of_text (scans.TooManyNodes side) ≡ true) × (is_of_text (scans.UnknownExpr side) ≡ true) × (is_of_text (scans.BadMetadata side) ≡ true)
-    × (is_of_text (scans.WrongChildren side) ≡ true)
-unfolding is_of_text
-of_text side = (refl, refl, refl, refl, refl, refl)
 
 -- ---- the rows of typing
 

@@ -54,23 +54,23 @@ misuses i i' o o' used status run quiet = by run.outcome run.writing run.comes r
         | inr rows ↦ absurd (not_none (sym rows.1))
       ]
     ]
-    by unread whole comes written held = absurd (true≢false (sym comes.0))
-    by (refused input e) whole comes written held = absurd (true≢false (sym comes.0))
-    by (unscanned input e) whole comes written held = absurd (true≢false (sym comes.0))
-    by (broken chosen cause input a f p) whole comes written held = absurd (not_none (sym comes.0))
-    by (answered chosen input a f p) whole comes written held = absurd (not_none (sym comes.0))
-    by (explained input a f p) whole comes written held = absurd (not_none (sym comes.0))
-    by undecoded whole comes written held = absurd (not_none (sym comes.0.1))
-    by (unshown e) whole comes written held = absurd (not_none (sym comes.0.1))
-    by (shown showing e) whole comes written held = absurd (not_none (sym comes.0.1))
-    by (unnamed e) whole comes written held = absurd (not_none (sym comes.0.1))
-    by unserialized whole comes written held = absurd (not_none (sym comes.0.2))
-    by overlong whole comes written held = absurd (not_none (sym comes.0.2))
-    by (named e) whole comes written held = absurd (not_none (sym comes.0.1))
+    by unread whole comes written held = absurd (true≢false (sym comes.reads))
+    by (refused input e) whole comes written held = absurd (true≢false (sym comes.asks))
+    by (unscanned input e) whole comes written held = absurd (true≢false (sym comes.asks))
+    by (broken chosen cause input a f p) whole comes written held = absurd (not_none (sym comes.asks))
+    by (answered chosen input a f p) whole comes written held = absurd (not_none (sym comes.asks))
+    by (explained input a f p) whole comes written held = absurd (not_none (sym comes.asks))
+    by undecoded whole comes written held = absurd (not_none (sym comes.asks))
+    by (unshown e) whole comes written held = absurd (not_none (sym comes.asks))
+    by (shown showing e) whole comes written held = absurd (not_none (sym comes.asks))
+    by (unnamed e) whole comes written held = absurd (not_none (sym comes.asks))
+    by unserialized whole comes written held = absurd (not_none (sym comes.asks))
+    by overlong whole comes written held = absurd (not_none (sym comes.asks))
+    by (named e) whole comes written held = absurd (not_none (sym comes.asks))
     by (summed rows) whole comes written held = absurd (not_none (sym comes.0))
-    by (unkeyed top input r) whole comes written held = absurd (not_none (sym comes.0))
-    by (top_broken cause input a ask) whole comes written held = absurd (not_none (sym comes.0))
-    by (topped input a ask) whole comes written held = absurd (not_none (sym comes.0))
+    by (unkeyed top input r) whole comes written held = absurd (not_none (sym comes.asks))
+    by (top_broken cause input a ask) whole comes written held = absurd (not_none (sym comes.asks))
+    by (topped input a ask) whole comes written held = absurd (not_none (sym comes.asks))
 
 -- ---- which forms break, hold stores and take nothing
 
@@ -93,7 +93,7 @@ broken_scans form i i' o o' used run = by run.outcome run.writing run.comes run.
     by unread whole comes written = absurd (omega (arith, written.0))
     by (refused input e) whole comes written = absurd (omega (arith, written.0))
     by (unscanned input e) whole comes written = absurd (omega (arith, written.0))
-    by (broken chosen cause input a f p) whole comes written = inl (chosen, comes.0)
+    by (broken chosen cause input a f p) whole comes written = inl (chosen, comes.asks)
     by (answered chosen input a f p) whole comes written = absurd (omega (arith, written.0))
     by (explained input a f p) whole comes written = absurd (omega (arith, written.0))
     by undecoded whole comes written = absurd (omega (arith, written.0))
@@ -105,7 +105,7 @@ broken_scans form i i' o o' used run = by run.outcome run.writing run.comes run.
     by (named e) whole comes written = absurd (omega (arith, written.0))
     by (summed rows) whole comes written = absurd (omega (arith, written.0))
     by (unkeyed top input r) whole comes written = absurd (omega (arith, written.0))
-    by (top_broken cause input a ask) whole comes written = inr (words_of ask, comes.0)
+    by (top_broken cause input a ask) whole comes written = inr (words_of ask, comes.asks)
     by (topped input a ask) whole comes written = absurd (omega (arith, written.0))
 
 pub broken_reads : (form : Option Form) (i i' o o' : End) (used : Option StoreSeen) → IsRun form i i' o o' used 5 → reads_request form ≡ true
@@ -124,8 +124,8 @@ scans_hold form i i' o o' used status no_scan none no_top run = by run.outcome r
     by unread comes held = held
     by (refused input e) comes held = held
     by (unscanned input e) comes held = held
-    by (broken chosen cause input a f p) comes held = absurd (not_none (sym (ap asked_statistics comes.0) ∙ no_scan))
-    by (answered chosen input a f p) comes held = absurd (not_none (sym (ap asked_statistics comes.0) ∙ no_scan))
+    by (broken chosen cause input a f p) comes held = absurd (not_none (sym (ap asked_statistics comes.asks) ∙ no_scan))
+    by (answered chosen input a f p) comes held = absurd (not_none (sym (ap asked_statistics comes.asks) ∙ no_scan))
     by (explained input a f p) comes held = held
     by undecoded comes held = held
     by (unshown e) comes held = held
@@ -136,8 +136,8 @@ scans_hold form i i' o o' used status no_scan none no_top run = by run.outcome r
     by (named e) comes held = held
     by (summed rows) comes held = absurd (not_none (sym (ap asked_rows comes.0) ∙ none))
     by (unkeyed top input r) comes held = held
-    by (top_broken cause input a ask) comes held = absurd (not_none (sym (ap asked_top comes.0) ∙ no_top))
-    by (topped input a ask) comes held = absurd (not_none (sym (ap asked_top comes.0) ∙ no_top))
+    by (top_broken cause input a ask) comes held = absurd (not_none (sym (ap asked_top comes.asks) ∙ no_top))
+    by (topped input a ask) comes held = absurd (not_none (sym (ap asked_top comes.asks) ∙ no_top))
 
 pub others_take_nothing : (form : Option Form) (i i' o o' : End) (used : Option StoreSeen) (status : ℕ) → reads_request form ≡ false
     → IsRun form i i' o o' used status → i' ≡ i
@@ -151,20 +151,20 @@ others_take_nothing form i i' o o' used status none run = by run.outcome run.com
     by helped comes = comes.1
     by versioned comes = comes.1
     by out_of_memory comes = elim comes [ inl part ↦ absurd (true≢false (sym part.0 ∙ none)) | inr word ↦ word.1 ]
-    by unread comes = absurd (true≢false (sym comes.0 ∙ none))
-    by (refused input e) comes = absurd (true≢false (sym comes.0 ∙ none))
-    by (unscanned input e) comes = absurd (true≢false (sym comes.0 ∙ none))
-    by (broken chosen cause input a f p) comes = absurd (differs (Some (scan_form chosen)) refl comes.0)
-    by (answered chosen input a f p) comes = absurd (differs (Some (scan_form chosen)) refl comes.0)
-    by (explained input a f p) comes = absurd (differs (Some explain_form) refl comes.0)
-    by undecoded comes = comes.1
-    by (unshown e) comes = comes.1
-    by (shown showing e) comes = comes.1
-    by (unnamed e) comes = comes.1
-    by unserialized comes = comes.1
-    by overlong comes = comes.1
-    by (named e) comes = comes.1
+    by unread comes = absurd (true≢false (sym comes.reads ∙ none))
+    by (refused input e) comes = absurd (true≢false (sym comes.asks ∙ none))
+    by (unscanned input e) comes = absurd (true≢false (sym comes.asks ∙ none))
+    by (broken chosen cause input a f p) comes = absurd (differs (Some (scan_form chosen)) refl comes.asks)
+    by (answered chosen input a f p) comes = absurd (differs (Some (scan_form chosen)) refl comes.asks)
+    by (explained input a f p) comes = absurd (differs (Some explain_form) refl comes.asks)
+    by undecoded comes = comes.untaken
+    by (unshown e) comes = comes.untaken
+    by (shown showing e) comes = comes.untaken
+    by (unnamed e) comes = comes.untaken
+    by unserialized comes = comes.untaken
+    by overlong comes = comes.untaken
+    by (named e) comes = comes.untaken
     by (summed rows) comes = comes.1
-    by (unkeyed top input r) comes = absurd (differs (Some (top_form top)) refl comes.0)
-    by (top_broken cause input a ask) comes = absurd (differs (Some (top_form (words_of ask))) refl comes.0)
-    by (topped input a ask) comes = absurd (differs (Some (top_form (words_of ask))) refl comes.0)
+    by (unkeyed top input r) comes = absurd (differs (Some (top_form top)) refl comes.asks)
+    by (top_broken cause input a ask) comes = absurd (differs (Some (top_form (words_of ask))) refl comes.asks)
+    by (topped input a ask) comes = absurd (differs (Some (top_form (words_of ask))) refl comes.asks)

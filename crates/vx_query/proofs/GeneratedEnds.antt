@@ -44,19 +44,19 @@ generated_end rows i i' o o' used status run =
     by helped whole comes written held untaken = absurd (asks_other rows (Some help_form) refl comes.0)
     by versioned whole comes written held untaken = absurd (asks_other rows (Some version_form) refl comes.0)
     by out_of_memory whole comes written held untaken = without_memory written.0 untaken held
-    by unread whole comes written held untaken = absurd (true≢false (sym comes.0))
-    by (refused input e) whole comes written held untaken = absurd (true≢false (sym comes.0))
-    by (unscanned input e) whole comes written held untaken = absurd (true≢false (sym comes.0))
-    by (broken chosen cause input a f p) whole comes written held untaken = absurd (asks_other rows (Some (scan_form chosen)) refl comes.0)
-    by (answered chosen input a f p) whole comes written held untaken = absurd (asks_other rows (Some (scan_form chosen)) refl comes.0)
-    by (explained input a f p) whole comes written held untaken = absurd (asks_other rows (Some explain_form) refl comes.0)
-    by undecoded whole comes written held untaken = absurd (not_none (sym comes.0.1))
-    by (unshown e) whole comes written held untaken = absurd (not_none (sym comes.0.1))
-    by (shown showing e) whole comes written held untaken = absurd (asks_other rows (Some (show_form showing comes.0.0)) refl comes.0.1)
-    by (unnamed e) whole comes written held untaken = absurd (not_none (sym comes.0.1))
-    by unserialized whole comes written held untaken = absurd (not_none (sym comes.0.2))
-    by overlong whole comes written held untaken = absurd (not_none (sym comes.0.2))
-    by (named e) whole comes written held untaken = absurd (not_none (sym comes.0.1))
+    by unread whole comes written held untaken = absurd (true≢false (sym comes.reads))
+    by (refused input e) whole comes written held untaken = absurd (true≢false (sym comes.asks))
+    by (unscanned input e) whole comes written held untaken = absurd (true≢false (sym comes.asks))
+    by (broken chosen cause input a f p) whole comes written held untaken = absurd (asks_other rows (Some (scan_form chosen)) refl comes.asks)
+    by (answered chosen input a f p) whole comes written held untaken = absurd (asks_other rows (Some (scan_form chosen)) refl comes.asks)
+    by (explained input a f p) whole comes written held untaken = absurd (asks_other rows (Some explain_form) refl comes.asks)
+    by undecoded whole comes written held untaken = absurd (not_none (sym comes.asks))
+    by (unshown e) whole comes written held untaken = absurd (not_none (sym comes.asks))
+    by (shown showing e) whole comes written held untaken = absurd (asks_other rows (Some (show_form showing comes.word)) refl comes.asks)
+    by (unnamed e) whole comes written held untaken = absurd (not_none (sym comes.asks))
+    by unserialized whole comes written held untaken = absurd (not_none (sym comes.asks))
+    by overlong whole comes written held untaken = absurd (not_none (sym comes.asks))
+    by (named e) whole comes written held untaken = absurd (not_none (sym comes.asks))
     by (summed other) whole comes written held untaken =
         let same = same_rows rows other comes.0 in
         with_line written.0 record {
@@ -64,9 +64,9 @@ generated_end rows i i' o o' used status run =
           written = subst (λ n. Added o.bytes o'.bytes (gen_line n)) same written.1.0;
           held = held ∙ ap (λ n. Some (generated_store n)) same;
         }
-    by (unkeyed top input r) whole comes written held untaken = absurd (asks_other rows (Some (top_form top)) refl comes.0)
-    by (top_broken cause input a ask) whole comes written held untaken = absurd (asks_other rows (Some (top_form (words_of ask))) refl comes.0)
-    by (topped input a ask) whole comes written held untaken = absurd (asks_other rows (Some (top_form (words_of ask))) refl comes.0)
+    by (unkeyed top input r) whole comes written held untaken = absurd (asks_other rows (Some (top_form top)) refl comes.asks)
+    by (top_broken cause input a ask) whole comes written held untaken = absurd (asks_other rows (Some (top_form (words_of ask))) refl comes.asks)
+    by (topped input a ask) whole comes written held untaken = absurd (asks_other rows (Some (top_form (words_of ask))) refl comes.asks)
 
 -- where there is memory, and the sink counts no fault, it ends with the line
 pub was_summed_whole : (rows : ℕ) (i i' o o' : End) (used : Option StoreSeen) (status : ℕ) → RunsWell (Some (gen_form rows)) i i' o o' used status
@@ -106,8 +106,8 @@ store_of rows i i' o o' store status run = by run.outcome run.comes run.held
     by unread comes held = absurd (not_none held)
     by (refused input e) comes held = absurd (not_none held)
     by (unscanned input e) comes held = absurd (not_none held)
-    by (broken chosen cause input a f p) comes held = absurd (asks_other rows (Some (scan_form chosen)) refl comes.0)
-    by (answered chosen input a f p) comes held = absurd (asks_other rows (Some (scan_form chosen)) refl comes.0)
+    by (broken chosen cause input a f p) comes held = absurd (asks_other rows (Some (scan_form chosen)) refl comes.asks)
+    by (answered chosen input a f p) comes held = absurd (asks_other rows (Some (scan_form chosen)) refl comes.asks)
     by (explained input a f p) comes held = absurd (not_none held)
     by undecoded comes held = absurd (not_none held)
     by (unshown e) comes held = absurd (not_none held)
@@ -118,8 +118,8 @@ store_of rows i i' o o' store status run = by run.outcome run.comes run.held
     by (named e) comes held = absurd (not_none held)
     by (summed other) comes held = same_Some store (generated_store other) held ∙ ap generated_store (same_rows rows other comes.0)
     by (unkeyed top input r) comes held = absurd (not_none held)
-    by (top_broken cause input a ask) comes held = absurd (asks_other rows (Some (top_form (words_of ask))) refl comes.0)
-    by (topped input a ask) comes held = absurd (asks_other rows (Some (top_form (words_of ask))) refl comes.0)
+    by (top_broken cause input a ask) comes held = absurd (asks_other rows (Some (top_form (words_of ask))) refl comes.asks)
+    by (topped input a ask) comes held = absurd (asks_other rows (Some (top_form (words_of ask))) refl comes.asks)
 
 pub generated_reads_asked : KeptNumbersAreKeptBlocks → (rows : ℕ) (i i' o o' : End) (store : StoreSeen) (status : ℕ)
     → IsRun (Some (gen_form rows)) i i' o o' (Some store) status → HasGeneratedReads rows store

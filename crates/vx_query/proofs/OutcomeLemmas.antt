@@ -36,22 +36,22 @@ EndsRefused form before after r =
 pub refused_unread : (form : Option Form) → reads_request form ≡ true → (before after : End) (e : InputError) → IsPartTaken before after
     → (e ≡ inputs.NoMemory → after.faults ≡ before.faults) → (e ≡ inputs.ReadFault → one_more before.faults ≤ after.faults) → EndsRefused form before after (input_refusal e)
 refused_unread form reads before after inputs.NoMemory part quiet cause = (out_of_memory, inl (reads, (part, quiet refl)), refl, refl, refl)
-refused_unread form reads before after inputs.ReadFault part quiet cause = (unread, (reads, (part, cause refl)), refl, refl, refl)
+refused_unread form reads before after inputs.ReadFault part quiet cause = (unread, record { reads = reads; part = part; risen = cause refl }, refl, refl, refl)
 
 -- an input that is taken and has no report
 pub refused_taken : (form : Option Form) → reads_request form ≡ true → (before after : End) (input : Bytes) (r : Refusal) → ¬ (HasNoKey form input)
     → IsPartTaken before after → IsTaken before after input → IsUnanswered input r → EndsRefused form before after r
 refused_taken form reads before after input NoMemory keyed part taken told = (out_of_memory, inl (reads, (part, taken.quiet)), refl, refl, refl)
 refused_taken form reads before after input ReadFault keyed part taken told = absurd told
-refused_taken form reads before after input InputTooLong keyed part taken told = (refused input requests.InputTooLong, (reads, (taken, told)), refl, refl, refl)
-refused_taken form reads before after input BadJson keyed part taken told = (refused input requests.BadJson, (reads, (taken, told)), refl, refl, refl)
+refused_taken form reads before after input InputTooLong keyed part taken told = (refused input requests.InputTooLong, record { asks = reads; taken = taken; holds = told }, refl, refl, refl)
+refused_taken form reads before after input BadJson keyed part taken told = (refused input requests.BadJson, record { asks = reads; taken = taken; holds = told }, refl, refl, refl)
 refused_taken form reads before after input (BadRequest place) keyed part taken told =
-    (refused input (requests.BadRequest place), (reads, (taken, told)), refl, refl, refl)
-refused_taken form reads before after input (BadHex side) keyed part taken told = (refused input (requests.BadHex side), (reads, (taken, told)), refl, refl, refl)
+    (refused input (requests.BadRequest place), record { asks = reads; taken = taken; holds = told }, refl, refl, refl)
+refused_taken form reads before after input (BadHex side) keyed part taken told = (refused input (requests.BadHex side), record { asks = reads; taken = taken; holds = told }, refl, refl, refl)
 refused_taken form reads before after input (BadTable refusal) keyed part taken told =
-    (refused input (requests.BadTable refusal), (reads, (taken, told)), refl, refl, refl)
+    (refused input (requests.BadTable refusal), record { asks = reads; taken = taken; holds = told }, refl, refl, refl)
 refused_taken form reads before after input BadHexText keyed part taken told = absurd told
-refused_taken form reads before after input (Scan e) keyed part taken told = (unscanned input e, (reads, (taken, (told, keyed))), refl, refl, refl)
+refused_taken form reads before after input (Scan e) keyed part taken told = (unscanned input e, record { asks = reads; taken = taken; holds = (told, keyed) }, refl, refl, refl)
 refused_taken form reads before after input (Query e) keyed part taken told = absurd told
 refused_taken form reads before after input NotSerializable keyed part taken told = absurd told
 refused_taken form reads before after input LongPart keyed part taken told = absurd told
@@ -68,8 +68,8 @@ word_refused form word is source BadJson told = absurd told
 word_refused form word is source (BadRequest place) told = absurd told
 word_refused form word is source (BadHex side) told = absurd told
 word_refused form word is source (BadTable refusal) told = absurd told
-word_refused form word is source BadHexText told = (undecoded, ((word, is, told), refl), refl, refl, refl)
-word_refused form word is source (Scan e) told = (unshown e, ((word, is, told), refl), refl, refl, refl)
+word_refused form word is source BadHexText told = (undecoded, record { word = word; asks = is; holds = told; untaken = refl }, refl, refl, refl)
+word_refused form word is source (Scan e) told = (unshown e, record { word = word; asks = is; holds = told; untaken = refl }, refl, refl, refl)
 word_refused form word is source (Query e) told = absurd told
 word_refused form word is source NotSerializable told = absurd told
 word_refused form word is source LongPart told = absurd told
@@ -87,9 +87,9 @@ query_refused query source (BadHex side) told = absurd told
 query_refused query source (BadTable refusal) told = absurd told
 query_refused query source BadHexText told = absurd told
 query_refused query source (Scan e) told = absurd told
-query_refused query source (Query e) told = (unnamed e, ((query, refl, told), refl), refl, refl, refl)
-query_refused query source NotSerializable told = (unserialized, ((query, told.0, refl, told.1, told.2), refl), refl, refl, refl)
-query_refused query source LongPart told = (overlong, ((query, told.0, refl, told.1, told.2, told.3), refl), refl, refl, refl)
+query_refused query source (Query e) told = (unnamed e, record { word = query; asks = refl; holds = told; untaken = refl }, refl, refl, refl)
+query_refused query source NotSerializable told = (unserialized, record { word = query; asks = refl; holds = told; untaken = refl }, refl, refl, refl)
+query_refused query source LongPart told = (overlong, record { word = query; asks = refl; holds = told; untaken = refl }, refl, refl, refl)
 query_refused query source UnknownKey told = absurd told
 query_refused query source BadKey told = absurd told
 
@@ -107,7 +107,7 @@ pub explained_taken : (before after : End) (input : Bytes) (answer : Result (Str
     → ExplainsInput input answer → IsAnsweredBy (Some explain_form) before after answer
 explained_taken before after input (Ok text) part taken h = record {
   outcome = explained input h.asked h.filter h.projection;
-  comes = (refl, (taken, h.holds));
+  comes = record { asks = refl; taken = taken; holds = h.holds };
   status = refl;
   text = sym h.told;
   unheld = refl;
@@ -118,7 +118,7 @@ explained_taken before after input (Err r) part taken h =
 pub word_shown : (showing : Showing) (word : Bytes) (source : End) (answer : Result (String Global) Refusal) → ShowsWord (shown_text showing) word answer
     → IsAnsweredBy (Some (show_form showing word)) source source answer
 word_shown showing word source (Ok text) h =
-    record { outcome = shown showing h.0; comes = ((word, refl, h.1), refl); status = refl; text = sym h.2; unheld = refl }
+    record { outcome = shown showing h.0; comes = record { word = word; asks = refl; holds = h.1; untaken = refl }; status = refl; text = sym h.2; unheld = refl }
 word_shown showing word source (Err r) h =
     answered_refusal (Some (show_form showing word)) source source r (word_refused (Some (show_form showing word)) word refl source r h)
 
@@ -126,7 +126,7 @@ word_shown showing word source (Err r) h =
 pub query_answered : (query : Bytes) (source : End) (answer : Result (String Global) Refusal) → AnswersQuery query answer
     → IsAnsweredBy (Some (text_form query)) source source answer
 query_answered query source (Ok text) h =
-    record { outcome = named h.0; comes = ((query, refl, h.1, h.2), refl); status = refl; text = sym h.3; unheld = refl }
+    record { outcome = named h.0; comes = record { word = query; asks = refl; holds = (h.1, h.2); untaken = refl }; status = refl; text = sym h.3; unheld = refl }
 query_answered query source (Err r) h = answered_refusal (Some (text_form query)) source source r (query_refused query source r h)
 
 -- what is answered where an input is refused
@@ -157,9 +157,9 @@ pub told_taken : (chosen : Statistics) (before after : End) (input : Bytes) (end
 told_taken chosen before after input ending seen taken found = by ending found.ends
   where
     by : (e : Ending) → EndsBy (scan_by chosen found.asked) found.filter found.projection e seen → IsEnded (Some (scan_form chosen)) before after e (Some seen)
-    by (Report text) ends = (answered chosen input found.asked found.filter found.projection, (refl, (taken, (found.holds, ends.0))), refl, sym ends.1, ap Some ends.2)
-    by Overflow ends = (broken chosen by_sum input found.asked found.filter found.projection, (refl, (taken, (found.holds, ends.0))), refl, refl, ap Some ends.1)
-    by BadCast ends = (broken chosen by_cast input found.asked found.filter found.projection, (refl, (taken, (found.holds, ends.0))), refl, refl, ap Some ends.1)
+    by (Report text) ends = (answered chosen input found.asked found.filter found.projection, record { asks = refl; taken = taken; holds = (found.holds, ends.0) }, refl, sym ends.1, ap Some ends.2)
+    by Overflow ends = (broken chosen by_sum input found.asked found.filter found.projection, record { asks = refl; taken = taken; holds = (found.holds, ends.0) }, refl, refl, ap Some ends.1)
+    by BadCast ends = (broken chosen by_cast input found.asked found.filter found.projection, record { asks = refl; taken = taken; holds = (found.holds, ends.0) }, refl, refl, ap Some ends.1)
 
 -- an input that holds a search for first rows
 pub searched_taken : (top : AskedTop) (before after : End) (input : Bytes) (ending : Ending) (seen : StoreSeen) → IsTaken before after input
@@ -170,29 +170,29 @@ searched_taken top before after input ending seen taken found = by ending found.
     ask = ask_of top found.filter found.projection found.key_type
 
     by : (e : Ending) → TopEndsBy found.asked ask e seen → IsEnded (Some (top_form top)) before after e (Some seen)
-    by (Report text) ends = (topped input found.asked ask, (refl, (taken, (found.holds, ends.0))), refl, sym ends.1, ap Some ends.2)
-    by Overflow ends = (top_broken by_sum input found.asked ask, (refl, (taken, (found.holds, ends.0))), refl, refl, ap Some ends.1)
-    by BadCast ends = (top_broken by_cast input found.asked ask, (refl, (taken, (found.holds, ends.0))), refl, refl, ap Some ends.1)
+    by (Report text) ends = (topped input found.asked ask, record { asks = refl; taken = taken; holds = (found.holds, ends.0) }, refl, sym ends.1, ap Some ends.2)
+    by Overflow ends = (top_broken by_sum input found.asked ask, record { asks = refl; taken = taken; holds = (found.holds, ends.0) }, refl, refl, ap Some ends.1)
+    by BadCast ends = (top_broken by_cast input found.asked ask, record { asks = refl; taken = taken; holds = (found.holds, ends.0) }, refl, refl, ap Some ends.1)
 
 -- and one of which first rows are asked and not found
 pub unsearched_taken : (top : AskedTop) (before after : End) (input : Bytes) (r : Refusal) → IsPartTaken before after → IsTaken before after input
     → IsTopUnanswered top input r → EndsRefused (Some (top_form top)) before after r
 unsearched_taken top before after input NoMemory part taken told = (out_of_memory, inl (refl, (part, taken.quiet)), refl, refl, refl)
 unsearched_taken top before after input ReadFault part taken told = absurd told
-unsearched_taken top before after input InputTooLong part taken told = (refused input requests.InputTooLong, (refl, (taken, told)), refl, refl, refl)
-unsearched_taken top before after input BadJson part taken told = (refused input requests.BadJson, (refl, (taken, told)), refl, refl, refl)
+unsearched_taken top before after input InputTooLong part taken told = (refused input requests.InputTooLong, record { asks = refl; taken = taken; holds = told }, refl, refl, refl)
+unsearched_taken top before after input BadJson part taken told = (refused input requests.BadJson, record { asks = refl; taken = taken; holds = told }, refl, refl, refl)
 unsearched_taken top before after input (BadRequest place) part taken told =
-    (refused input (requests.BadRequest place), (refl, (taken, told)), refl, refl, refl)
-unsearched_taken top before after input (BadHex side) part taken told = (refused input (requests.BadHex side), (refl, (taken, told)), refl, refl, refl)
+    (refused input (requests.BadRequest place), record { asks = refl; taken = taken; holds = told }, refl, refl, refl)
+unsearched_taken top before after input (BadHex side) part taken told = (refused input (requests.BadHex side), record { asks = refl; taken = taken; holds = told }, refl, refl, refl)
 unsearched_taken top before after input (BadTable refusal) part taken told =
-    (refused input (requests.BadTable refusal), (refl, (taken, told)), refl, refl, refl)
+    (refused input (requests.BadTable refusal), record { asks = refl; taken = taken; holds = told }, refl, refl, refl)
 unsearched_taken top before after input BadHexText part taken told = absurd told
-unsearched_taken top before after input (Scan e) part taken told = (unscanned input e, (refl, (taken, told)), refl, refl, refl)
+unsearched_taken top before after input (Scan e) part taken told = (unscanned input e, record { asks = refl; taken = taken; holds = told }, refl, refl, refl)
 unsearched_taken top before after input (Query e) part taken told = absurd told
 unsearched_taken top before after input NotSerializable part taken told = absurd told
 unsearched_taken top before after input LongPart part taken told = absurd told
-unsearched_taken top before after input UnknownKey part taken told = (unkeyed top input unknown_key, (refl, (taken, told)), refl, refl, refl)
-unsearched_taken top before after input BadKey part taken told = (unkeyed top input bad_key, (refl, (taken, told)), refl, refl, refl)
+unsearched_taken top before after input UnknownKey part taken told = (unkeyed top input unknown_key, record { asks = refl; taken = taken; holds = told }, refl, refl, refl)
+unsearched_taken top before after input BadKey part taken told = (unkeyed top input bad_key, record { asks = refl; taken = taken; holds = told }, refl, refl, refl)
 
 -- a run of an outcome
 pub run_of : (form : Option Form) (i i' o o' : End) (used : Option StoreSeen) (status : ℕ) (outcome : Outcome) → IsOutcome form i i' outcome

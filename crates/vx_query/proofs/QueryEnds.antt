@@ -44,24 +44,24 @@ query_end query i i' o o' used status run = by run.outcome run.writing run.comes
     by helped whole comes written held = absurd (asks_other query (Some help_form) refl comes.0)
     by versioned whole comes written held = absurd (asks_other query (Some version_form) refl comes.0)
     by out_of_memory whole comes written held = without_memory written.0
-    by unread whole comes written held = absurd (true≢false (sym comes.0))
-    by (refused input e) whole comes written held = absurd (true≢false (sym comes.0))
-    by (unscanned input e) whole comes written held = absurd (true≢false (sym comes.0))
-    by (broken chosen cause input a f p) whole comes written held = absurd (asks_other query (Some (scan_form chosen)) refl comes.0)
-    by (answered chosen input a f p) whole comes written held = absurd (asks_other query (Some (scan_form chosen)) refl comes.0)
-    by (explained input a f p) whole comes written held = absurd (asks_other query (Some explain_form) refl comes.0)
-    by undecoded whole comes written held = absurd (not_none (sym comes.0.1))
-    by (unshown e) whole comes written held = absurd (not_none (sym comes.0.1))
-    by (shown showing e) whole comes written held = absurd (asks_other query (Some (show_form showing comes.0.0)) refl comes.0.1)
+    by unread whole comes written held = absurd (true≢false (sym comes.reads))
+    by (refused input e) whole comes written held = absurd (true≢false (sym comes.asks))
+    by (unscanned input e) whole comes written held = absurd (true≢false (sym comes.asks))
+    by (broken chosen cause input a f p) whole comes written held = absurd (asks_other query (Some (scan_form chosen)) refl comes.asks)
+    by (answered chosen input a f p) whole comes written held = absurd (asks_other query (Some (scan_form chosen)) refl comes.asks)
+    by (explained input a f p) whole comes written held = absurd (asks_other query (Some explain_form) refl comes.asks)
+    by undecoded whole comes written held = absurd (not_none (sym comes.asks))
+    by (unshown e) whole comes written held = absurd (not_none (sym comes.asks))
+    by (shown showing e) whole comes written held = absurd (asks_other query (Some (show_form showing comes.word)) refl comes.asks)
     by (unnamed e) whole comes written held =
-        no_query e written.0 (subst (λ q. reading_of q ≡ Err e) (same_query query comes.0.0 comes.0.1) comes.0.2) written.1.0
+        no_query e written.0 (subst (λ q. reading_of q ≡ Err e) (same_query query comes.word comes.asks) comes.holds) written.1.0
     by unserialized whole comes written held =
-        too_deep comes.0.1 written.0 (subst (λ q. Names q comes.0.1) (same_query query comes.0.0 comes.0.2) comes.0.3) comes.0.4 written.1.0
+        too_deep comes.holds.0 written.0 (subst (λ q. Names q comes.holds.0) (same_query query comes.word comes.asks) comes.holds.1) comes.holds.2 written.1.0
     by overlong whole comes written held =
-        too_long comes.0.1 written.0 (subst (λ q. Names q comes.0.1) (same_query query comes.0.0 comes.0.2) comes.0.3) comes.0.4 comes.0.5 written.1.0
+        too_long comes.holds.0 written.0 (subst (λ q. Names q comes.holds.0) (same_query query comes.word comes.asks) comes.holds.1) comes.holds.2 comes.holds.3 written.1.0
     by (named e) whole comes written held =
-        bytes e written.0 (subst (λ q. Names q e) (same_query query comes.0.0 comes.0.1) comes.0.2) comes.0.3 comes.1 written.1.0 held
+        bytes e written.0 (subst (λ q. Names q e) (same_query query comes.word comes.asks) comes.holds.0) comes.holds.1 comes.untaken written.1.0 held
     by (summed rows) whole comes written held = absurd (asks_other query (Some (gen_form rows)) refl comes.0)
-    by (unkeyed top input r) whole comes written held = absurd (asks_other query (Some (top_form top)) refl comes.0)
-    by (top_broken cause input a ask) whole comes written held = absurd (asks_other query (Some (top_form (words_of ask))) refl comes.0)
-    by (topped input a ask) whole comes written held = absurd (asks_other query (Some (top_form (words_of ask))) refl comes.0)
+    by (unkeyed top input r) whole comes written held = absurd (asks_other query (Some (top_form top)) refl comes.asks)
+    by (top_broken cause input a ask) whole comes written held = absurd (asks_other query (Some (top_form (words_of ask))) refl comes.asks)
+    by (topped input a ask) whole comes written held = absurd (asks_other query (Some (top_form (words_of ask))) refl comes.asks)

@@ -8,8 +8,8 @@ use Rattle.vx_text.specs.Reading.{reading_of}
 use Rattle.vx_text.specs.declared.errors.TextError.{TextError}
 use Rattle.vx_text.specs.declared.errors.TextError.TheVariants as texts
 use Rattle.vx_query.specs.Refusals.{text_refusal_name, refusal_line}
-use Rattle.vx_query.specs.Running.{End, text_form, Names, IsShallow, IsOverlong, HasBytes, bytes_line, IsRun}
-use Rattle.vx_query.specs.Causes.{IsNamed, HasDeepType, HasLongPart, IsLongQuery}
+use Rattle.vx_query.specs.Running.{End, text_form, Names, IsShallow, IsOverlong, HasDeepType, HasLongPart, HasBytes, bytes_line, IsRun}
+use Rattle.vx_query.specs.Causes.{IsNamed, IsLongQuery}
 use Rattle.vx_query.specs.Exactly.{RunsWell, EndsWith, QueriesEndSo}
 use Rattle.vx_query.proofs.RefusalLemmas.{one_err, not_err, one_ok}
 use Rattle.vx_query.proofs.LineLemmas.{one_text, told_name}

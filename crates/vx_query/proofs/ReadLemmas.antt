@@ -180,14 +180,7 @@ asked_alone kept form i i' o o' store status reads no_top run = by run.outcome r
         let agreeing : agree (Ok b) ≡ true = agree_by chosen a (ap agree (sym asks.asked) ∙ agree_in input) in
         let all = among_trans store.log (scan_reads b f p) (asked_reads b.zones [] f p) among (reads_among kept b f p agreeing) in
         record {
-          statistics = chosen;
-          scans = scans;
-          input = input;
-          asked = a;
-          filter = f;
-          projection = p;
-          taken = taken;
-          asks = asks;
+          scan = record { statistics = chosen; scans = scans; input = input; asked = a; filter = f; projection = p; taken = taken; asks = asks };
           held = held;
           all_asked = reads_are_asked b.zones [] f p store.log all;
           all_needed = among_pass (is_needed_read b f) store.log (scan_reads b f p) among (reads_needed b f p);
@@ -205,15 +198,15 @@ asked_alone kept form i i' o o' store status reads no_top run = by run.outcome r
     by (broken chosen cause input a f p) comes held =
         let b = scan_by chosen a in
         let whole : store_after b f p ≡ broken_store b f p =
-        ap (λ x. cond x (broken_store b f p) (scanned_store b f p)) (breaks_by_one cause b f p comes.1.1.1) in
+        ap (λ x. cond x (broken_store b f p) (scanned_store b f p)) (breaks_by_one cause b f p comes.holds.1) in
         let log : store.log ≡ reads_to_break (scan_table b) b.zones [] f p = ap (λ s. s.log) (same_Some store (broken_store b f p) held) in
-        store_of chosen comes.0 input a f p comes.1.0 comes.1.1.0 (same_Some store (broken_store b f p) held ∙ sym whole)
+        store_of chosen comes.asks input a f p comes.taken comes.holds.0 (same_Some store (broken_store b f p) held ∙ sym whole)
         (subst (λ rs. AreAmong rs (scan_reads b f p)) (sym log) (to_break_among (row_type b.zones.columns) [] (phases_of (scan_table b) b.zones [] f p)))
     by (answered chosen input a f p) comes held =
         let b = scan_by chosen a in
-        let whole : store_after b f p ≡ scanned_store b f p = ap (λ x. cond x (broken_store b f p) (scanned_store b f p)) comes.1.1.1 in
+        let whole : store_after b f p ≡ scanned_store b f p = ap (λ x. cond x (broken_store b f p) (scanned_store b f p)) comes.holds.1 in
         let log : store.log ≡ scan_reads b f p = ap (λ s. s.log) (same_Some store (scanned_store b f p) held) in
-        store_of chosen comes.0 input a f p comes.1.0 comes.1.1.0 (same_Some store (scanned_store b f p) held ∙ sym whole)
+        store_of chosen comes.asks input a f p comes.taken comes.holds.0 (same_Some store (scanned_store b f p) held ∙ sym whole)
         (subst (λ rs. AreAmong rs (scan_reads b f p)) (sym log) (among_all (scan_reads b f p)))
     by (explained input a f p) comes held = absurd (not_none held)
     by undecoded comes held = absurd (not_none held)
@@ -225,5 +218,5 @@ asked_alone kept form i i' o o' store status reads no_top run = by run.outcome r
     by (named e) comes held = absurd (not_none held)
     by (summed rows) comes held = absurd (true≢false (sym reads ∙ ap reads_request comes.0))
     by (unkeyed top input r) comes held = absurd (not_none held)
-    by (top_broken cause input a ask) comes held = absurd (not_none (sym (ap asked_top comes.0) ∙ no_top))
-    by (topped input a ask) comes held = absurd (not_none (sym (ap asked_top comes.0) ∙ no_top))
+    by (top_broken cause input a ask) comes held = absurd (not_none (sym (ap asked_top comes.asks) ∙ no_top))
+    by (topped input a ask) comes held = absurd (not_none (sym (ap asked_top comes.asks) ∙ no_top))

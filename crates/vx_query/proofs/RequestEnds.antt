@@ -82,23 +82,23 @@ request_end form i i' o o' used status reads run = by run.outcome run.writing ru
     by helped whole comes written held = absurd (reads_other form (Some help_form) reads refl comes.0)
     by versioned whole comes written held = absurd (reads_other form (Some version_form) reads refl comes.0)
     by out_of_memory whole comes written held = without_memory written.0 held
-    by unread whole comes written held = not_read written.0 comes.1.1 held
-    by (refused input e) whole comes written held = no_request input e written.0 comes.1.0 comes.1.1 written.1.0 held
-    by (unscanned input e) whole comes written held = no_scan input e written.0 comes.1.0 comes.1.1.0 comes.1.1.1 written.1.0 held
+    by unread whole comes written held = not_read written.0 comes.risen held
+    by (refused input e) whole comes written held = no_request input e written.0 comes.taken comes.holds written.1.0 held
+    by (unscanned input e) whole comes written held = no_scan input e written.0 comes.taken comes.holds.0 comes.holds.1 written.1.0 held
     by (broken chosen cause input a f p) whole comes written held =
-        breaks chosen cause input a f p written.0 comes.0 comes.1.0 comes.1.1.0 comes.1.1.1 written.1.0 held
+        breaks chosen cause input a f p written.0 comes.asks comes.taken comes.holds.0 comes.holds.1 written.1.0 held
     by (answered chosen input a f p) whole comes written held =
-        reports chosen input a f p written.0 comes.0 comes.1.0 comes.1.1.0 comes.1.1.1 written.1.0 held
-    by (explained input a f p) whole comes written held = explains input a f p written.0 comes.0 comes.1.0 comes.1.1 written.1.0 held
-    by undecoded whole comes written held = absurd (shows_none form comes.0.0 reads comes.0.1)
-    by (unshown e) whole comes written held = absurd (shows_none form comes.0.0 reads comes.0.1)
-    by (shown showing e) whole comes written held = absurd (reads_other form (Some (show_form showing comes.0.0)) reads refl comes.0.1)
-    by (unnamed e) whole comes written held = absurd (asks_none form comes.0.0 reads comes.0.1)
-    by unserialized whole comes written held = absurd (asks_none form comes.0.0 reads comes.0.2)
-    by overlong whole comes written held = absurd (asks_none form comes.0.0 reads comes.0.2)
-    by (named e) whole comes written held = absurd (asks_none form comes.0.0 reads comes.0.1)
+        reports chosen input a f p written.0 comes.asks comes.taken comes.holds.0 comes.holds.1 written.1.0 held
+    by (explained input a f p) whole comes written held = explains input a f p written.0 comes.asks comes.taken comes.holds written.1.0 held
+    by undecoded whole comes written held = absurd (shows_none form comes.word reads comes.asks)
+    by (unshown e) whole comes written held = absurd (shows_none form comes.word reads comes.asks)
+    by (shown showing e) whole comes written held = absurd (reads_other form (Some (show_form showing comes.word)) reads refl comes.asks)
+    by (unnamed e) whole comes written held = absurd (asks_none form comes.word reads comes.asks)
+    by unserialized whole comes written held = absurd (asks_none form comes.word reads comes.asks)
+    by overlong whole comes written held = absurd (asks_none form comes.word reads comes.asks)
+    by (named e) whole comes written held = absurd (asks_none form comes.word reads comes.asks)
     by (summed rows) whole comes written held = absurd (reads_other form (Some (gen_form rows)) reads refl comes.0)
-    by (unkeyed top input r) whole comes written held = no_key top input r written.0 comes.0 comes.1.0 comes.1.1 written.1.0 held
+    by (unkeyed top input r) whole comes written held = no_key top input r written.0 comes.asks comes.taken comes.holds written.1.0 held
     by (top_broken cause input a ask) whole comes written held =
-        top_stops cause input a ask written.0 comes.0 comes.1.0 comes.1.1.0 comes.1.1.1 written.1.0 held
-    by (topped input a ask) whole comes written held = tops input a ask written.0 comes.0 comes.1.0 comes.1.1.0 comes.1.1.1 written.1.0 held
+        top_stops cause input a ask written.0 comes.asks comes.taken comes.holds.0 comes.holds.1 written.1.0 held
+    by (topped input a ask) whole comes written held = tops input a ask written.0 comes.asks comes.taken comes.holds.0 comes.holds.1 written.1.0 held

@@ -12,16 +12,18 @@ use Rattle.vx_display.specs.ValueTexts.{value_text}
 use Rattle.vx_wire.specs.Encodings.{is_default_kind}
 use Rattle.vx_wire.specs.declared.ExprEncoding.{ExprEncoding}
 use Rattle.vx_tables.specs.Blocks.{table_of_blocks}
+use Rattle.vx_scan.specs.ErrorKinds.{ErrorKind, of_memory, of_text, of_types, of_break, of_read, kind_of, OnlyOfText}
 use Rattle.vx_scan.specs.Opening.{Decodes}
 use Rattle.vx_scan.specs.Stores.{StoreSeen, IsSameStore}
 use Rattle.vx_scan.specs.StoreViews.{StoreState, store_seen}
-use Rattle.vx_scan.specs.Texts.{SpellsTree, SpellBoth, AreRefused}
+use Rattle.vx_scan.specs.Texts.{SpellsTree, IsTextRefused, SpellBoth, AreRefused}
 use Rattle.vx_scan.specs.declared.errors.Side.TheVariants.{Filter, Projection}
 use Rattle.vx_scan.specs.declared.errors.ScanError.{ScanError}
 use Rattle.vx_scan.specs.declared.errors.ScanError.TheVariants as scans
 use Rattle.vx_laws_topk.specs.TopRows.{TopAsk}
 use Rattle.vx_laws_topk.specs.TopPhases.{top_reads, top_reads_to_break}
-use Rattle.vx_topk.specs.TopEnds.{Topped, top_view, IsTopReport, IsTopBroken, IsTopOf}
+use Rattle.vx_scan.proofs.KindLemmas.{text_refused_so}
+use Rattle.vx_topk.specs.TopEnds.{Topped, top_view, IsTopReport, IsTopBroken, IsTopUnscanned, IsTopOf}
 use Rattle.vx_topk.specs.declared.reports.TopReport.{TopReport}
 use Rattle.vx_topk.specs.declared.errors.TopError.{TopError}
 use Rattle.vx_topk.specs.declared.errors.TopError.TheVariants as tops
@@ -30,10 +32,11 @@ use Rattle.vx_request.specs.RequestViews.{RequestAnswers, scan_view}
 use Rattle.vx_request.specs.declared.errors.RequestError.{RequestError}
 use Rattle.vx_request.specs.declared.errors.RequestError.TheVariants as requests
 use Rattle.vx_query.specs.Reports.{report_text}
-use Rattle.vx_query.specs.RefusalViews.{scan_refusal, request_refusal}
+use Rattle.vx_query.specs.EndingViews.{break_ending}
+use Rattle.vx_query.specs.RefusalViews.{kind_refusal, scan_refusal, request_refusal}
 use Rattle.vx_query.specs.Running.{SpellsScan, HasNoKey, top_form, scan_table, top_report, topped_store, top_broken_store, top_breaks, top_breaks_by}
 use Rattle.vx_query.specs.TopWords.{AskedTop, IsNoKey}
-use Rattle.vx_query.specs.TopViews.{DecodesBoth, ask_of, TopEndsBy, IsKey, IsSearched, IsTopAnswered, IsUnsearched, IsTopRefused, IsTopUnanswered}
+use Rattle.vx_query.specs.TopViews.{DecodesBoth, ask_of, TopEndsBy, IsKey, IsSearched, IsTopAnswered, IsSearchStopped, IsUnsearched, IsTopRefused, IsTopUnanswered}
 use Rattle.vx_query.specs.declared.endings.Ending.{Ending}
 use Rattle.vx_query.specs.declared.endings.Ending.TheVariants.{Report as Told, Overflow, BadCast}
 use Rattle.vx_query.specs.declared.refusals.Refusal.{Refusal}
@@ -46,48 +49,16 @@ use Rattle.vx_query.proofs.RefusalLemmas.{one_ok}
 
 -- the filter's text is refused, or the projection's behind one that is spelled
 pub filter_undecoded : (holds : ExprEncoding → Bool) (f p : Bytes) (e : ScanError) → holds ≡ is_default_kind → Decodes holds Filter f (Err e) → DecodesBoth f p (Err e)
-filter_undecoded holds f p e kinds h = by e (subst (λ k. Decodes k Filter f (Err e)) kinds h)
-  where
-    by : (e : ScanError) → Decodes is_default_kind Filter f (Err e) → DecodesBoth f p (Err e)
-    by scans.NoMemory h = tt
-    by (scans.BadWire s) h = inl h
-    by (scans.TooDeep s) h = inl h
-    by (scans.TooManyNodes s) h = inl h
-    by (scans.UnknownExpr s) h = inl h
-    by (scans.BadMetadata s) h = inl h
-    by (scans.WrongChildren s) h = inl h
-    by (scans.NotStruct s) h = inl h
-    by (scans.NullableSelect s) h = inl h
-    by (scans.UnknownField s) h = inl h
-    by (scans.DuplicateField s) h = inl h
-    by (scans.TypeMismatch s) h = inl h
-    by scans.FilterNotBool h = inl h
-    by scans.Overflow h = inl h
-    by scans.BadCast h = inl h
-    by scans.StoreFault h = inl h
+filter_undecoded holds f p e kinds h =
+    text_refused_so (kind_of e) (IsTextRefused is_default_kind Filter f e) (AreRefused is_default_kind f p e) (λ r. inl r)
+    (subst (λ k. Decodes k Filter f (Err e)) kinds h)
 
 pub projection_undecoded : (holds : ExprEncoding → Bool) (f p : Bytes) (x : Tree) (e : ScanError) → holds ≡ is_default_kind → SpellsTree holds f x
     → Decodes holds Projection p (Err e) → DecodesBoth f p (Err e)
 projection_undecoded holds f p x e kinds spelled h =
-    by e (subst (λ k. SpellsTree k f x) kinds spelled) (subst (λ k. Decodes k Projection p (Err e)) kinds h)
-  where
-    by : (e : ScanError) → SpellsTree is_default_kind f x → Decodes is_default_kind Projection p (Err e) → DecodesBoth f p (Err e)
-    by scans.NoMemory s h = tt
-    by (scans.BadWire z) s h = inr ((x, s), h)
-    by (scans.TooDeep z) s h = inr ((x, s), h)
-    by (scans.TooManyNodes z) s h = inr ((x, s), h)
-    by (scans.UnknownExpr z) s h = inr ((x, s), h)
-    by (scans.BadMetadata z) s h = inr ((x, s), h)
-    by (scans.WrongChildren z) s h = inr ((x, s), h)
-    by (scans.NotStruct z) s h = inr ((x, s), h)
-    by (scans.NullableSelect z) s h = inr ((x, s), h)
-    by (scans.UnknownField z) s h = inr ((x, s), h)
-    by (scans.DuplicateField z) s h = inr ((x, s), h)
-    by (scans.TypeMismatch z) s h = inr ((x, s), h)
-    by scans.FilterNotBool s h = inr ((x, s), h)
-    by scans.Overflow s h = inr ((x, s), h)
-    by scans.BadCast s h = inr ((x, s), h)
-    by scans.StoreFault s h = inr ((x, s), h)
+    text_refused_so (kind_of e) (IsTextRefused is_default_kind Projection p e) (AreRefused is_default_kind f p e)
+    (λ r. inr ((x, subst (λ k. SpellsTree k f x) kinds spelled), r))
+    (subst (λ k. Decodes k Projection p (Err e)) kinds h)
 
 pub both_decoded : (holds : ExprEncoding → Bool) (f p : Bytes) (x y : Tree) → holds ≡ is_default_kind → SpellsTree holds f x → SpellsTree holds p y
     → SpellBoth is_default_kind f p x y
@@ -127,16 +98,19 @@ searched a top f p before s r text is same ended told =
     }
 
 -- one that breaks
-broken_search : (cause : Cause) (ending : Ending) (a : RequestedScan) (top : AskedTop) (f p : Tree) (t : Ty) (s : StoreSeen) → IsSameStore (fresh a) s
-    → IsTopBroken cause (ask_of top f p t) (fresh a) s
-    → ((top_breaks_by cause a (ask_of top f p t) ≡ true) × (s ≡ top_broken_store a (ask_of top f p t)) → TopEndsBy a (ask_of top f p t) ending s)
-    → IsSearched a top f p ending s
-broken_search cause ending a top f p t s same broken ends = record {
+ends_broken : (cause : Cause) (a : RequestedScan) (ask : TopAsk) (s : StoreSeen) → (top_breaks_by cause a ask ≡ true) × (s ≡ top_broken_store a ask)
+    → TopEndsBy a ask (break_ending cause) s
+ends_broken by_sum a ask s h = h
+ends_broken by_cast a ask s h = h
+
+broken_search : (cause : Cause) (a : RequestedScan) (top : AskedTop) (f p : Tree) (t : Ty) (s : StoreSeen) → IsSameStore (fresh a) s
+    → IsTopBroken cause (ask_of top f p t) (fresh a) s → IsSearched a top f p (break_ending cause) s
+broken_search cause a top f p t s same broken = record {
   key_type = t;
   key = record { column = broken.typed.column; plain = broken.typed.plain };
   ty = broken.ty;
   typed = broken.typed.typed;
-  ends = ends (
+  ends = ends_broken cause a (ask_of top f p t) s (
     broken.first_breaks,
     store_after a (top_reads_to_break (ask_of top f p t) (scan_table a) a.zones) s same (broken.reads.grown ∙ broken.reads.told) broken.unfailed,
   );
@@ -148,22 +122,14 @@ unsearched_fresh : (a : RequestedScan) (top : AskedTop) (f p : Tree) (s : StoreS
 unsearched_fresh a top f p s tops.NoMemory same ended = tt
 unsearched_fresh a top f p s tops.UnknownKey same ended = ended.1
 unsearched_fresh a top f p s tops.BadKey same ended = ended.1
-unsearched_fresh a top f p s (tops.Scan scans.NoMemory) same ended = ended
-unsearched_fresh a top f p s (tops.Scan scans.StoreFault) same ended = absurd (omega (arith, ended.1.risen, same.quiet refl))
-unsearched_fresh a top f p s (tops.Scan scans.Overflow) same ended = broken_search by_sum Overflow a top f p ended.0 s same ended.1 (λ h. h)
-unsearched_fresh a top f p s (tops.Scan scans.BadCast) same ended = broken_search by_cast BadCast a top f p ended.0 s same ended.1 (λ h. h)
-unsearched_fresh a top f p s (tops.Scan (scans.BadWire z)) same ended = ((ended.0.0, record { column = ended.0.1; plain = ended.0.2 }), ended.1.1)
-unsearched_fresh a top f p s (tops.Scan (scans.TooDeep z)) same ended = ((ended.0.0, record { column = ended.0.1; plain = ended.0.2 }), ended.1.1)
-unsearched_fresh a top f p s (tops.Scan (scans.TooManyNodes z)) same ended = ((ended.0.0, record { column = ended.0.1; plain = ended.0.2 }), ended.1.1)
-unsearched_fresh a top f p s (tops.Scan (scans.UnknownExpr z)) same ended = ((ended.0.0, record { column = ended.0.1; plain = ended.0.2 }), ended.1.1)
-unsearched_fresh a top f p s (tops.Scan (scans.BadMetadata z)) same ended = ((ended.0.0, record { column = ended.0.1; plain = ended.0.2 }), ended.1.1)
-unsearched_fresh a top f p s (tops.Scan (scans.WrongChildren z)) same ended = ((ended.0.0, record { column = ended.0.1; plain = ended.0.2 }), ended.1.1)
-unsearched_fresh a top f p s (tops.Scan (scans.NotStruct z)) same ended = ((ended.0.0, record { column = ended.0.1; plain = ended.0.2 }), ended.1.1)
-unsearched_fresh a top f p s (tops.Scan (scans.NullableSelect z)) same ended = ((ended.0.0, record { column = ended.0.1; plain = ended.0.2 }), ended.1.1)
-unsearched_fresh a top f p s (tops.Scan (scans.UnknownField z)) same ended = ((ended.0.0, record { column = ended.0.1; plain = ended.0.2 }), ended.1.1)
-unsearched_fresh a top f p s (tops.Scan (scans.DuplicateField z)) same ended = ((ended.0.0, record { column = ended.0.1; plain = ended.0.2 }), ended.1.1)
-unsearched_fresh a top f p s (tops.Scan (scans.TypeMismatch z)) same ended = ((ended.0.0, record { column = ended.0.1; plain = ended.0.2 }), ended.1.1)
-unsearched_fresh a top f p s (tops.Scan scans.FilterNotBool) same ended = ((ended.0.0, record { column = ended.0.1; plain = ended.0.2 }), ended.1.1)
+unsearched_fresh a top f p s (tops.Scan e) same ended = by (kind_of e) ended
+  where
+    by : (k : ErrorKind) → IsTopUnscanned k f p top.key top.descending top.count (fresh a) s e → IsSearchStopped k a top f p e s
+    by of_memory h = h
+    by of_text h = h
+    by of_types h = ((h.0.0, record { column = h.0.1; plain = h.0.2 }), h.1.1)
+    by (of_break cause) h = broken_search cause a top f p h.0 s same h.1
+    by of_read h = absurd (omega (arith, h.1.risen, same.quiet refl))
 
 pub unsearched : (a : RequestedScan) (top : AskedTop) (f p : Tree) (before s : StoreSeen) (e : TopError) → before ≡ fresh a → IsSameStore before s
     → IsTopOf f p top.key top.descending top.count before s (Err e) → IsUnsearched a top f p e s
@@ -171,12 +137,9 @@ unsearched a top f p before s e is same ended =
     unsearched_fresh a top f p s e (subst (λ b. IsSameStore b s) is same)
     (subst (λ b. IsTopOf f p top.key top.descending top.count b s (Err e)) is ended)
 
--- that is never a read that failed, nor want of memory that the scan tells
+-- that is never a read that failed
 pub unfailing : (a : RequestedScan) (top : AskedTop) (f p : Tree) (s : StoreSeen) (e : TopError) → IsUnsearched a top f p e s → e ≢ tops.Scan scans.StoreFault
 unfailing a top f p s e h is = subst (λ g. IsUnsearched a top f p g s) is h
-
-pub told_once : (a : RequestedScan) (top : AskedTop) (f p : Tree) (s : StoreSeen) (e : TopError) → IsUnsearched a top f p e s → e ≢ tops.Scan scans.NoMemory
-told_once a top f p s e h is = subst (λ g. IsUnsearched a top f p g s) is h
 
 -- ---- the search that an input holds
 
@@ -243,28 +206,17 @@ unanswered_by top input a b f p r found spelled zones blocks refused =
 -- one whose texts are refused is refused so
 pub undecoded_by : (top : AskedTop) (input : Bytes) (a : RequestedScan) (e : ScanError) → request_of input ≡ Ok a → DecodesBoth a.filter a.projection (Err e)
     → IsTopUnanswered top input (scan_refusal e)
-undecoded_by top input a e found h = by e h
+undecoded_by top input a e found h = by (kind_of e) h
   where
-    free : (e : ScanError) → AreRefused is_default_kind a.filter a.projection e → ¬ (HasNoKey (Some (top_form top)) input)
-    free e refused none = text_keyed top.key input e none.0 (record { asked = a; held = found; refused = refused }) none.1
+    free : AreRefused is_default_kind a.filter a.projection e → ¬ (HasNoKey (Some (top_form top)) input)
+    free refused none = text_keyed top.key input e none.0 (record { asked = a; held = found; refused = refused }) none.1
 
-    by : (e : ScanError) → DecodesBoth a.filter a.projection (Err e) → IsTopUnanswered top input (scan_refusal e)
-    by scans.NoMemory h = tt
-    by (scans.BadWire s) h = (record { asked = a; held = found; refused = inl h }, free (scans.BadWire s) h)
-    by (scans.TooDeep s) h = (record { asked = a; held = found; refused = inl h }, free (scans.TooDeep s) h)
-    by (scans.TooManyNodes s) h = (record { asked = a; held = found; refused = inl h }, free (scans.TooManyNodes s) h)
-    by (scans.UnknownExpr s) h = (record { asked = a; held = found; refused = inl h }, free (scans.UnknownExpr s) h)
-    by (scans.BadMetadata s) h = (record { asked = a; held = found; refused = inl h }, free (scans.BadMetadata s) h)
-    by (scans.WrongChildren s) h = (record { asked = a; held = found; refused = inl h }, free (scans.WrongChildren s) h)
-    by (scans.NotStruct s) h = (record { asked = a; held = found; refused = inl h }, free (scans.NotStruct s) h)
-    by (scans.NullableSelect s) h = (record { asked = a; held = found; refused = inl h }, free (scans.NullableSelect s) h)
-    by (scans.UnknownField s) h = (record { asked = a; held = found; refused = inl h }, free (scans.UnknownField s) h)
-    by (scans.DuplicateField s) h = (record { asked = a; held = found; refused = inl h }, free (scans.DuplicateField s) h)
-    by (scans.TypeMismatch s) h = (record { asked = a; held = found; refused = inl h }, free (scans.TypeMismatch s) h)
-    by scans.FilterNotBool h = (record { asked = a; held = found; refused = inl h }, free scans.FilterNotBool h)
-    by scans.Overflow h = (record { asked = a; held = found; refused = inl h }, free scans.Overflow h)
-    by scans.BadCast h = (record { asked = a; held = found; refused = inl h }, free scans.BadCast h)
-    by scans.StoreFault h = (record { asked = a; held = found; refused = inl h }, free scans.StoreFault h)
+    by : (k : ErrorKind) → OnlyOfText k (AreRefused is_default_kind a.filter a.projection e) → IsTopUnanswered top input (kind_refusal k e)
+    by of_memory r = tt
+    by of_text r = (record { asked = a; held = found; refused = inl r }, free r)
+    by of_types r = absurd r
+    by (of_break cause) r = absurd r
+    by of_read r = absurd r
 
 -- and one that is no request
 pub refused_by : (top : AskedTop) (input : Bytes) (e : RequestError) → RequestAnswers scan_view (request_of input) (Err e)

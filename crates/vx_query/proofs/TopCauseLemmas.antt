@@ -22,7 +22,7 @@ use Rattle.vx_query.specs.Running.{End, Statistics, IsTaken, IsRun, HoldsNoKey, 
 use Rattle.vx_query.specs.Exclusions.{IsSameTop}
 use Rattle.vx_query.specs.WireLaws.{WireLaws}
 use Rattle.vx_query.specs.Causes.{HasRisen, TellsScan}
-use Rattle.vx_query.specs.TopCauses.{IsTopped, IsUnkeyed, IsKeyedUnscanned, IsTopStopped, HasTopBroken, TellsTop, whole_top_report}
+use Rattle.vx_query.specs.TopCauses.{AsksTop, IsTopped, IsUnkeyed, IsKeyedUnscanned, IsTopStopped, HasTopBroken, TellsTop, whole_top_report}
 use Rattle.vx_query.specs.Exactly.{Tells, RunsWell, EndsWith, KeysEndSo, taken_of}
 use Rattle.vx_query.proofs.RefusalLemmas.{not_err}
 use Rattle.vx_query.proofs.KeyLemmas.{one_key_refusal, key_unsearched, one_search}
@@ -43,6 +43,12 @@ no_scanning top chosen same = no_top (Some (scan_form chosen)) top refl (sym sam
 no_explaining : (top : AskedTop) → ¬ (Some (top_form top) ≡ Some explain_form)
 no_explaining top same = no_top (Some explain_form) top refl (sym same)
 
+-- the search that the words of a run ask
+abbrev pub asked_search : (top : AskedTop) (i i' : End) (input : Bytes) (a : RequestedScan) (ask : TopAsk) → Some (top_form top) ≡ Some (top_form (words_of ask))
+    → IsTaken i i' input → HoldsTop input a ask → AsksTop top i i'
+asked_search top i i' input a ask is taken asks =
+    record { input = input; asked = a; ask = ask; words = one_words top (words_of ask) is; taken = taken; asks = asks }
+
 -- ---- what each status means
 
 pub found_rows : (top : AskedTop) (i i' o o' : End) (used : Option StoreSeen) → IsRun (Some (top_form top)) i i' o o' used 0 → IsTopped top i i' o o' used
@@ -60,12 +66,7 @@ found_rows top i i' o o' used run = by (request_end (Some (top_form top)) i i' o
     by (no_key own input r s is taken why written held) = absurd (omega (arith, s))
     by (top_stops cause input a ask s is taken asks broken written held) = absurd (omega (arith, s))
     by (tops input a ask s is taken asks unbroken written held) = record {
-      input = input;
-      asked = a;
-      ask = ask;
-      words = one_words top (words_of ask) is;
-      taken = taken;
-      asks = asks;
+      search = asked_search top i i' input a ask is taken asks;
       unbroken = unbroken;
       written = written;
       held = held;
@@ -115,14 +116,8 @@ search_stopped top i i' o o' used run = by (request_end (Some (top_form top)) i 
     by (explains input a f p s other taken asks written held) = absurd (omega (arith, s))
     by (no_key own input r s is taken why written held) = absurd (omega (arith, s))
     by (top_stops cause input a ask s is taken asks broken written held) = record {
-      input = input;
-      asked = a;
-      ask = ask;
-      words = one_words top (words_of ask) is;
       cause = cause;
-      taken = taken;
-      asks = asks;
-      breaks = broken;
+      broken = record { search = asked_search top i i' input a ask is taken asks; breaks = broken };
       written = written;
       held = held;
     }
@@ -137,15 +132,7 @@ told_search_break cause top i i' o o' used tells =
     let same : found.cause ≡ cause =
     one_cause found.cause cause
     (told_name o.bytes o'.bytes tells.before (break_name cause) (break_name found.cause) tells.stood tells.written found.written) in
-    record {
-      input = found.input;
-      asked = found.asked;
-      ask = found.ask;
-      words = found.words;
-      taken = found.taken;
-      asks = found.asks;
-      breaks = subst (λ c. top_breaks_by c found.asked found.ask ≡ true) same found.breaks;
-    }
+    subst (λ c. HasTopBroken c top i i') same found.broken
 
 told_key : (r : KeyRefusal) (top : AskedTop) (i i' o o' : End) (used : Option StoreSeen)
     → Tells (Some (top_form top)) i i' o o' used 4 (refusal_line (key_refusal_name r)) → (input : Bytes) × IsTaken i i' input × HoldsNoKey r top.key input
@@ -305,7 +292,8 @@ pub found_as_told : WireLaws → (i i' o o' : End) (used : Option StoreSeen) (to
     → Added o.bytes o'.bytes (top_report told.asked told.ask) × (used ≡ Some (topped_store told.asked told.ask))
 found_as_told laws i i' o o' used told run =
     let found = found_rows (words_of told.ask) i i' o o' used run in
-    let same = told_search laws i i' found.input found.asked found.ask told found.taken.bytes found.words found.asks in (
+    let search = found.search in
+    let same = told_search laws i i' search.input search.asked search.ask told search.taken.bytes search.words search.asks in (
       subst (Added o.bytes o'.bytes) (λ j. top_report (same.asked j) (same.search j)) found.written,
       found.held ∙ (λ j. Some (topped_store (same.asked j) (same.search j))),
     )

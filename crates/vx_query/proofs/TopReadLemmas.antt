@@ -35,7 +35,7 @@ use Rattle.vx_query.proofs.ReadLemmas.{among_trans, as_many}
 use Rattle.vx_query.proofs.RequestEnds.{not_none}
 use Rattle.vx_query.proofs.SlotLemmas.{spelled_slotless}
 use Rattle.vx_query.proofs.SoundScans.{request_names}
-use Rattle.vx_query.proofs.TopCauseLemmas.{one_words, no_scanning, search_breaks}
+use Rattle.vx_query.proofs.TopCauseLemmas.{asked_search, no_scanning, search_breaks}
 
 -- ---- the reads of phases
 
@@ -226,12 +226,7 @@ searches_ask kept same more top i i' o o' store status run = by run.outcome run.
         let agreeing : agree (Ok a) ≡ true = ap agree (sym asks.scan.asked) ∙ agree_in input in
         let all = among_trans store.log (top_reads ask (scan_table a) a.zones) (top_asked ask a.zones) among (reads_among kept more a ask slotless agreeing) in
         record {
-          input = input;
-          asked = a;
-          ask = ask;
-          words = one_words top (words_of ask) is;
-          taken = taken;
-          asks = asks;
+          search = asked_search top i i' input a ask is taken asks;
           held = held;
           all_asked = all;
           distinct = made_distinct same ask a.zones store.log slotless (request_names input a asks.scan.asked) all;
@@ -245,8 +240,8 @@ searches_ask kept same more top i i' o o' store status run = by run.outcome run.
     by unread comes held = absurd (not_none held)
     by (refused input e) comes held = absurd (not_none held)
     by (unscanned input e) comes held = absurd (not_none held)
-    by (broken chosen cause input a f p) comes held = absurd (no_scanning top chosen comes.0)
-    by (answered chosen input a f p) comes held = absurd (no_scanning top chosen comes.0)
+    by (broken chosen cause input a f p) comes held = absurd (no_scanning top chosen comes.asks)
+    by (answered chosen input a f p) comes held = absurd (no_scanning top chosen comes.asks)
     by (explained input a f p) comes held = absurd (not_none held)
     by undecoded comes held = absurd (not_none held)
     by (unshown e) comes held = absurd (not_none held)
@@ -259,14 +254,14 @@ searches_ask kept same more top i i' o o' store status run = by run.outcome run.
     by (unkeyed own input r) comes held = absurd (not_none held)
     by (top_broken cause input a ask) comes held =
         let whole : top_store_after a ask ≡ top_broken_store a ask =
-        ap (λ x. cond x (top_broken_store a ask) (topped_store a ask)) (search_breaks cause a ask comes.1.1.1) in
+        ap (λ x. cond x (top_broken_store a ask) (topped_store a ask)) (search_breaks cause a ask comes.holds.1) in
         let log : store.log ≡ top_reads_to_break ask (scan_table a) a.zones = ap (λ s. s.log) (same_Some store (top_broken_store a ask) held) in
-        store_of input a ask comes.0 comes.1.0 comes.1.1.0 (same_Some store (top_broken_store a ask) held ∙ sym whole)
+        store_of input a ask comes.asks comes.taken comes.holds.0 (same_Some store (top_broken_store a ask) held ∙ sym whole)
         (subst (λ rs. AreAmong rs (top_reads ask (scan_table a) a.zones)) (sym log)
         (to_break_among (row_type a.zones.columns) (top_phases ask (scan_table a) a.zones)))
     by (topped input a ask) comes held =
         let whole : top_store_after a ask ≡ topped_store a ask =
-        ap (λ x. cond x (top_broken_store a ask) (topped_store a ask)) comes.1.1.1 in
+        ap (λ x. cond x (top_broken_store a ask) (topped_store a ask)) comes.holds.1 in
         let log : store.log ≡ top_reads ask (scan_table a) a.zones = ap (λ s. s.log) (same_Some store (topped_store a ask) held) in
-        store_of input a ask comes.0 comes.1.0 comes.1.1.0 (same_Some store (topped_store a ask) held ∙ sym whole)
+        store_of input a ask comes.asks comes.taken comes.holds.0 (same_Some store (topped_store a ask) held ∙ sym whole)
         (subst (λ rs. AreAmong rs (top_reads ask (scan_table a) a.zones)) (sym log) (among_all (top_reads ask (scan_table a) a.zones)))

@@ -56,24 +56,24 @@ word_end form word i i' o o' used status shows run = by run.outcome run.writing 
     by helped whole comes written held = absurd (shows_other form (Some help_form) word shows refl comes.0)
     by versioned whole comes written held = absurd (shows_other form (Some version_form) word shows refl comes.0)
     by out_of_memory whole comes written held = without_memory written.0
-    by unread whole comes written held = absurd (unread_word form word shows comes.0)
-    by (refused input e) whole comes written held = absurd (unread_word form word shows comes.0)
-    by (unscanned input e) whole comes written held = absurd (unread_word form word shows comes.0)
-    by (broken chosen cause input a f p) whole comes written held = absurd (shows_other form (Some (scan_form chosen)) word shows refl comes.0)
-    by (answered chosen input a f p) whole comes written held = absurd (shows_other form (Some (scan_form chosen)) word shows refl comes.0)
-    by (explained input a f p) whole comes written held = absurd (shows_other form (Some explain_form) word shows refl comes.0)
+    by unread whole comes written held = absurd (unread_word form word shows comes.reads)
+    by (refused input e) whole comes written held = absurd (unread_word form word shows comes.asks)
+    by (unscanned input e) whole comes written held = absurd (unread_word form word shows comes.asks)
+    by (broken chosen cause input a f p) whole comes written held = absurd (shows_other form (Some (scan_form chosen)) word shows refl comes.asks)
+    by (answered chosen input a f p) whole comes written held = absurd (shows_other form (Some (scan_form chosen)) word shows refl comes.asks)
+    by (explained input a f p) whole comes written held = absurd (shows_other form (Some explain_form) word shows refl comes.asks)
     by undecoded whole comes written held =
-        no_digits written.0 (subst (λ w. hex_bytes w ≡ None) (same_word form word comes.0.0 shows comes.0.1) comes.0.2) written.1.0
+        no_digits written.0 (subst (λ w. hex_bytes w ≡ None) (same_word form word comes.word shows comes.asks) comes.holds) written.1.0
     by (unshown e) whole comes written held =
-        no_expression e written.0 (subst (λ w. WordIsRefused w e) (same_word form word comes.0.0 shows comes.0.1) comes.0.2) written.1.0
+        no_expression e written.0 (subst (λ w. WordIsRefused w e) (same_word form word comes.word shows comes.asks) comes.holds) written.1.0
     by (shown showing e) whole comes written held =
-        let same = same_word form word comes.0.0 shows (ap shown_word comes.0.1) in
-        told showing e written.0 (subst (λ w. form ≡ Some (show_form showing w)) same comes.0.1) (subst (λ w. WordSpells w e) same comes.0.2) comes.1 written.1.0 held
-    by (unnamed e) whole comes written held = absurd (shows_no_query form word comes.0.0 shows comes.0.1)
-    by unserialized whole comes written held = absurd (shows_no_query form word comes.0.0 shows comes.0.2)
-    by overlong whole comes written held = absurd (shows_no_query form word comes.0.0 shows comes.0.2)
-    by (named e) whole comes written held = absurd (shows_no_query form word comes.0.0 shows comes.0.1)
+        let same = same_word form word comes.word shows (ap shown_word comes.asks) in
+        told showing e written.0 (subst (λ w. form ≡ Some (show_form showing w)) same comes.asks) (subst (λ w. WordSpells w e) same comes.holds) comes.untaken written.1.0 held
+    by (unnamed e) whole comes written held = absurd (shows_no_query form word comes.word shows comes.asks)
+    by unserialized whole comes written held = absurd (shows_no_query form word comes.word shows comes.asks)
+    by overlong whole comes written held = absurd (shows_no_query form word comes.word shows comes.asks)
+    by (named e) whole comes written held = absurd (shows_no_query form word comes.word shows comes.asks)
     by (summed rows) whole comes written held = absurd (shows_other form (Some (gen_form rows)) word shows refl comes.0)
-    by (unkeyed top input r) whole comes written held = absurd (shows_other form (Some (top_form top)) word shows refl comes.0)
-    by (top_broken cause input a ask) whole comes written held = absurd (shows_other form (Some (top_form (words_of ask))) word shows refl comes.0)
-    by (topped input a ask) whole comes written held = absurd (shows_other form (Some (top_form (words_of ask))) word shows refl comes.0)
+    by (unkeyed top input r) whole comes written held = absurd (shows_other form (Some (top_form top)) word shows refl comes.asks)
+    by (top_broken cause input a ask) whole comes written held = absurd (shows_other form (Some (top_form (words_of ask))) word shows refl comes.asks)
+    by (topped input a ask) whole comes written held = absurd (shows_other form (Some (top_form (words_of ask))) word shows refl comes.asks)

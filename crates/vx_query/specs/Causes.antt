@@ -22,9 +22,11 @@ use Rattle.vx_text.specs.Reading.{reading_of}
 use Rattle.vx_text.specs.declared.errors.TextError.{TextError}
 use Rattle.vx_text.specs.declared.errors.TextError.TheVariants.{TooLong}
 use Rattle.vx_explain.specs.Explanations.{explain_text}
-use Rattle.vx_query.specs.Running.{reads_request, IsPartTaken, IsCutShort, used_by, WordIsRefused}
-use Rattle.vx_query.specs.Running.{End, Form, Statistics, IsTaken, HoldsScan, HoldsRefused, WordSpells, Names, IsShallow, IsOverlong, HasBytes, bytes_line, Outcome}
-use Rattle.vx_query.specs.Running.{IsOutcome, outcome_text, scan_form, scan_by, scan_table, scan_reads, scan_report, scan_breaks, scan_breaks_by, scanned_store, broken_store}
+use Rattle.vx_query.specs.Running.{FailsToRead, IsCutShort, used_by, WordIsRefused}
+use Rattle.vx_query.specs.Running.{End, Form, Statistics, IsTaken, HoldsScan, HoldsRefused, WordSpells, Names}
+use Rattle.vx_query.specs.Running.{HasDeepType, HasLongPart, HasBytes, bytes_line, Outcome}
+use Rattle.vx_query.specs.Running.{IsOutcome, outcome_text, scan_form, scan_by, scan_table, scan_reads, scan_report, scan_breaks}
+use Rattle.vx_query.specs.Running.{scan_breaks_by, scanned_store, broken_store}
 
 -- an end counted a fault
 abbrev pub HasRisen : End → End → Type 0
@@ -60,21 +62,28 @@ pub record IsUnscanned (in_before in_after out_before out_after : End) (used : O
   pub written : Added out_before.bytes out_after.bytes (refusal_line (scan_refusal_name refusal))
   pub unheld : used ≡ None
 
--- the arguments ask a scan by some statistics, an input was taken that holds one whose first phase that breaks by them does so by a cause, and the line of
--- the cause was written; the store is held with the reads up to there
-pub record IsStopped (form : Option Form) (in_before in_after out_before out_after : End) (used : Option StoreSeen) : Type 0 where
+-- the arguments ask a scan by some statistics, and an input was taken that holds one
+pub record AsksScan (form : Option Form) (in_before in_after : End) : Type 0 where
   pub statistics : Statistics
   pub scans : form ≡ Some (scan_form statistics)
   pub input : Bytes
   pub asked : RequestedScan
   pub filter : Tree
   pub projection : Tree
-  pub cause : Cause
   pub taken : IsTaken in_before in_after input
   pub asks : HoldsScan input asked filter projection
-  pub breaks : scan_breaks_by cause (scan_by statistics asked) filter projection ≡ true
+
+-- and its first phase that breaks by these statistics does so by a cause
+pub record HasBroken (cause : Cause) (form : Option Form) (in_before in_after : End) : Type 0 where
+  pub scan : AsksScan form in_before in_after
+  pub breaks : scan_breaks_by cause (scan_by scan.statistics scan.asked) scan.filter scan.projection ≡ true
+
+-- a scan broke, and the line of the cause was written; the store is held with the reads up to there
+pub record IsStopped (form : Option Form) (in_before in_after out_before out_after : End) (used : Option StoreSeen) : Type 0 where
+  pub cause : Cause
+  pub broken : HasBroken cause form in_before in_after
   pub written : Added out_before.bytes out_after.bytes (refusal_line (break_name cause))
-  pub held : used ≡ Some (broken_store (scan_by statistics asked) filter projection)
+  pub held : used ≡ Some (broken_store (scan_by broken.scan.statistics broken.scan.asked) broken.scan.filter broken.scan.projection)
 
 -- the store after a scan: with the reads up to the end of its first phase that breaks where one does, with all where none does
 abbrev pub store_after : RequestedScan → Tree → Tree → StoreSeen
@@ -89,17 +98,10 @@ is_needed_read a f r =
 -- a store that was scanned as the arguments and the input ask. Each of its reads is of a kept block and of a column that the filter or the projection
 -- asks, for the projection alone only where the filter means true at some row of the block; and none stands twice
 pub record HasAskedReads (form : Option Form) (in_before in_after : End) (store : StoreSeen) : Type 0 where
-  pub statistics : Statistics
-  pub scans : form ≡ Some (scan_form statistics)
-  pub input : Bytes
-  pub asked : RequestedScan
-  pub filter : Tree
-  pub projection : Tree
-  pub taken : IsTaken in_before in_after input
-  pub asks : HoldsScan input asked filter projection
-  pub held : store ≡ store_after (scan_by statistics asked) filter projection
-  pub all_asked : list_all (is_asked_read (scan_by statistics asked).zones [] filter projection) store.log ≡ true
-  pub all_needed : list_all (is_needed_read (scan_by statistics asked) filter) store.log ≡ true
+  pub scan : AsksScan form in_before in_after
+  pub held : store ≡ store_after (scan_by scan.statistics scan.asked) scan.filter scan.projection
+  pub all_asked : list_all (is_asked_read (scan_by scan.statistics scan.asked).zones [] scan.filter scan.projection) store.log ≡ true
+  pub all_needed : list_all (is_needed_read (scan_by scan.statistics scan.asked) scan.filter) store.log ≡ true
   pub distinct : distinct_reads store.log ≡ true
 
 -- an explanation was written whole: of the scan that the input holds; no store is held
@@ -130,14 +132,7 @@ pub record IsNamed (query : Bytes) (in_before in_after out_before out_after : En
   pub written : Added out_before.bytes out_after.bytes (bytes_line expression)
   pub unheld : used ≡ None
 
--- a query that names an expression in which a type is too deep for its bytes, or a part too long
-abbrev pub HasDeepType : Bytes → Type 0
-HasDeepType query = (e : Tree) × Names query e × (¬ (IsShallow e))
-
-abbrev pub HasLongPart : Bytes → Type 0
-HasLongPart query = (e : Tree) × Names query e × IsShallow e × IsOverlong e
-
--- one that is too long itself, or names an expression of which a part is
+-- a query that is too long itself, or names an expression of which a part is
 abbrev pub IsLongQuery : Bytes → Type 0
 IsLongQuery query = (reading_of query ≡ Err TooLong) ⊎ HasLongPart query
 
@@ -148,18 +143,6 @@ pub record IsMisuse (in_before in_after out_before out_after : End) (used : Opti
   pub untaken : in_after ≡ in_before
   pub unheld : used ≡ None
 
--- the arguments ask a scan by some statistics, and an input was taken that holds one whose first phase that breaks by them does so by a cause
-pub record HasBroken (cause : Cause) (form : Option Form) (in_before in_after : End) : Type 0 where
-  pub statistics : Statistics
-  pub scans : form ≡ Some (scan_form statistics)
-  pub input : Bytes
-  pub asked : RequestedScan
-  pub filter : Tree
-  pub projection : Tree
-  pub taken : IsTaken in_before in_after input
-  pub asks : HoldsScan input asked filter projection
-  pub breaks : scan_breaks_by cause (scan_by statistics asked) filter projection ≡ true
-
 -- the sink counted a fault, and the first bytes were written of the text in which the run was to end; what was taken, and the store that is held, are
 -- those of that end
 pub record IsCut (form : Option Form) (in_before in_after out_before out_after : End) (used : Option StoreSeen) : Type 0 where
@@ -169,12 +152,9 @@ pub record IsCut (form : Option Form) (in_before in_after out_before out_after :
   pub written : AddedPrefix out_before.bytes out_after.bytes (outcome_text outcome)
   pub held : used ≡ used_by outcome
 
--- arguments that read a request couldn't read it: a first part of the input was taken, the source counted a fault, and its line was written whole; no
--- store is held
+-- arguments that read a request couldn't read it, and the line of this was written whole; no store is held
 pub record IsUnread (form : Option Form) (in_before in_after out_before out_after : End) (used : Option StoreSeen) : Type 0 where
-  pub reads : reads_request form ≡ true
-  pub part : IsPartTaken in_before in_after
-  pub risen : HasRisen in_before in_after
+  pub failed : FailsToRead form in_before in_after
   pub written : Added out_before.bytes out_after.bytes (refusal_line (codes "ReadFault"))
   pub unheld : used ≡ None
 

@@ -3,13 +3,14 @@ use Rattle.std.specs.Prelude.{◌≡◌, ℕ, false, true, Ok}
 use Rattle.std.specs.String.{string_bytes}
 use Rattle.vx_dtype.specs.Types.{Bytes, Ty}
 use Rattle.vx_expr.specs.Trees.{Tree}
-use Rattle.vx_semantics.specs.Breaks.{by_sum, by_cast}
+use Rattle.vx_semantics.specs.Breaks.{Cause, by_sum, by_cast}
+use Rattle.vx_scan.specs.ErrorKinds.{ErrorKind, of_memory, of_break, of_read}
 use Rattle.vx_scan.specs.Stores.{StoreSeen}
 use Rattle.vx_scan.specs.declared.errors.ScanError.{ScanError}
-use Rattle.vx_scan.specs.declared.errors.ScanError.TheVariants as scans
 use Rattle.vx_request.specs.Requests.{RequestedScan}
 use Rattle.vx_query.specs.Refusals.{break_name, refusal_line}
-use Rattle.vx_query.specs.Running.{Statistics, HoldsScan, SpellsScan, IsScanRefused, type_of_scan, scan_by, scan_breaks, scan_breaks_by, scan_report, scanned_store, broken_store}
+use Rattle.vx_query.specs.Running.{Statistics, HoldsScan, SpellsScan, IsScanRefused, type_of_scan}
+use Rattle.vx_query.specs.Running.{scan_by, scan_breaks, scan_breaks_by, scan_report, scanned_store, broken_store}
 use Rattle.vx_query.specs.declared.endings.Ending.{Ending}
 use Rattle.vx_query.specs.declared.endings.Ending.TheVariants.{Report, Overflow, BadCast}
 
@@ -23,6 +24,16 @@ abbrev pub ending_text : Ending → Bytes
 ending_text (Report text) = string_bytes text
 ending_text Overflow = refusal_line (break_name by_sum)
 ending_text BadCast = refusal_line (break_name by_cast)
+
+-- the ending of a scan that breaks by this cause
+abbrev pub break_ending : Cause → Ending
+break_ending by_sum = Overflow
+break_ending by_cast = BadCast
+
+-- errors of a kind end a scan so: only a break ends it, and all others are refusals
+abbrev pub EndsAs : ErrorKind → Ending → Type 0
+EndsAs (of_break cause) ending = ending ≡ break_ending cause
+EndsAs _ ending = ⊥
 
 -- the scan of a filter and a projection ends so, and leaves its store so
 abbrev pub EndsBy : RequestedScan → Tree → Tree → Ending → StoreSeen → Type 0
@@ -47,10 +58,9 @@ pub record IsAnswered (s : Statistics) (input : Bytes) (ending : Ending) (seen :
   pub holds : HoldsScan input asked filter projection
   pub ends : EndsBy (scan_by s asked) filter projection ending seen
 
--- why a scan whose store counts no fault gives no report
-abbrev pub IsUnreported : RequestedScan → ScanError → StoreSeen → Type 0
-IsUnreported a scans.NoMemory seen = Unit {0}
-IsUnreported a scans.Overflow seen = IsScanned a Overflow seen
-IsUnreported a scans.BadCast seen = IsScanned a BadCast seen
-IsUnreported a scans.StoreFault seen = ⊥
-IsUnreported a e seen = IsScanRefused a e
+-- why a scan whose store counts no fault gives no report, by the kind of the error
+abbrev pub IsUnreported : ErrorKind → RequestedScan → ScanError → StoreSeen → Type 0
+IsUnreported of_memory a e seen = Unit {0}
+IsUnreported (of_break cause) a e seen = IsScanned a (break_ending cause) seen
+IsUnreported of_read a e seen = ⊥
+IsUnreported _ a e seen = IsScanRefused a e

@@ -2,8 +2,8 @@
 use Rattle.std.specs.Prelude.{◌≡◌, ℕ, codes, None, Err}
 use Rattle.vx_dtype.specs.Types.{Bytes}
 use Rattle.vx_expr.specs.Trees.{Tree}
+use Rattle.vx_scan.specs.ErrorKinds.{ErrorKind, of_memory, kind_of}
 use Rattle.vx_scan.specs.declared.errors.ScanError.{ScanError}
-use Rattle.vx_scan.specs.declared.errors.ScanError.TheVariants as scans
 use Rattle.vx_request.specs.Requests.{RequestedScan, request_of, hex_bytes}
 use Rattle.vx_request.specs.declared.errors.RequestError.{RequestError}
 use Rattle.vx_request.specs.declared.errors.RequestError.TheVariants as requests
@@ -89,10 +89,13 @@ IsUnscanned a NoMemory = Unit {0}
 IsUnscanned a (Scan e) = IsScanRefused a e
 IsUnscanned a _ = ⊥
 
--- the refusal of expressions
+-- the refusal of expressions, by an error of a kind
+abbrev pub kind_refusal : ErrorKind → ScanError → Refusal
+kind_refusal of_memory e = NoMemory
+kind_refusal _ e = Scan e
+
 abbrev pub scan_refusal : ScanError → Refusal
-scan_refusal scans.NoMemory = NoMemory
-scan_refusal e = Scan e
+scan_refusal e = kind_refusal (kind_of e) e
 
 -- a word is not shown, for this reason: want of memory at any time, else it is no hexadecimal text, or its bytes spell no expression
 abbrev pub IsWordUnshown : Bytes → Refusal → Type 0

@@ -271,6 +271,13 @@ IsOverlong e = (¬ (Everywhere HasShortMetadata e)) ⊎ (¬ (HasShortParts (wire
 abbrev pub HasBytes : Tree → Type 0
 HasBytes e = IsShallow e × (¬ (IsOverlong e))
 
+-- a query that names an expression in which a type is too deep for its bytes, or a part too long
+abbrev pub HasDeepType : Bytes → Type 0
+HasDeepType query = (e : Tree) × Names query e × (¬ (IsShallow e))
+
+abbrev pub HasLongPart : Bytes → Type 0
+HasLongPart query = (e : Tree) × Names query e × IsShallow e × IsOverlong e
+
 -- the line of an expression's bytes: two hexadecimal digits for each
 abbrev pub bytes_line : Tree → Bytes
 bytes_line e = encode_lower (wire_text e) ++ codes "\n"
@@ -333,37 +340,54 @@ IsCutShort form before after =
     ⊎ ((((word : Bytes) × ((shown_word form ≡ Some word) ⊎ (asked_query form ≡ Some word))) ⊎ ((rows : ℕ) × (asked_rows form ≡ Some rows)))
     × (after ≡ before))
 
+-- arguments that read a request couldn't read it: a first part of the input was taken, and the source counted a fault
+pub record FailsToRead (form : Option Form) (before after : End) : Type 0 where
+  pub reads : reads_request form ≡ true
+  pub part : IsPartTaken before after
+  pub risen : one_more before.faults ≤ after.faults
+
+-- arguments that ask this took an input, of which this holds
+pub record TakesInput (Asks : Type 0) (before after : End) (input : Bytes) (Holds : Type 0) : Type 0 where
+  pub asks : Asks
+  pub taken : IsTaken before after input
+  pub holds : Holds
+
+-- arguments gave a word, as they do that ask this, of which this holds, and took nothing
+pub record GivesWord (Asks Holds : Bytes → Type 0) (before after : End) : Type 0 where
+  pub word : Bytes
+  pub asks : Asks word
+  pub holds : Holds word
+  pub untaken : after ≡ before
+
 -- what an outcome says of arguments and of the source: arguments that read no request take nothing
 abbrev pub IsOutcome : Option Form → End → End → Outcome → Type 0
 IsOutcome form before after misused = (form ≡ None) × (after ≡ before)
 IsOutcome form before after helped = (form ≡ Some help_form) × (after ≡ before)
 IsOutcome form before after versioned = (form ≡ Some version_form) × (after ≡ before)
 IsOutcome form before after out_of_memory = IsCutShort form before after
-IsOutcome form before after unread = (reads_request form ≡ true) × (IsPartTaken before after × (one_more before.faults ≤ after.faults))
-IsOutcome form before after (refused input e) = (reads_request form ≡ true) × (IsTaken before after input × (request_of input ≡ Err e))
+IsOutcome form before after unread = FailsToRead form before after
+IsOutcome form before after (refused input e) = TakesInput (reads_request form ≡ true) before after input (request_of input ≡ Err e)
 IsOutcome form before after (unscanned input e) =
-    (reads_request form ≡ true) × (IsTaken before after input × (HoldsRefused input e × (¬ (HasNoKey form input))))
+    TakesInput (reads_request form ≡ true) before after input (HoldsRefused input e × (¬ (HasNoKey form input)))
 IsOutcome form before after (broken s cause input a f p) =
-    (form ≡ Some (scan_form s)) × (IsTaken before after input × (HoldsScan input a f p × (scan_breaks_by cause (scan_by s a) f p ≡ true)))
+    TakesInput (form ≡ Some (scan_form s)) before after input (HoldsScan input a f p × (scan_breaks_by cause (scan_by s a) f p ≡ true))
 IsOutcome form before after (answered s input a f p) =
-    (form ≡ Some (scan_form s)) × (IsTaken before after input × (HoldsScan input a f p × (scan_breaks (scan_by s a) f p ≡ false)))
-IsOutcome form before after (explained input a f p) = (form ≡ Some explain_form) × (IsTaken before after input × HoldsScan input a f p)
-IsOutcome form before after undecoded = ((word : Bytes) × (shown_word form ≡ Some word) × (hex_bytes word ≡ None)) × (after ≡ before)
-IsOutcome form before after (unshown e) = ((word : Bytes) × (shown_word form ≡ Some word) × WordIsRefused word e) × (after ≡ before)
-IsOutcome form before after (shown showing e) = ((word : Bytes) × (form ≡ Some (show_form showing word)) × WordSpells word e) × (after ≡ before)
-IsOutcome form before after (unnamed e) = ((query : Bytes) × (asked_query form ≡ Some query) × (reading_of query ≡ Err e)) × (after ≡ before)
-IsOutcome form before after unserialized =
-    ((query : Bytes) × (e : Tree) × (asked_query form ≡ Some query) × Names query e × (¬ (IsShallow e))) × (after ≡ before)
-IsOutcome form before after overlong =
-    ((query : Bytes) × (e : Tree) × (asked_query form ≡ Some query) × Names query e × IsShallow e × IsOverlong e) × (after ≡ before)
-IsOutcome form before after (named e) = ((query : Bytes) × (asked_query form ≡ Some query) × Names query e × HasBytes e) × (after ≡ before)
+    TakesInput (form ≡ Some (scan_form s)) before after input (HoldsScan input a f p × (scan_breaks (scan_by s a) f p ≡ false))
+IsOutcome form before after (explained input a f p) = TakesInput (form ≡ Some explain_form) before after input (HoldsScan input a f p)
+IsOutcome form before after undecoded = GivesWord (λ word. shown_word form ≡ Some word) (λ word. hex_bytes word ≡ None) before after
+IsOutcome form before after (unshown e) = GivesWord (λ word. shown_word form ≡ Some word) (λ word. WordIsRefused word e) before after
+IsOutcome form before after (shown showing e) = GivesWord (λ word. form ≡ Some (show_form showing word)) (λ word. WordSpells word e) before after
+IsOutcome form before after (unnamed e) = GivesWord (λ query. asked_query form ≡ Some query) (λ query. reading_of query ≡ Err e) before after
+IsOutcome form before after unserialized = GivesWord (λ query. asked_query form ≡ Some query) HasDeepType before after
+IsOutcome form before after overlong = GivesWord (λ query. asked_query form ≡ Some query) HasLongPart before after
+IsOutcome form before after (named e) = GivesWord (λ query. asked_query form ≡ Some query) (λ query. Names query e × HasBytes e) before after
 IsOutcome form before after (summed rows) = (form ≡ Some (gen_form rows)) × (after ≡ before)
 IsOutcome form before after (unkeyed top input refusal) =
-    (form ≡ Some (top_form top)) × (IsTaken before after input × HoldsNoKey refusal top.key input)
+    TakesInput (form ≡ Some (top_form top)) before after input (HoldsNoKey refusal top.key input)
 IsOutcome form before after (top_broken cause input a ask) =
-    (form ≡ Some (top_form (words_of ask))) × (IsTaken before after input × (HoldsTop input a ask × (top_breaks_by cause a ask ≡ true)))
+    TakesInput (form ≡ Some (top_form (words_of ask))) before after input (HoldsTop input a ask × (top_breaks_by cause a ask ≡ true))
 IsOutcome form before after (topped input a ask) =
-    (form ≡ Some (top_form (words_of ask))) × (IsTaken before after input × (HoldsTop input a ask × (top_breaks a ask ≡ false)))
+    TakesInput (form ≡ Some (top_form (words_of ask))) before after input (HoldsTop input a ask × (top_breaks a ask ≡ false))
 
 -- the text of `--version`
 abbrev pub version_text : Bytes

@@ -14,21 +14,25 @@ use Rattle.vx_request.specs.Requests.{RequestedScan}
 use Rattle.vx_query.specs.Reports.{report_text}
 use Rattle.vx_query.specs.Refusals.{key_refusal_name, break_name, refusal_line}
 use Rattle.vx_query.specs.TopWords.{AskedTop, KeyRefusal}
-use Rattle.vx_query.specs.Running.{End, IsTaken, HoldsTop, HoldsNoKey, HasNoKey, words_of, top_form, scan_table, top_report, topped_store, top_broken_store, top_breaks, top_breaks_by}
+use Rattle.vx_query.specs.Running.{End, IsTaken, HoldsTop, HoldsNoKey, HasNoKey, words_of, top_form, scan_table}
+use Rattle.vx_query.specs.Running.{top_report, topped_store, top_broken_store, top_breaks, top_breaks_by}
 use Rattle.vx_query.specs.Causes.{IsUnscanned}
 
--- a report was written whole: of the first rows that the words ask of the table that the input holds, no phase of whose search breaks, and whose store is
--- held
-pub record IsTopped (top : AskedTop) (in_before in_after out_before out_after : End) (used : Option StoreSeen) : Type 0 where
+-- an input was taken that holds the search for the first rows that the words ask
+pub record AsksTop (top : AskedTop) (in_before in_after : End) : Type 0 where
   pub input : Bytes
   pub asked : RequestedScan
   pub ask : TopAsk
   pub words : words_of ask ≡ top
   pub taken : IsTaken in_before in_after input
   pub asks : HoldsTop input asked ask
-  pub unbroken : top_breaks asked ask ≡ false
-  pub written : Added out_before.bytes out_after.bytes (top_report asked ask)
-  pub held : used ≡ Some (topped_store asked ask)
+
+-- a report was written whole: of the first rows, no phase of whose search breaks, and whose store is held
+pub record IsTopped (top : AskedTop) (in_before in_after out_before out_after : End) (used : Option StoreSeen) : Type 0 where
+  pub search : AsksTop top in_before in_after
+  pub unbroken : top_breaks search.asked search.ask ≡ false
+  pub written : Added out_before.bytes out_after.bytes (top_report search.asked search.ask)
+  pub held : used ≡ Some (topped_store search.asked search.ask)
 
 -- an input was taken that holds two texts that spell expressions, and of whose table the name isn't the key, and the line of the refusal was written; no
 -- store is held
@@ -45,29 +49,17 @@ abbrev pub IsKeyedUnscanned : AskedTop → End → End → End → End → Optio
 IsKeyedUnscanned top in_before in_after out_before out_after used =
     (found : IsUnscanned in_before in_after out_before out_after used) × (¬ (HasNoKey (Some (top_form top)) found.input))
 
--- an input was taken that holds such a search, whose first phase that breaks does so by a cause, and the line of the cause was written; the store is held
--- with the reads up to there
-pub record IsTopStopped (top : AskedTop) (in_before in_after out_before out_after : End) (used : Option StoreSeen) : Type 0 where
-  pub input : Bytes
-  pub asked : RequestedScan
-  pub ask : TopAsk
-  pub words : words_of ask ≡ top
-  pub cause : Cause
-  pub taken : IsTaken in_before in_after input
-  pub asks : HoldsTop input asked ask
-  pub breaks : top_breaks_by cause asked ask ≡ true
-  pub written : Added out_before.bytes out_after.bytes (refusal_line (break_name cause))
-  pub held : used ≡ Some (top_broken_store asked ask)
-
--- an input was taken that holds such a search, whose first phase that breaks does so by this cause
+-- the first phase of the search that breaks does so by this cause
 pub record HasTopBroken (cause : Cause) (top : AskedTop) (in_before in_after : End) : Type 0 where
-  pub input : Bytes
-  pub asked : RequestedScan
-  pub ask : TopAsk
-  pub words : words_of ask ≡ top
-  pub taken : IsTaken in_before in_after input
-  pub asks : HoldsTop input asked ask
-  pub breaks : top_breaks_by cause asked ask ≡ true
+  pub search : AsksTop top in_before in_after
+  pub breaks : top_breaks_by cause search.asked search.ask ≡ true
+
+-- a search broke, and the line of the cause was written; the store is held with the reads up to there
+pub record IsTopStopped (top : AskedTop) (in_before in_after out_before out_after : End) (used : Option StoreSeen) : Type 0 where
+  pub cause : Cause
+  pub broken : HasTopBroken cause top in_before in_after
+  pub written : Added out_before.bytes out_after.bytes (refusal_line (break_name cause))
+  pub held : used ≡ Some (top_broken_store broken.search.asked broken.search.ask)
 
 -- the store after a search: with the reads up to the end of its first phase that breaks where one does, with all where none does
 abbrev pub top_store_after : RequestedScan → TopAsk → StoreSeen
@@ -76,14 +68,9 @@ top_store_after a ask = cond (top_breaks a ask) (top_broken_store a ask) (topped
 -- the store that was searched: each of its reads is of a block that the filter alone doesn't rule out, of which none is one where no row is asked, and of
 -- a column that the filter, the key or the projection asks; and none stands twice
 pub record HasTopReads (top : AskedTop) (in_before in_after : End) (store : StoreSeen) : Type 0 where
-  pub input : Bytes
-  pub asked : RequestedScan
-  pub ask : TopAsk
-  pub words : words_of ask ≡ top
-  pub taken : IsTaken in_before in_after input
-  pub asks : HoldsTop input asked ask
-  pub held : store ≡ top_store_after asked ask
-  pub all_asked : AreAmong store.log (top_asked ask asked.zones)
+  pub search : AsksTop top in_before in_after
+  pub held : store ≡ top_store_after search.asked search.ask
+  pub all_asked : AreAmong store.log (top_asked search.ask search.asked.zones)
   pub distinct : distinct_reads store.log ≡ true
 
 -- an end that tells its bytes, which hold the search for the first rows that are asked so

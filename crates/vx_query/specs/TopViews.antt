@@ -6,17 +6,19 @@ use Rattle.vx_dtype.specs.TypeRules.{field_type, is_plain}
 use Rattle.vx_expr.specs.Trees.{Tree}
 use Rattle.vx_semantics.specs.Breaks.{by_sum, by_cast}
 use Rattle.vx_wire.specs.Encodings.{is_default_kind}
+use Rattle.vx_scan.specs.ErrorKinds.{ErrorKind, of_types, of_break, kind_of, OnlyOfText}
 use Rattle.vx_scan.specs.Stores.{StoreSeen}
 use Rattle.vx_scan.specs.Texts.{SpellBoth, AreRefused}
 use Rattle.vx_scan.specs.declared.errors.ScanError.{ScanError}
-use Rattle.vx_scan.specs.declared.errors.ScanError.TheVariants as scans
 use Rattle.vx_laws_topk.specs.TopRows.{TopAsk}
 use Rattle.vx_topk.specs.declared.errors.TopError.{TopError}
 use Rattle.vx_topk.specs.declared.errors.TopError.TheVariants as tops
 use Rattle.vx_request.specs.Requests.{RequestedScan}
 use Rattle.vx_query.specs.TopWords.{AskedTop, unknown_key, bad_key, IsNoKey}
-use Rattle.vx_query.specs.Running.{HoldsTop, HoldsNoKey, HoldsRefused, HasNoKey, top_form, type_of_scan, top_report, topped_store, top_broken_store, top_breaks, top_breaks_by}
+use Rattle.vx_query.specs.Running.{HoldsTop, HoldsNoKey, HoldsRefused, HasNoKey, top_form}
+use Rattle.vx_query.specs.Running.{type_of_scan, top_report, topped_store, top_broken_store, top_breaks, top_breaks_by}
 use Rattle.vx_query.specs.RefusalViews.{IsUnanswered}
+use Rattle.vx_query.specs.EndingViews.{break_ending}
 use Rattle.vx_query.specs.declared.endings.Ending.{Ending}
 use Rattle.vx_query.specs.declared.endings.Ending.TheVariants.{Report, Overflow, BadCast}
 use Rattle.vx_query.specs.declared.refusals.Refusal.{Refusal}
@@ -25,8 +27,7 @@ use Rattle.vx_query.specs.declared.refusals.Refusal.TheVariants.{NoMemory, Scan,
 -- the two texts of a scan spell these expressions, or are refused; want of memory may come at any time
 abbrev pub DecodesBoth : Bytes → Bytes → Result (Tree × Tree) ScanError → Type 0
 DecodesBoth f p (Ok both) = SpellBoth is_default_kind f p both.0 both.1
-DecodesBoth f p (Err scans.NoMemory) = Unit {0}
-DecodesBoth f p (Err e) = AreRefused is_default_kind f p e
+DecodesBoth f p (Err e) = OnlyOfText (kind_of e) (AreRefused is_default_kind f p e)
 
 -- what is asked of a filter and a projection by these words, where the key has this type
 abbrev pub ask_of : AskedTop → Tree → Tree → Ty → TopAsk
@@ -65,16 +66,18 @@ pub record IsTopAnswered (top : AskedTop) (input : Bytes) (ending : Ending) (see
 abbrev pub IsKeyedUntyped : RequestedScan → AskedTop → Tree → Tree → ScanError → Type 0
 IsKeyedUntyped a top f p e = ((t : Ty) × IsKey top.key a t) × (type_of_scan a f p ≡ Err e)
 
--- why a search whose store counts no fault gives no report
+-- why a search whose store counts no fault gives no report, by the kind of the scan's error
+abbrev pub IsSearchStopped : ErrorKind → RequestedScan → AskedTop → Tree → Tree → ScanError → StoreSeen → Type 0
+IsSearchStopped of_types a top f p e seen = IsKeyedUntyped a top f p e
+IsSearchStopped (of_break cause) a top f p e seen = IsSearched a top f p (break_ending cause) seen
+IsSearchStopped _ a top f p e seen = ⊥
+
+-- why it gives none
 abbrev pub IsUnsearched : RequestedScan → AskedTop → Tree → Tree → TopError → StoreSeen → Type 0
 IsUnsearched a top f p tops.NoMemory seen = Unit {0}
 IsUnsearched a top f p tops.UnknownKey seen = IsNoKey unknown_key top.key a
 IsUnsearched a top f p tops.BadKey seen = IsNoKey bad_key top.key a
-IsUnsearched a top f p (tops.Scan scans.NoMemory) seen = ⊥
-IsUnsearched a top f p (tops.Scan scans.StoreFault) seen = ⊥
-IsUnsearched a top f p (tops.Scan scans.Overflow) seen = IsSearched a top f p Overflow seen
-IsUnsearched a top f p (tops.Scan scans.BadCast) seen = IsSearched a top f p BadCast seen
-IsUnsearched a top f p (tops.Scan e) seen = IsKeyedUntyped a top f p e
+IsUnsearched a top f p (tops.Scan e) seen = IsSearchStopped (kind_of e) a top f p e seen
 
 -- a search is answered by this refusal: want of memory at any time, else a key that is refused, else expressions that are
 abbrev pub IsTopRefused : RequestedScan → AskedTop → Tree → Tree → Refusal → Type 0

@@ -1,22 +1,22 @@
 // The answer to an input: how the scan that it holds ends.
-ghost use Rattle.std.specs.Prelude.{◌≡◌, ◌≢◌, true, [], length, map, None, IfOk, IfErr, IsErrOf};
+ghost use Rattle.std.specs.Prelude.{◌≡◌, ◌≢◌, true, false, [], length, map, None, IfOk, IfErr, IsErrOf};
 ghost use Rattle.std.specs.List.{filter, list_any};
 ghost use Rattle.std.specs.Str.{bytes_eq};
 ghost use Rattle.std.specs.String.{string_bytes};
 ghost use Rattle.vx_dtype.specs.RawViews.{raw_view};
 ghost use Rattle.vx_dtype.specs.TypeViews.{type_view};
-ghost use Rattle.vx_column.specs.Columns.{values_fit, seen_rows, raws_fit};
+ghost use Rattle.vx_column.specs.Columns.{values_fit, seen_rows, raw_rows, raws_fit};
 ghost use Rattle.vx_display.specs.ValueTexts.{value_text};
-ghost use Rattle.vx_scan.specs.Reports.{report_view};
+ghost use Rattle.vx_scan.specs.ErrorKinds.{kind_of};
+ghost use Rattle.vx_scan.specs.ScanLaws.{is_break};
 ghost use Rattle.vx_scan.specs.StoreAnswers.{new_store};
 ghost use Rattle.vx_scan.specs.StoreViews.{entry_view, store_seen};
 ghost use Rattle.vx_scan.specs.declared.errors.ScanError.TheVariants as scans;
 ghost use Rattle.vx_semantics.specs.Scans.{read_columns};
 ghost use Rattle.vx_tables.specs.Blocks.{block_view, table_of_blocks, table_refusal};
-ghost use Rattle.vx_query.specs.EndingViews.{IsAnswered, IsScanned, IsUnreported};
+ghost use Rattle.vx_query.specs.EndingViews.{EndsAs, IsAnswered, IsScanned};
 ghost use Rattle.vx_query.specs.Reports.{report_text};
-ghost use Rattle.vx_request.specs.Requests.{RequestedScan};
-ghost use Rattle.vx_query.specs.RefusalViews.{IsUnanswered, IsUnscanned};
+ghost use Rattle.vx_query.specs.RefusalViews.{IsUnanswered, IsUnscanned, scan_refusal};
 ghost use Rattle.vx_query.specs.RunViews.{scan_of, statistics_view};
 ghost use Rattle.vx_query.specs.Running.{scan_by};
 ghost use Rattle.vx_laws_stats.specs.BuiltStatistics.{built_zones};
@@ -30,7 +30,7 @@ use vx_column::ColumnRef;
 use vx_display::row_text;
 use vx_dtype::{DType, FieldName, Mem, NoMemory, ScalarValue};
 use vx_request::{ScanRequest, decode_request};
-use vx_scan::{ColumnStore, MemoryStore, ReadEntry, ScanError, ScanReport, TableError, scan};
+use vx_scan::{BlockNumbers, ColumnStore, MemoryStore, ReadEntry, RowValues, ScanError, scan};
 use vx_stats::{StatsError, build_stats};
 use vx_wire::{ExprRegistry, ExprRegistryExt};
 use vx_zones::ZoneMap;
@@ -59,7 +59,7 @@ pub(crate) fn answer(
         projection,
     } = request;
     let scanned = scanned_zones(alloc, statistics, zones, blocks.as_slice())?;
-    let store = store_of(alloc, scanned, blocks)?;
+    let store = MemoryStore::of_table(alloc, scanned, blocks)?;
     scan_store(alloc, filter.as_slice(), projection.as_slice(), store)
 }
 
@@ -72,7 +72,8 @@ fn scanned_zones(
     blocks: &[Vec<ColumnRef>],
 ) -> Mem<ZoneMap>
     requires { table_refusal zones (map block_view blocks.now) ≡ None }
-    ensures { IfOk result (λ scanned. scanned ≡ (scan_by (statistics_view statistics) (scan_of (new_store zones (map block_view blocks.now) []) [] [])).zones) }
+    ensures { IfOk result (λ scanned.
+        scanned ≡ (scan_by (statistics_view statistics) (scan_of (new_store zones (map block_view blocks.now) []) [] [])).zones) }
 {
     match statistics {
         Statistics::Given => Ok(zones),
@@ -93,23 +94,6 @@ fn built_of(alloc: Global, zones: &ZoneMap, blocks: &[Vec<ColumnRef>]) -> Mem<Zo
     }
 }
 
-/// The store of blocks of columns that are a table with these zones. No read of it fails.
-pub(crate) fn store_of(
-    alloc: Global,
-    zones: ZoneMap,
-    blocks: Vec<Vec<ColumnRef>>,
-) -> Mem<MemoryStore>
-    requires { table_refusal zones (map block_view blocks.items) ≡ None }
-    ensures { IfOk result (λ store. store ≡ new_store zones (map block_view blocks.items) []) }
-{
-    match MemoryStore::try_new(alloc, zones, blocks, Vec::new(alloc)) {
-        Ok(store) => Ok(store),
-        Err(TableError::NoMemory) => Err(NoMemory),
-        Err(TableError::WrongLength) => unreachable!(),
-        Err(TableError::WrongType) => unreachable!(),
-    }
-}
-
 /// How the scan of a store ends that wasn't read yet.
 fn scan_store(
     alloc: Global,
@@ -123,35 +107,25 @@ fn scan_store(
 {
     let registry = ExprRegistry::default();
     match scan(alloc, &registry, filter, projection, &mut store) {
-        Ok(report) => Ok(Scanned {
-            ending: Ending::Report(text_of(alloc, &report, &store)?),
-            store,
-        }),
+        Ok(report) => {
+            let text = text_of(alloc, &report.dtype, &report.rows, &report.skipped, &store)?;
+            Ok(Scanned {
+                ending: Ending::Report(text),
+                store,
+            })
+        }
         Err(error) => unreported(error, store),
     }
 }
 
-/// What becomes of a scan without a report: where it broke the store is kept, which holds the reads that were made.
-fn unreported(error: ScanError, store: MemoryStore) -> Result<Scanned, Refusal>
+/// What becomes of a scan, or of a search, without a report: where it broke the store is kept, which holds the reads that were made; else
+/// it is refused.
+pub(crate) fn unreported(error: ScanError, store: MemoryStore) -> Result<Scanned, Refusal>
     requires faultless { error ≢ scans.StoreFault }
-    ensures broken { (a : RequestedScan) → IsUnreported a error (store_seen store)
-        → IfOk result (λ scanned. IsScanned a scanned.ending (store_seen scanned.store)) }
-    ensures refused { (a : RequestedScan) → IsUnreported a error (store_seen store) → IfErr result (IsUnscanned a) }
+    ensures kept { IfOk result (λ scanned. EndsAs (kind_of error) scanned.ending × (scanned.store ≡ store)) }
+    ensures refused { IfErr result (λ refusal. (is_break error ≡ false) × (refusal ≡ scan_refusal error)) }
 {
     match error {
-        ScanError::NoMemory => Err(Refusal::NoMemory),
-        ScanError::BadWire(side) => Err(Refusal::Scan(ScanError::BadWire(side))),
-        ScanError::TooDeep(side) => Err(Refusal::Scan(ScanError::TooDeep(side))),
-        ScanError::TooManyNodes(side) => Err(Refusal::Scan(ScanError::TooManyNodes(side))),
-        ScanError::UnknownExpr(side) => Err(Refusal::Scan(ScanError::UnknownExpr(side))),
-        ScanError::BadMetadata(side) => Err(Refusal::Scan(ScanError::BadMetadata(side))),
-        ScanError::WrongChildren(side) => Err(Refusal::Scan(ScanError::WrongChildren(side))),
-        ScanError::NotStruct(side) => Err(Refusal::Scan(ScanError::NotStruct(side))),
-        ScanError::NullableSelect(side) => Err(Refusal::Scan(ScanError::NullableSelect(side))),
-        ScanError::UnknownField(side) => Err(Refusal::Scan(ScanError::UnknownField(side))),
-        ScanError::DuplicateField(side) => Err(Refusal::Scan(ScanError::DuplicateField(side))),
-        ScanError::TypeMismatch(side) => Err(Refusal::Scan(ScanError::TypeMismatch(side))),
-        ScanError::FilterNotBool => Err(Refusal::Scan(ScanError::FilterNotBool)),
         ScanError::Overflow => Ok(Scanned {
             ending: Ending::Overflow,
             store,
@@ -161,28 +135,35 @@ fn unreported(error: ScanError, store: MemoryStore) -> Result<Scanned, Refusal>
             store,
         }),
         ScanError::StoreFault => unreachable!(),
+        error => Err(Refusal::from(error)),
     }
 }
 
-/// The text of the report of a scan of a store.
-fn text_of(alloc: Global, report: &ScanReport, store: &MemoryStore) -> Mem<String>
-    requires { raws_fit (type_view report.now.dtype) report.now.rows ≡ true }
-    ensures { IfOk result (λ text. string_bytes text ≡ report_text (map value_text (report_view report.now).rows) report.now.skipped
+/// The text of the report of a scan, or of a search, of a store: of rows of a type, and of the blocks that were skipped.
+pub(crate) fn text_of(
+    alloc: Global,
+    dtype: &DType,
+    rows: &RowValues,
+    skipped: &BlockNumbers,
+    store: &MemoryStore,
+) -> Mem<String>
+    requires { raws_fit (type_view dtype.now) rows.now ≡ true }
+    ensures { IfOk result (λ text. string_bytes text ≡ report_text (map value_text (raw_rows (type_view dtype.now) rows.now)) skipped.now
         (read_columns (table_of_blocks store.now.zones store.now.blocks) store.now.reads) (length store.now.reads)) }
 {
-    let rows = row_texts(alloc, &report.dtype, report.rows.as_slice())?;
+    let texts = row_texts(alloc, dtype, rows.as_slice())?;
     let names = columns_read(alloc, store)?;
     report_text(
         alloc,
-        rows.as_slice(),
-        report.skipped.as_slice(),
+        texts.as_slice(),
+        skipped.as_slice(),
         names.as_slice(),
         store.log().len(),
     )
 }
 
 /// The names of the columns that were read at least once, in the table's order.
-pub(crate) fn columns_read(alloc: Global, store: &MemoryStore) -> Mem<Vec<FieldName>>
+fn columns_read(alloc: Global, store: &MemoryStore) -> Mem<Vec<FieldName>>
     ensures { IfOk result (λ names. names.items ≡ read_columns (table_of_blocks store.now.zones store.now.blocks) store.now.reads) }
 {
     let columns = store.zones().dtype().as_struct_fields_opt().unwrap();
@@ -190,7 +171,7 @@ pub(crate) fn columns_read(alloc: Global, store: &MemoryStore) -> Mem<Vec<FieldN
 }
 
 /// The texts of rows of a type.
-pub(crate) fn row_texts(alloc: Global, dtype: &DType, rows: &[ScalarValue]) -> Mem<Vec<String>>
+fn row_texts(alloc: Global, dtype: &DType, rows: &[ScalarValue]) -> Mem<Vec<String>>
     requires { values_fit (type_view dtype.now) rows.now ≡ true }
     ensures { IfOk result (λ texts. map string_bytes texts.items ≡ map value_text (seen_rows (type_view dtype.now) rows.now)) }
 {

@@ -15,7 +15,8 @@ ghost use Rattle.vx_query.specs.Exactly.{Tells, RunsWell, EndsWith};
 ghost use Rattle.vx_query.specs.Refusals.{refusal_line, break_name};
 ghost use Rattle.vx_query.specs.WireLaws.{WireLaws};
 ghost use Rattle.vx_query.specs.Running.{End, Form, IsRun, asked_top, reads_request, scan_by, scan_table, scan_report, scanned_store, broken_store, bytes_line};
-ghost use Rattle.vx_query.specs.Running.{Showing, Statistics, given, scan_form, explain_form, show_form, text_form, gen_form, shown_text, WordSpells, Names, HasBytes};
+ghost use Rattle.vx_query.specs.Running.{Showing, Statistics, given, scan_form, explain_form, show_form, text_form, gen_form};
+ghost use Rattle.vx_query.specs.Running.{shown_text, WordSpells, Names, HasBytes};
 
 use vx_laws_scan::{kept_numbers_are_kept_blocks, kept_rows_are_all};
 use vx_wire::{one_expression, one_tree};
@@ -75,8 +76,8 @@ pub fn reports_are_typed()
     ensures { (s : Statistics) (i i' o o' : End) (used : Option StoreSeen) → IsRun (Some (scan_form s)) i i' o o' used 0 → IsReported s i i' o o' used }
 {}
 
-/// The store that is held after `scan` or `scan built` has just the reads of the scan that the arguments and the input ask, up to the end of its first phase that
-/// breaks where one does: each is of a block that its statistics don't rule out, and of a column that the filter asks or, where
+/// The store that is held after `scan` or `scan built` has just the reads of the scan that the arguments and the input ask, up to the end of its
+/// first phase that breaks where one does: each is of a block that its statistics don't rule out, and of a column that the filter asks or, where
 /// this means true at some row of the block, the projection; and none stands twice. Of `top` `searches_ask_their_reads` says which reads it has.
 pub fn reads_are_asked()
     ensures { (form : Option Form) (i i' o o' : End) (store : StoreSeen) (status : ℕ) → reads_request form ≡ true → asked_top form ≡ None
@@ -122,8 +123,8 @@ pub fn reports_are_of_the_request()
 /// projection means at exactly the rows at which the filter means true, in the table's order. So it is also of the scan that
 /// the bytes of the source hold, where they are told. Of `scan built` `built_reports_are_whole` says the same of any request.
 pub fn honest_reports_are_whole()
-    ensures reported { (i i' o o' : End) (used : Option StoreSeen) (report : IsReported given i i' o o' used) → IsHonest report.asked.zones (scan_table report.asked) →
-        Added o.bytes o'.bytes (whole_report report.asked report.filter report.projection) }
+    ensures reported { (i i' o o' : End) (used : Option StoreSeen) (report : IsReported given i i' o o' used)
+        → IsHonest report.asked.zones (scan_table report.asked) → Added o.bytes o'.bytes (whole_report report.asked report.filter report.projection) }
     ensures told { (i i' o o' : End) (used : Option StoreSeen) (told : TellsScan i) → IsRun (Some (scan_form given)) i i' o o' used 0 →
         IsHonest told.asked.zones (scan_table told.asked) → Added o.bytes o'.bytes (whole_report told.asked told.filter told.projection) }
 {

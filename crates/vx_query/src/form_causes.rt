@@ -5,7 +5,8 @@ ghost use Rattle.vx_io.specs.Ends.{Added};
 ghost use Rattle.vx_scan.specs.Stores.{StoreSeen};
 ghost use Rattle.vx_explain.specs.Explanations.{explain_text};
 ghost use Rattle.vx_query.specs.Causes.{HasRisen, IsExplained, IsShown, IsMisuse, IsTold, IsUndigited, IsUnshown, IsUnnamed, TellsScan};
-ghost use Rattle.vx_query.specs.Running.{End, Form, IsRun, Showing, Statistics, asked_rows, asked_statistics, asked_top, reads_request, shown_word, scan_form, explain_form, show_form, text_form, top_form, shown_text};
+ghost use Rattle.vx_query.specs.Running.{End, Form, IsRun, Showing, Statistics, asked_rows, asked_statistics, asked_top};
+ghost use Rattle.vx_query.specs.Running.{reads_request, shown_word, scan_form, explain_form, show_form, text_form, top_form, shown_text};
 ghost use Rattle.vx_query.specs.TopWords.{AskedTop};
 ghost use Rattle.vx_query.specs.Running.{help_form, version_form, help_text, version_text};
 

@@ -5,10 +5,10 @@ ghost use Rattle.vx_scan.specs.Stores.{StoreSeen};
 ghost use Rattle.vx_text.specs.Reading.{reading_of};
 ghost use Rattle.vx_text.specs.declared.errors.TextError.{TextError};
 ghost use Rattle.vx_text.specs.declared.errors.TextError.TheVariants.{TooLong};
-ghost use Rattle.vx_query.specs.Causes.{IsNamed, HasDeepType, IsLongQuery};
+ghost use Rattle.vx_query.specs.Causes.{IsNamed, IsLongQuery};
 ghost use Rattle.vx_query.specs.Refusals.{text_refusal_name};
 ghost use Rattle.vx_query.specs.Exactly.{QueriesEndSo};
-ghost use Rattle.vx_query.specs.Running.{End, IsRun, text_form};
+ghost use Rattle.vx_query.specs.Running.{End, HasDeepType, IsRun, text_form};
 
 /// 0 of the argument `text` with a query means that the query names an expression, whose bytes were written whole, two
 /// hexadecimal digits for each.

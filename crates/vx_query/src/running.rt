@@ -1,7 +1,8 @@
 // The program as a call.
 ghost use Rattle.std.specs.Prelude.{◌≡◌, map, option_map, Some, None, IfOk, IfErr, IsErr};
 ghost use Rattle.std.specs.String.{string_bytes};
-ghost use Rattle.vx_query.specs.Running.{End, Outcome, Writing, IsOutcome, IsRun, IsWriting, end_by, form_of, explain_form, gen_form, scan_form, top_form, status_of, outcome_text, used_by};
+ghost use Rattle.vx_query.specs.Running.{End, Outcome, Writing, IsOutcome, IsRun, IsWriting, end_by, form_of};
+ghost use Rattle.vx_query.specs.Running.{explain_form, gen_form, scan_form, top_form, status_of, outcome_text, used_by};
 ghost use Rattle.vx_scan.specs.StoreViews.{store_seen};
 ghost use Rattle.vx_query.specs.EndingViews.{ending_status, ending_text};
 ghost use Rattle.vx_query.specs.RunViews.{statistics_view, top_view};
@@ -25,8 +26,21 @@ use vx_scan::MemoryStore;
 
 const USAGE: &str = "error: Usage\n";
 
-const HELP: &str =
-    "vx scan < REQUEST      prints the selected rows, the skipped blocks and the columns read, as in: vx scan < examples/first.json\nvx scan built < REQ    prints the same by the statistics that the table has, as in: vx scan built < examples/built.json\nvx explain < REQUEST   prints what a scan does with its filter and its projection, as in: vx explain < examples/explain.json\nvx show HEX            prints the expression that the bytes spell, as in: vx show 04726f6f740000\nvx show tree HEX       prints it as a tree, as in: vx show tree 04726f6f740000\nvx show query HEX      prints the query that names it, as in: vx show query 04726f6f740000\nvx text QUERY          prints the bytes of the expression that a query names, as in: vx text 'x > 10i32'\nvx gen ROWS            prints what the scan of a generated table of so many rows gives, as in: vx gen 200\nvx top asc KEY K < REQ prints the first K rows by a column (desc: greatest first), as in: vx top desc price 2 < examples/catalog.json\nvx --help              prints this text\nvx --version           prints the version\nexit status: 0 written whole, 2 wrong arguments, 3 no request or no hex, 4 refused expressions or query, 5 overflow or bad cast,\n6 input not read, 7 output not written, 8 no memory\n";
+const HELP: &str = concat!(
+    "vx scan < REQUEST      prints the selected rows, the skipped blocks and the columns read, as in: vx scan < examples/first.json\n",
+    "vx scan built < REQ    prints the same by the statistics that the table has, as in: vx scan built < examples/built.json\n",
+    "vx explain < REQUEST   prints what a scan does with its filter and its projection, as in: vx explain < examples/explain.json\n",
+    "vx show HEX            prints the expression that the bytes spell, as in: vx show 04726f6f740000\n",
+    "vx show tree HEX       prints it as a tree, as in: vx show tree 04726f6f740000\n",
+    "vx show query HEX      prints the query that names it, as in: vx show query 04726f6f740000\n",
+    "vx text QUERY          prints the bytes of the expression that a query names, as in: vx text 'x > 10i32'\n",
+    "vx gen ROWS            prints what the scan of a generated table of so many rows gives, as in: vx gen 200\n",
+    "vx top asc KEY K < REQ prints the first K rows by a column (desc: greatest first), as in: vx top desc price 2 < examples/catalog.json\n",
+    "vx --help              prints this text\n",
+    "vx --version           prints the version\n",
+    "exit status: 0 written whole, 2 wrong arguments, 3 no request or no hex, 4 refused expressions or query, 5 overflow or bad cast,\n",
+    "6 input not read, 7 output not written, 8 no memory\n",
+);
 
 const VERSION: &str = "vx 0.1.0\n";
 
@@ -37,10 +51,11 @@ const VERSION: &str = "vx 0.1.0\n";
 /// those that the request gives, which are still read and refused as without it. `explain` takes the input likewise and
 /// writes what the scan does with its filter and its projection.
 /// `show` with one word of hexadecimal digits behind it writes the expression that these bytes spell, `show tree` with one
-/// writes it as a tree, and `show query` with one as the query that names it. `text` with a query behind it writes the bytes of the expression that the query names, two
-/// hexadecimal digits for each. `gen` with a number of rows behind it, at most 200,000 in decimal digits, scans the generated table of so many rows and
-/// writes how many blocks it has and how many were skipped, how many rows were answered, and the sum of their numbers. `--help` and `--version` write
-/// their texts. These take nothing.
+/// writes it as a tree, and `show query` with one as the query that names it. `text` with a query behind it writes the bytes
+/// of the expression that the query names, two hexadecimal digits for each. `gen` with a number of rows behind it, at most
+/// 200,000 in decimal digits, scans the generated table of so many rows and writes how many blocks it has and how many were
+/// skipped, how many rows were answered, and the sum of their numbers. `--help` and `--version` write their texts. These take
+/// nothing.
 ///
 /// `top asc` with a column's name and a number of rows behind it, at most 1,048,576 in decimal digits, takes the input likewise and writes the report of
 /// so many rows of the scan: those with the least values of the column, the key, in its order, and rows of one key in the table's; with `top desc` those
@@ -50,8 +65,8 @@ const VERSION: &str = "vx 0.1.0\n";
 /// - 2 where the arguments have none of these forms;
 /// - 3 exactly where the input is no request, or the word to be shown is no hexadecimal text;
 /// - 4 exactly where the request's byte texts spell no two expressions, where the key that is asked is no column of a
-///   plain type, or where the expressions are not strictly typed for the request's table, the filter a boolean; where the bytes to be shown spell no expression; or where the query names no expression, or one
-///   that has no bytes;
+///   plain type, or where the expressions are not strictly typed for the request's table, the filter a boolean; where the
+///   bytes to be shown spell no expression; or where the query names no expression, or one that has no bytes;
 /// - 5 only where a phase of the scan breaks, and by a cause by which the first one that does so breaks, never for other
 ///   arguments than `scan`, `scan built` and `top`;
 /// - 6 only where the source counted a fault;
@@ -157,8 +172,9 @@ fn scan_input<I: Source>(
     used: &mut Option<MemoryStore>,
 ) -> Result<Ending, Refusal>
     ensures told { let source = end_by I.left I.faults in IfOk result (λ ending. (outcome : Outcome)
-        × IsOutcome (Some (scan_form (statistics_view statistics))) (source input.old) (source input.new) outcome × (status_of outcome ≡ ending_status ending)
-        × (outcome_text outcome ≡ ending_text ending) × (option_map store_seen used.new ≡ used_by outcome)) }
+        × IsOutcome (Some (scan_form (statistics_view statistics))) (source input.old) (source input.new) outcome
+        × (status_of outcome ≡ ending_status ending) × (outcome_text outcome ≡ ending_text ending)
+        × (option_map store_seen used.new ≡ used_by outcome)) }
     ensures refused { let source = end_by I.left I.faults in IfErr result
         (λ refusal. (outcome : Outcome) × IsOutcome (Some (scan_form (statistics_view statistics))) (source input.old) (source input.new) outcome
         × (status_of outcome ≡ refusal_status refusal) × (outcome_text outcome ≡ refusal_text refusal) × (used_by outcome ≡ None)) }

@@ -10,7 +10,8 @@ ghost use Rattle.vx_query.specs.Exactly.{Tells, RunsWell, EndsWith, KeysEndSo};
 ghost use Rattle.vx_query.specs.Refusals.{refusal_line, break_name};
 ghost use Rattle.vx_query.specs.TopCauses.{IsTopped, IsUnkeyed, IsKeyedUnscanned, IsTopStopped, HasTopBroken, HasTopReads, TellsTop, whole_top_report};
 ghost use Rattle.vx_query.specs.TopWords.{AskedTop, unknown_key, bad_key};
-ghost use Rattle.vx_query.specs.Running.{End, IsRun, HoldsNoKey, top_form, words_of, scan_table, top_report, topped_store, top_broken_store, top_breaks, top_breaks_by};
+ghost use Rattle.vx_query.specs.Running.{End, IsRun, HoldsNoKey, top_form, words_of, scan_table, top_report, topped_store};
+ghost use Rattle.vx_query.specs.Running.{top_broken_store, top_breaks, top_breaks_by};
 
 use crate::causes::wire_laws;
 use vx_laws_scan::kept_numbers_are_kept_blocks;
@@ -94,7 +95,8 @@ pub fn first_rows_are_of_the_request()
 /// source hold, where they are told.
 pub fn honest_first_rows_are_of_all_rows()
     ensures reported { (top : AskedTop) (i i' o o' : End) (used : Option StoreSeen) (report : IsTopped top i i' o o' used)
-        → IsHonest report.asked.zones (scan_table report.asked) → Added o.bytes o'.bytes (whole_top_report report.asked report.ask) }
+        → IsHonest report.search.asked.zones (scan_table report.search.asked)
+        → Added o.bytes o'.bytes (whole_top_report report.search.asked report.search.ask) }
     ensures told { (i i' o o' : End) (used : Option StoreSeen) (told : TellsTop i) → IsRun (Some (top_form (words_of told.ask))) i i' o o' used 0
         → IsHonest told.asked.zones (scan_table told.asked) → Added o.bytes o'.bytes (whole_top_report told.asked told.ask) }
 {

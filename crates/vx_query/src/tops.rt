@@ -1,35 +1,26 @@
 // The answer to an input of which the first rows by a key are asked.
-ghost use Rattle.std.specs.Prelude.{◌≡◌, ◌≢◌, true, [], length, map, IfOk, IfErr};
-ghost use Rattle.std.specs.String.{string_bytes};
-ghost use Rattle.vx_dtype.specs.TypeViews.{type_view};
-ghost use Rattle.vx_column.specs.Columns.{raws_fit};
-ghost use Rattle.vx_display.specs.ValueTexts.{value_text};
+ghost use Rattle.std.specs.Prelude.{◌≡◌, ◌≢◌, true, [], IfOk, IfErr};
 ghost use Rattle.vx_expr.specs.Trees.{Tree};
 ghost use Rattle.vx_laws_topk.specs.TopLaws.{has_no_slot};
 ghost use Rattle.vx_scan.specs.StoreAnswers.{new_store};
 ghost use Rattle.vx_scan.specs.StoreViews.{store_seen};
 ghost use Rattle.vx_scan.specs.declared.errors.ScanError.TheVariants as scans;
-ghost use Rattle.vx_semantics.specs.Scans.{read_columns};
-ghost use Rattle.vx_tables.specs.Blocks.{table_of_blocks};
-ghost use Rattle.vx_topk.specs.TopEnds.{top_view as report_view};
 ghost use Rattle.vx_topk.specs.declared.errors.TopError.TheVariants as tops;
 ghost use Rattle.vx_request.specs.Requests.{RequestedScan};
-ghost use Rattle.vx_query.specs.Reports.{report_text};
 ghost use Rattle.vx_query.specs.RunViews.{scan_of, top_view};
 ghost use Rattle.vx_query.specs.TopWords.{AskedTop};
 ghost use Rattle.vx_query.specs.TopViews.{DecodesBoth, IsSearched, IsTopAnswered, IsUnsearched, IsTopRefused, IsTopUnanswered};
 
-use crate::answers::{Scanned, columns_read, row_texts, store_of};
+use crate::answers::{Scanned, text_of, unreported};
 use crate::endings::Ending;
 use crate::forms::Top;
 use crate::refusals::Refusal;
-use crate::reports::report_text;
 use std::alloc::Global;
-use vx_dtype::{FieldName, Mem};
+use vx_dtype::FieldName;
 use vx_expr::ExprRef;
 use vx_request::{ScanRequest, decode_request};
 use vx_scan::{MemoryStore, ScanError, Side, decode_expr};
-use vx_topk::{TopError, TopReport, top_rows};
+use vx_topk::{TopError, top_rows};
 use vx_wire::{ExprRegistry, ExprRegistryExt};
 
 /// How the search for the first rows that are asked of an input ends, or the one cause that there is none: after the refusals of the request come those of
@@ -46,7 +37,7 @@ pub(crate) fn top_answer(alloc: Global, input: &[u8], top: Top<'_>) -> Result<Sc
         projection,
     } = request;
     let both = both_exprs(alloc, filter.as_slice(), projection.as_slice())?;
-    let store = store_of(alloc, zones, blocks)?;
+    let store = MemoryStore::of_table(alloc, zones, blocks)?;
     search_store(alloc, &both.0, &both.1, top, store)
 }
 
@@ -90,10 +81,13 @@ fn search_store(
         top.count,
         &mut store,
     ) {
-        Ok(report) => Ok(Scanned {
-            ending: Ending::Report(text_of(alloc, &report, &store)?),
-            store,
-        }),
+        Ok(report) => {
+            let text = text_of(alloc, &report.dtype, &report.rows, &report.skipped, &store)?;
+            Ok(Scanned {
+                ending: Ending::Report(text),
+                store,
+            })
+        }
         Err(error) => unsearched(error, store),
     }
 }
@@ -101,7 +95,6 @@ fn search_store(
 /// What becomes of a search without a report: where it broke the store is kept, which holds the reads that were made.
 fn unsearched(error: TopError, store: MemoryStore) -> Result<Scanned, Refusal>
     requires faultless { error ≢ tops.Scan scans.StoreFault }
-    requires single { error ≢ tops.Scan scans.NoMemory }
     ensures broken { (a : RequestedScan) (top : AskedTop) (f p : Tree) → IsUnsearched a top f p error (store_seen store)
         → IfOk result (λ searched. IsSearched a top f p searched.ending (store_seen searched.store)) }
     ensures refused { (a : RequestedScan) (top : AskedTop) (f p : Tree) → IsUnsearched a top f p error (store_seen store)
@@ -113,56 +106,4 @@ fn unsearched(error: TopError, store: MemoryStore) -> Result<Scanned, Refusal>
         TopError::BadKey => Err(Refusal::BadKey),
         TopError::Scan(error) => unreported(error, store),
     }
-}
-
-/// The same of a search that broke, or whose expressions are refused by their typing.
-fn unreported(error: ScanError, store: MemoryStore) -> Result<Scanned, Refusal>
-    requires faultless { error ≢ scans.StoreFault }
-    requires single { error ≢ scans.NoMemory }
-    ensures broken { (a : RequestedScan) (top : AskedTop) (f p : Tree) → IsUnsearched a top f p (tops.Scan error) (store_seen store)
-        → IfOk result (λ searched. IsSearched a top f p searched.ending (store_seen searched.store)) }
-    ensures refused { (a : RequestedScan) (top : AskedTop) (f p : Tree) → IsUnsearched a top f p (tops.Scan error) (store_seen store)
-        → IfErr result (IsTopRefused a top f p) }
-{
-    match error {
-        ScanError::NoMemory => unreachable!(),
-        ScanError::BadWire(side) => Err(Refusal::Scan(ScanError::BadWire(side))),
-        ScanError::TooDeep(side) => Err(Refusal::Scan(ScanError::TooDeep(side))),
-        ScanError::TooManyNodes(side) => Err(Refusal::Scan(ScanError::TooManyNodes(side))),
-        ScanError::UnknownExpr(side) => Err(Refusal::Scan(ScanError::UnknownExpr(side))),
-        ScanError::BadMetadata(side) => Err(Refusal::Scan(ScanError::BadMetadata(side))),
-        ScanError::WrongChildren(side) => Err(Refusal::Scan(ScanError::WrongChildren(side))),
-        ScanError::NotStruct(side) => Err(Refusal::Scan(ScanError::NotStruct(side))),
-        ScanError::NullableSelect(side) => Err(Refusal::Scan(ScanError::NullableSelect(side))),
-        ScanError::UnknownField(side) => Err(Refusal::Scan(ScanError::UnknownField(side))),
-        ScanError::DuplicateField(side) => Err(Refusal::Scan(ScanError::DuplicateField(side))),
-        ScanError::TypeMismatch(side) => Err(Refusal::Scan(ScanError::TypeMismatch(side))),
-        ScanError::FilterNotBool => Err(Refusal::Scan(ScanError::FilterNotBool)),
-        ScanError::Overflow => Ok(Scanned {
-            ending: Ending::Overflow,
-            store,
-        }),
-        ScanError::BadCast => Ok(Scanned {
-            ending: Ending::BadCast,
-            store,
-        }),
-        ScanError::StoreFault => unreachable!(),
-    }
-}
-
-/// The text of the report of a search in a store.
-fn text_of(alloc: Global, report: &TopReport, store: &MemoryStore) -> Mem<String>
-    requires { raws_fit (type_view report.now.dtype) report.now.rows ≡ true }
-    ensures { IfOk result (λ text. string_bytes text ≡ report_text (map value_text (report_view report.now).rows) report.now.skipped
-        (read_columns (table_of_blocks store.now.zones store.now.blocks) store.now.reads) (length store.now.reads)) }
-{
-    let rows = row_texts(alloc, &report.dtype, report.rows.as_slice())?;
-    let names = columns_read(alloc, store)?;
-    report_text(
-        alloc,
-        rows.as_slice(),
-        report.skipped.as_slice(),
-        names.as_slice(),
-        store.log().len(),
-    )
 }

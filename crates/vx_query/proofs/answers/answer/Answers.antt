@@ -27,8 +27,8 @@ scanned_zones-requires c =
     ap (λ bs. table_refusal asked.zones (map block_view bs)) c.as_slice.ensures.value
     ∙ table_of_agreeing asked.zones asked.blocks (ap agree (sym found) ∙ agree_in c.args.input.now)
 
-pub store_of-requires : goal.store_of-requires
-store_of-requires c =
+pub of_table-requires : goal.of_table-requires
+of_table-requires c =
     let asked = scan_view c.in_ok-request.request in
     let found : request_of c.args.input.now ≡ Ok asked = c.in_ok-request.ensures in
     let chosen = statistics_view c.args.statistics in

@@ -5,7 +5,8 @@ use Rattle.vx_query.proofs.top_causes.honest_first_rows_are_of_all_rows.Goals as
 
 pub returns-clause-reported : goal.returns-clause-reported
 returns-clause-reported c = λ top i i' o o' used report honest.
-    subst (Added o.bytes o'.bytes) (whole_where_honest c.top_is_of_all_rows.ensures.first report.input report.asked report.ask report.asks honest) report.written
+    let search = report.search in
+    subst (Added o.bytes o'.bytes) (whole_where_honest c.top_is_of_all_rows.ensures.first search.input search.asked search.ask search.asks honest) report.written
 
 pub returns-clause-told : goal.returns-clause-told
 returns-clause-told c = λ i i' o o' used told run honest.

@@ -14,8 +14,8 @@ returns-in-Ok-clause-searched c =
     let before = store_seen c.args.store in
     let after = store_seen c.top_rows.new.store in
     let ends = subst (λ k. IsTopOf f p k top.descending top.count before after (Ok c.in-Ok.report)) c.in_ok-key.ensures c.in-Ok.ensures.ends in
-    searched a top f p before c.top_rows.new.store c.in-Ok.report c.in_ok-text_of-in-Ok.field-0 (ap store_seen c.requires.fresh) c.in-Ok.ensures.same ends
-    c.in_ok-text_of-in-Ok.ensures
+    searched a top f p before c.top_rows.new.store c.in-Ok.report c.in_ok-text-in-Ok.text (ap store_seen c.requires.fresh) c.in-Ok.ensures.same ends
+    c.in_ok-text-in-Ok.ensures
 
 pub returns-clause-searched : goal.returns-clause-searched
 returns-clause-searched c =

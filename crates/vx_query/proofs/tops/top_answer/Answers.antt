@@ -30,8 +30,8 @@ returns-in_err-both-clause-refused c =
     if_err (IsTopUnanswered top c.args.input.now) (scan_refusal e) residual.result residual.ensures.1
     (undecoded_by top c.args.input.now asked e c.in_ok-request.ensures refused)
 
-pub store_of-requires : goal.store_of-requires
-store_of-requires c =
+pub of_table-requires : goal.of_table-requires
+of_table-requires c =
     let asked = scan_view c.in_ok-request.request in
     let found : request_of c.args.input.now ≡ Ok asked = c.in_ok-request.ensures in
     table_of_agreeing asked.zones asked.blocks (ap agree (sym found) ∙ agree_in c.args.input.now)
