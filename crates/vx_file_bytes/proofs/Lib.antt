@@ -1,3 +1,3 @@
-pub mod Loops
-pub mod Parts
-pub mod Tables
+pub mod WritingLoops
+pub mod WritingLemmas
+pub mod TableLemmas

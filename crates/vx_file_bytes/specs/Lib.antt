@@ -1,5 +1,5 @@
 pub mod WritingAnswers
-pub mod Parts
+pub mod WritingParts
 pub use Rattle.vx_laws_file.specs.FileForms
 pub use Rattle.vx_laws_file.specs.Lengths
 pub use Rattle.vx_tables.specs.Blocks

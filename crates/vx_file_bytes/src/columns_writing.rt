@@ -7,7 +7,7 @@ ghost use Rattle.vx_wire_bytes.specs.Fields.{IsShort, IsText};
 ghost use Rattle.vx_wire_bytes.specs.ValueForms.{TextsAre};
 ghost use Rattle.vx_laws_file.specs.Cells.{raw_value, cell_bytes};
 ghost use Rattle.vx_laws_file.specs.FileForms.{column_bytes};
-ghost use Rattle.vx_file_bytes.specs.Parts.{IsTooLong, ColumnIs, BlockIs, column_number, block_bytes, block_numbers};
+ghost use Rattle.vx_file_bytes.specs.WritingParts.{IsTooLong, ColumnIs, BlockIs, column_number, block_bytes, block_numbers};
 
 use crate::errors::WriteFileError;
 use crate::parts_writing::write_short_value;

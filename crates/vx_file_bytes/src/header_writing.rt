@@ -1,5 +1,5 @@
 // Writing headers.
-ghost use Rattle.std.specs.Prelude.{◌≡◌, ◌++◌, true, map, IfOk, IfErr, OnOk};
+ghost use Rattle.std.specs.Prelude.{◌≡◌, ◌++◌, true, length, map, IfOk, IfErr, OnOk};
 ghost use Rattle.vx_semantics.specs.Tables.{row_type};
 ghost use Rattle.vx_zones.specs.Zoning.{are_shallow};
 ghost use Rattle.vx_zones.specs.ZoneViews.{stat_view};
@@ -8,8 +8,7 @@ ghost use Rattle.vx_wire_bytes.specs.Fields.{IsNumber, IsShort, IsText};
 ghost use Rattle.vx_wire_bytes.specs.TypeForms.{fields_number, fields_bytes, type_bytes, HasNames, HaveNames};
 ghost use Rattle.vx_laws_file.specs.FileForms.{counted_bytes, stat_byte, statistic_bytes, AreCounted};
 ghost use Rattle.vx_laws_file.specs.Lengths.{StatisticTextsAre};
-ghost use Rattle.vx_file_bytes.specs.Parts.{IsTooLong, ZonesTextsAre, header_with};
-ghost use Rattle.std.specs.Prelude.{length};
+ghost use Rattle.vx_file_bytes.specs.WritingParts.{IsTooLong, ZonesTextsAre, header_front};
 
 use crate::errors::WriteFileError;
 use crate::parts_writing::{write_name, write_path, write_scalars};
@@ -103,13 +102,9 @@ fn write_statistics(out: &mut Vec<u8>, stats: &[ZoneStat]) -> Result<(), WriteFi
     Ok(())
 }
 
-/// The header of a table's file, where the given bytes say how long the ranges are.
-pub(crate) fn write_header(
-    alloc: Global,
-    zones: &ZoneMap,
-    range_lengths: &[u8],
-) -> Result<Vec<u8>, WriteFileError>
-    ensures ok { IfOk result (λ header. (header.items ≡ header_with zones.now range_lengths.now) × ZonesTextsAre IsText zones.now) }
+/// The header of a table's file as far as the lengths of the ranges, which follow.
+pub(crate) fn header_front(alloc: Global, zones: &ZoneMap) -> Result<Vec<u8>, WriteFileError>
+    ensures ok { IfOk result (λ header. (header.items ≡ header_front zones.now) × ZonesTextsAre IsText zones.now) }
     ensures err { IfErr result (IsTooLong (ZonesTextsAre IsShort zones.now)) }
 {
     if !has_short_names(zones.dtype()) {
@@ -119,6 +114,5 @@ pub(crate) fn write_header(
     write_row_type(&mut out, columns_of(zones))?;
     write_lengths(&mut out, zones.lengths())?;
     write_statistics(&mut out, zones.stats())?;
-    out.extend_from_slice(range_lengths)?;
     Ok(out)
 }

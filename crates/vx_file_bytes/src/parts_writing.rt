@@ -9,7 +9,7 @@ ghost use Rattle.vx_wire_bytes.specs.Numbers.{piece_bytes};
 ghost use Rattle.vx_wire_bytes.specs.Fields.{IsShort, IsText};
 ghost use Rattle.vx_wire_bytes.specs.ValueForms.{value_bytes, TextsAre};
 ghost use Rattle.vx_laws_file.specs.FileForms.{counted_bytes, scalar_bytes, AreCounted};
-ghost use Rattle.vx_file_bytes.specs.Parts.{IsTooLong};
+ghost use Rattle.vx_file_bytes.specs.WritingParts.{IsTooLong};
 
 use crate::errors::WriteFileError;
 use vx_dtype::{DType, Field, FieldName, FieldPath, Mem, Scalar, ScalarValue};

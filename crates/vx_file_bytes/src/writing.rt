@@ -6,11 +6,11 @@ ghost use Rattle.vx_wire_bytes.specs.Fields.{IsShort};
 ghost use Rattle.vx_laws_file.specs.FileForms.{most_rows, file_bytes};
 ghost use Rattle.vx_laws_file.specs.Lengths.{HasFile};
 ghost use Rattle.vx_file_bytes.specs.WritingAnswers.{IsUnwritten};
-ghost use Rattle.vx_file_bytes.specs.Parts.{joined_bytes};
+ghost use Rattle.vx_file_bytes.specs.WritingParts.{joined_bytes};
 
 use crate::columns_writing::write_blocks;
 use crate::errors::WriteFileError;
-use crate::header_writing::write_header;
+use crate::header_writing::header_front;
 use std::alloc::Global;
 use vx_column::ColumnRef;
 use vx_dtype::Mem;
@@ -66,10 +66,9 @@ fn write_table(
     if !are_few_rows(zones.lengths()) {
         return Err(WriteFileError::TooLong);
     }
+    let mut header = header_front(alloc, zones)?;
     let mut ranges = Vec::new(alloc);
-    let mut lengths = Vec::new(alloc);
-    write_blocks(alloc, &mut ranges, &mut lengths, blocks)?;
-    let header = write_header(alloc, zones, lengths.as_slice())?;
+    write_blocks(alloc, &mut ranges, &mut header, blocks)?;
     if header.len() >= LONG {
         return Err(WriteFileError::TooLong);
     }

@@ -1,9 +1,9 @@
 use Rattle.std.proofs.lemmas.Result.{err_from_is_err_and}
 use Rattle.vx_wire_bytes.specs.Fields.{IsShort, IsText}
 use Rattle.vx_laws_file.specs.FileForms.{column_bytes}
-use Rattle.vx_file_bytes.specs.Parts.{ColumnIs, BlockIs}
-use Rattle.vx_file_bytes.proofs.Loops.{item_here, writing_breaks}
-use Rattle.vx_file_bytes.proofs.Parts.{too_long}
+use Rattle.vx_file_bytes.specs.WritingParts.{ColumnIs, BlockIs}
+use Rattle.vx_file_bytes.proofs.WritingLoops.{item_here, writing_breaks}
+use Rattle.vx_file_bytes.proofs.WritingLemmas.{too_long}
 use Rattle.vx_file_bytes.proofs.columns_writing.write_block.Goals as goal
 
 pub returns-in_err-length-clause-err : goal.returns-in_err-length-clause-err

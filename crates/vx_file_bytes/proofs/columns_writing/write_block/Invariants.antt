@@ -1,7 +1,7 @@
 use Rattle.vx_wire_bytes.specs.Fields.{IsShort, IsText}
 use Rattle.vx_laws_file.specs.FileForms.{column_bytes}
-use Rattle.vx_file_bytes.specs.Parts.{ColumnIs, column_number}
-use Rattle.vx_file_bytes.proofs.Loops.{IsWriting}
+use Rattle.vx_file_bytes.specs.WritingParts.{ColumnIs, column_number}
+use Rattle.vx_file_bytes.proofs.WritingLoops.{IsWriting}
 use Rattle.vx_file_bytes.proofs.columns_writing.write_block.Given as goal
 
 abbrev pub invariant-loop-i : goal.invariant-loop-i

@@ -3,9 +3,9 @@ use Rattle.std.specs.List.{AllByRecursion}
 use Rattle.std.proofs.lemmas.Result.{err_from_is_err_and}
 use Rattle.vx_tables.specs.Blocks.{block_view}
 use Rattle.vx_wire_bytes.specs.Fields.{IsShort, IsText}
-use Rattle.vx_file_bytes.specs.Parts.{BlockIs, block_bytes, block_numbers}
-use Rattle.vx_file_bytes.proofs.Loops.{item_here, seen_breaks, seen_ends}
-use Rattle.vx_file_bytes.proofs.Parts.{too_long}
+use Rattle.vx_file_bytes.specs.WritingParts.{BlockIs, block_bytes, block_numbers}
+use Rattle.vx_file_bytes.proofs.WritingLoops.{item_here, seen_breaks, seen_ends}
+use Rattle.vx_file_bytes.proofs.WritingLemmas.{too_long}
 use Rattle.vx_file_bytes.proofs.columns_writing.write_blocks.Goals as goal
 
 pub returns-in_err-write_block-clause-err : goal.returns-in_err-write_block-clause-err

@@ -1,7 +1,7 @@
 use Rattle.vx_wire_bytes.specs.Fields.{IsShort, IsText}
 use Rattle.vx_tables.specs.Blocks.{block_view}
-use Rattle.vx_file_bytes.specs.Parts.{BlockIs, block_bytes, block_numbers}
-use Rattle.vx_file_bytes.proofs.Loops.{IsWritingSeen}
+use Rattle.vx_file_bytes.specs.WritingParts.{BlockIs, block_bytes, block_numbers}
+use Rattle.vx_file_bytes.proofs.WritingLoops.{IsWritingSeen}
 use Rattle.vx_file_bytes.proofs.columns_writing.write_blocks.Given as goal
 
 abbrev pub invariant-loop-i : goal.invariant-loop-i

@@ -1,4 +1,4 @@
-use Rattle.std.proofs.Common.{◌≡◌, ◌++◌, sym, ap, ◌∙◌, subst}
+use Rattle.std.proofs.Common.{◌≡◌, ◌++◌, sym, ◌∙◌, subst}
 use Rattle.std.specs.Prelude.{OnOk, IfErr}
 use Rattle.vx_dtype.specs.Types.{Ty}
 use Rattle.vx_dtype.specs.TypeViews.{type_view}
@@ -8,8 +8,8 @@ use Rattle.vx_column.specs.Columns.{row_at}
 use Rattle.vx_wire_bytes.specs.Fields.{IsShort, IsText}
 use Rattle.vx_wire_bytes.specs.ValueForms.{value_bytes, TextsAre}
 use Rattle.vx_laws_file.specs.Cells.{raw_value}
-use Rattle.vx_file_bytes.specs.Parts.{IsTooLong}
-use Rattle.vx_file_bytes.proofs.Parts.{cell_raw}
+use Rattle.vx_file_bytes.specs.WritingParts.{IsTooLong}
+use Rattle.vx_file_bytes.proofs.WritingLemmas.{cell_raw}
 use Rattle.vx_file_bytes.proofs.columns_writing.write_cell.Goals as goal
 
 pub returns-clause-ok : goal.returns-clause-ok

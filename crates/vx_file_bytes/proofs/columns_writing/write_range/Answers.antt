@@ -1,11 +1,11 @@
-use Rattle.std.proofs.Common.{◌+◌, ◌<◌, ◌≤◌, length, drop, arith}
+use Rattle.std.proofs.Common.{◌+◌, ◌<◌, ◌≤◌, length, arith}
 use Rattle.std.proofs.lemmas.List.{drop_more}
 use Rattle.vx_dtype.specs.Values.{Val, null_val}
 use Rattle.vx_column.specs.Columns.{row_at}
 use Rattle.vx_wire_bytes.specs.Fields.{IsShort, IsText}
 use Rattle.vx_wire_bytes.specs.ValueForms.{TextsAre}
 use Rattle.vx_laws_file.specs.Cells.{raw_value, cell_bytes}
-use Rattle.vx_file_bytes.proofs.Loops.{writing_goes_on, writing_is_long}
+use Rattle.vx_file_bytes.proofs.WritingLoops.{writing_goes_on, writing_is_long}
 use Rattle.vx_file_bytes.proofs.columns_writing.write_range.Goals as goal
 
 pub returns-then-len-start-ge-LONG-clause-err : goal.returns-then-len-start-ge-LONG-clause-err

@@ -3,7 +3,7 @@ use Rattle.vx_dtype.specs.Values.{Val}
 use Rattle.vx_wire_bytes.specs.Fields.{IsShort, IsText}
 use Rattle.vx_wire_bytes.specs.ValueForms.{TextsAre}
 use Rattle.vx_laws_file.specs.Cells.{raw_value, cell_bytes}
-use Rattle.vx_file_bytes.proofs.Loops.{IsWriting}
+use Rattle.vx_file_bytes.proofs.WritingLoops.{IsWriting}
 use Rattle.vx_file_bytes.proofs.columns_writing.write_range.Given as goal
 
 -- the cells before the row are written, and they are short together

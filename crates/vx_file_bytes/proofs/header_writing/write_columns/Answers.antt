@@ -1,8 +1,8 @@
-use Rattle.std.proofs.Common.{◌<◌, ◌≤◌, ◌++◌, length, sym, ap, ◌∙◌, subst, arith}
+use Rattle.std.proofs.Common.{◌<◌, ◌≤◌, sym, ◌∙◌, subst, arith}
 use Rattle.vx_dtype.specs.TypeViews.{type_view}
 use Rattle.vx_dtype.proofs.FieldsFrom.{has_name_at, has_type_at}
 use Rattle.vx_wire_bytes.proofs.TypeWriting.{length-field_names, fields_start, field_names_here, fields_step, fields_end}
-use Rattle.vx_file_bytes.proofs.Parts.{shallow_at}
+use Rattle.vx_file_bytes.proofs.WritingLemmas.{shallow_at}
 use Rattle.vx_file_bytes.proofs.header_writing.write_columns.Goals as goal
 
 pub overflow_cast-nfields : goal.overflow_cast-nfields

@@ -1,6 +1,6 @@
 use Rattle.std.proofs.Common.{ℕ, ◌++◌, length}
 use Rattle.vx_wire_bytes.specs.Numbers.{number_bytes}
-use Rattle.vx_file_bytes.proofs.Loops.{IsWriting}
+use Rattle.vx_file_bytes.proofs.WritingLoops.{IsWriting}
 use Rattle.vx_file_bytes.proofs.header_writing.write_lengths.Given as goal
 
 abbrev pub invariant-loop-i : goal.invariant-loop-i

@@ -5,8 +5,8 @@ use Rattle.vx_wire_bytes.specs.Numbers.{number_bytes}
 use Rattle.vx_wire_bytes.specs.Fields.{IsShort, IsText}
 use Rattle.vx_laws_file.specs.FileForms.{AreCounted, statistic_bytes}
 use Rattle.vx_laws_file.specs.Lengths.{StatisticTextsAre}
-use Rattle.vx_file_bytes.proofs.Loops.{item_here, seen_length, seen_breaks, counted_ends}
-use Rattle.vx_file_bytes.proofs.Parts.{too_long}
+use Rattle.vx_file_bytes.proofs.WritingLoops.{item_here, seen_length, seen_breaks, counted_ends}
+use Rattle.vx_file_bytes.proofs.WritingLemmas.{too_long}
 use Rattle.vx_file_bytes.proofs.header_writing.write_statistics.Goals as goal
 
 pub returns-in_err-write_statistic-clause-err : goal.returns-in_err-write_statistic-clause-err

@@ -4,7 +4,7 @@ use Rattle.vx_wire_bytes.specs.Numbers.{number_bytes}
 use Rattle.vx_wire_bytes.specs.Fields.{IsShort, IsText}
 use Rattle.vx_laws_file.specs.FileForms.{statistic_bytes}
 use Rattle.vx_laws_file.specs.Lengths.{StatisticTextsAre}
-use Rattle.vx_file_bytes.proofs.Loops.{IsWritingSeen}
+use Rattle.vx_file_bytes.proofs.WritingLoops.{IsWritingSeen}
 use Rattle.vx_file_bytes.proofs.header_writing.write_statistics.Given as goal
 
 abbrev pub invariant-loop-i : goal.invariant-loop-i

@@ -1,8 +1,8 @@
-use Rattle.std.proofs.Common.{◌++◌, ℕ, length, refl, sym, subst, arith}
+use Rattle.std.proofs.Common.{◌++◌, length, refl, sym, subst, arith}
 use Rattle.vx_dtype.specs.PathViews.{part_name}
 use Rattle.vx_wire_bytes.specs.Numbers.{number_bytes, piece_bytes}
 use Rattle.vx_wire_bytes.specs.Fields.{IsShort, IsText}
-use Rattle.vx_file_bytes.proofs.Loops.{item_here, seen_length, seen_breaks, counted_ends}
+use Rattle.vx_file_bytes.proofs.WritingLoops.{item_here, seen_length, seen_breaks, counted_ends}
 use Rattle.vx_file_bytes.proofs.parts_writing.write_path.Goals as goal
 
 pub returns-then-not-is_short_name-clause-err : goal.returns-then-not-is_short_name-clause-err

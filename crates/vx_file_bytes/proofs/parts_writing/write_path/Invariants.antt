@@ -2,7 +2,7 @@ use Rattle.std.proofs.Common.{◌++◌, length}
 use Rattle.vx_dtype.specs.PathViews.{part_name}
 use Rattle.vx_wire_bytes.specs.Numbers.{number_bytes, piece_bytes}
 use Rattle.vx_wire_bytes.specs.Fields.{IsShort, IsText}
-use Rattle.vx_file_bytes.proofs.Loops.{IsWritingSeen}
+use Rattle.vx_file_bytes.proofs.WritingLoops.{IsWritingSeen}
 use Rattle.vx_file_bytes.proofs.parts_writing.write_path.Given as goal
 
 abbrev pub invariant-loop-i : goal.invariant-loop-i

@@ -2,7 +2,7 @@ use Rattle.vx_dtype.specs.Values.{Typed}
 use Rattle.vx_wire_bytes.specs.Fields.{IsShort, IsText}
 use Rattle.vx_wire_bytes.specs.ValueForms.{TextsAre}
 use Rattle.vx_laws_file.specs.FileForms.{scalar_bytes}
-use Rattle.vx_file_bytes.proofs.Loops.{IsWriting}
+use Rattle.vx_file_bytes.proofs.WritingLoops.{IsWriting}
 use Rattle.vx_file_bytes.proofs.parts_writing.write_scalars.Given as goal
 
 abbrev pub invariant-loop-i : goal.invariant-loop-i

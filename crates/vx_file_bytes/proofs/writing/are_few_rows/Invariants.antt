@@ -1,4 +1,4 @@
-use Rattle.vx_file_bytes.proofs.Loops.{IsTaking}
+use Rattle.vx_file_bytes.proofs.WritingLoops.{IsTaking}
 use Rattle.vx_file_bytes.proofs.writing.are_few_rows.Given as goal
 
 abbrev pub invariant-loop-i : goal.invariant-loop-i

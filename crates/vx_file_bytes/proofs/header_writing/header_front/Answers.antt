@@ -1,8 +1,8 @@
 use Rattle.std.proofs.Common.{◌≡◌, true, sym, subst}
 use Rattle.vx_dtype.specs.Types.{Fields}
 use Rattle.vx_zones.specs.Zoning.{are_shallow}
-use Rattle.vx_file_bytes.proofs.Parts.{shallow_zones}
-use Rattle.vx_file_bytes.proofs.header_writing.write_header.Goals as goal
+use Rattle.vx_file_bytes.proofs.WritingLemmas.{shallow_zones}
+use Rattle.vx_file_bytes.proofs.header_writing.header_front.Goals as goal
 
 pub write_row_type-requires-clause-shallow : goal.write_row_type-requires-clause-shallow
 write_row_type-requires-clause-shallow c =

@@ -1,5 +1,5 @@
 -- Parts of a file: why they are too long, the values of cells, and the depth of columns' types.
-use Rattle.std.proofs.Common.{◌≡◌, refl, sym, ap, ◌∙◌, subst, ℕ, zero, suc, ◌≤◌, Bool, true, false, cond, not, ◌&&◌, nat_le, List, [], ◌∷◌, Option, Some, None}
+use Rattle.std.proofs.Common.{◌≡◌, refl, sym, ap, ◌∙◌, subst, ℕ, zero, suc, ◌≤◌, Bool, true, false, cond, not, nat_le, Option, Some, None}
 use Rattle.std.specs.List.{slice_get}
 use Rattle.std.proofs.lemmas.Bool.{and_parts, leb-true}
 use Rattle.std.proofs.lemmas.Option.{same_Some}
@@ -16,7 +16,7 @@ use Rattle.vx_laws_file.specs.Cells.{raw_value}
 use Rattle.vx_laws_file.proofs.CellLemmas.{raw_valued}
 use Rattle.vx_file_bytes.specs.declared.errors.WriteFileError.{WriteFileError}
 use Rattle.vx_file_bytes.specs.declared.errors.WriteFileError.TheVariants.{NoMemory, WrongLength, WrongType, TooLong}
-use Rattle.vx_file_bytes.specs.Parts.{IsTooLong}
+use Rattle.vx_file_bytes.specs.WritingParts.{IsTooLong}
 
 -- what is too long for a part is too long for the whole
 pub too_long : (P Q : Type 0) (e : WriteFileError) → (P → Q) → IsTooLong Q e → IsTooLong P e

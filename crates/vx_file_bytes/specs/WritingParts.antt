@@ -1,6 +1,6 @@
 -- For the checker: no public clause cites this.
 -- The parts of a file as they are written, and when each is short.
-use Rattle.std.specs.Prelude.{◌≡◌, List, ◌++◌, length}
+use Rattle.std.specs.Prelude.{List, ◌++◌, length}
 use Rattle.std.specs.List.{AllByRecursion, flat_map}
 use Rattle.vx_dtype.specs.Types.{Bytes}
 use Rattle.vx_column.specs.Columns.{Column}
@@ -43,10 +43,9 @@ block_numbers cs = flat_map column_number cs
 abbrev pub ZonesTextsAre : (Bytes → Type 0) → Zones → Type 0
 ZonesTextsAre Given zones = NamesAre Given (row_type zones.columns) × AreCounted (StatisticTextsAre Given) zones.stats
 
--- the bytes of a header whose ranges have the lengths that these bytes say
-abbrev pub header_with : Zones → Bytes → Bytes
-header_with zones range_lengths =
-    type_bytes (row_type zones.columns) ++ (counted_bytes number_bytes zones.lengths ++ (counted_bytes statistic_bytes zones.stats ++ range_lengths))
+-- the bytes of a header before the lengths of the ranges
+abbrev pub header_front : Zones → Bytes
+header_front zones = type_bytes (row_type zones.columns) ++ (counted_bytes number_bytes zones.lengths ++ counted_bytes statistic_bytes zones.stats)
 
 -- a file of this header and these ranges
 abbrev pub joined_bytes : Bytes → Bytes → Bytes

@@ -1,19 +1,21 @@
 -- The file of a table is made of its parts, and is short where each part is.
-use Rattle.std.proofs.Common.{◌≡◌, refl, sym, ap, ◌∙◌, subst, ℕ, ◌≤◌, true, cond, not, List, [], ◌∷◌, ◌++◌, map, length, sum, None, Some}
+use Rattle.std.proofs.Common.{◌≡◌, refl, sym, ap, ◌∙◌, subst, append_assoc, ◌≤◌, true, cond, not, List, [], ◌∷◌, ◌++◌, map, length, sum, None, Some}
 use Rattle.std.specs.List.{AllByRecursion, list_all, flat_map, concat}
 use Rattle.vx_dtype.specs.Types.{Bytes}
 use Rattle.vx_column.specs.Columns.{Column}
-use Rattle.vx_semantics.specs.Tables.{Zones}
+use Rattle.vx_semantics.specs.Tables.{Zones, row_type}
 use Rattle.vx_zones.specs.Zoning.{broken_rule, values_fit}
 use Rattle.vx_tables.specs.Blocks.{block_fits, have_lengths, have_types, table_refusal}
 use Rattle.vx_tables.specs.declared.errors.TableError.TheVariants as refusals
+use Rattle.vx_wire_bytes.specs.Numbers.{number_bytes}
+use Rattle.vx_wire_bytes.specs.TypeForms.{type_bytes}
 use Rattle.vx_wire_bytes.specs.Fields.{IsNumber, IsShort, IsText}
-use Rattle.vx_laws_file.specs.FileForms.{column_bytes, lengths_bytes, lengths_of, ranges_bytes, content_of, header_of, header_bytes, file_bytes, most_rows}
-use Rattle.vx_laws_file.specs.Lengths.{ColumnTextsAre, HasParts, HasFile, IsShortTable}
+use Rattle.vx_laws_file.specs.FileForms.{counted_bytes, statistic_bytes, column_bytes, lengths_bytes, lengths_of, ranges_bytes, content_of, header_of, header_bytes, file_bytes, most_rows}
+use Rattle.vx_laws_file.specs.Lengths.{ColumnTextsAre, HasFile, IsShortTable}
 use Rattle.vx_file_bytes.specs.declared.errors.WriteFileError.{WriteFileError}
 use Rattle.vx_file_bytes.specs.declared.errors.WriteFileError.TheVariants.{NoMemory, WrongLength, WrongType, TooLong}
 use Rattle.vx_file_bytes.specs.WritingAnswers.{IsUnwritten}
-use Rattle.vx_file_bytes.specs.Parts.{IsTooLong, ColumnIs, BlockIs, column_number, block_bytes, block_numbers, ZonesTextsAre, header_with, joined_bytes}
+use Rattle.vx_file_bytes.specs.WritingParts.{IsTooLong, BlockIs, column_number, block_bytes, block_numbers, ZonesTextsAre, header_front, joined_bytes}
 
 -- ---- the bytes of ranges and of their lengths
 
@@ -40,12 +42,18 @@ blocks_numbers (cs ∷ bs) =
     λ i. here i ++ rest i
 
 -- the header of a table's file
-pub header_is : (zones : Zones) (blocks : List (List Column)) (header : Bytes) → header ≡ header_with zones (flat_map block_numbers blocks)
+pub header_is : (zones : Zones) (blocks : List (List Column)) (header : Bytes) → header ≡ header_front zones ++ flat_map block_numbers blocks
     → header ≡ header_bytes (header_of (content_of zones blocks))
-header_is zones blocks header e = e ∙ ap (header_with zones) (blocks_numbers blocks)
+header_is zones blocks header e =
+    let rows = type_bytes (row_type zones.columns) in
+    let lengths = counted_bytes number_bytes zones.lengths in
+    let stats = counted_bytes statistic_bytes zones.stats in
+    let numbers = flat_map block_numbers blocks in
+    e ∙ append_assoc rows (lengths ++ stats) numbers ∙ ap (λ (b : Bytes). rows ++ b) (append_assoc lengths stats numbers)
+    ∙ ap (λ (b : Bytes). rows ++ (lengths ++ (stats ++ b))) (blocks_numbers blocks)
 
 -- the file of a table
-pub file_is : (zones : Zones) (blocks : List (List Column)) (header ranges bytes : Bytes) → header ≡ header_with zones (flat_map block_numbers blocks)
+pub file_is : (zones : Zones) (blocks : List (List Column)) (header ranges bytes : Bytes) → header ≡ header_front zones ++ flat_map block_numbers blocks
     → ranges ≡ flat_map block_bytes blocks → bytes ≡ joined_bytes header ranges → bytes ≡ file_bytes zones blocks
 file_is zones blocks header ranges bytes h r e =
     let head = header_is zones blocks header h in
@@ -78,10 +86,7 @@ blocks_whole Given (cs ∷ bs) h k = (columns_whole Given cs h.0 k.0, blocks_who
 pub short_blocks : (zones : Zones) (blocks : List (List Column)) → IsShortTable zones blocks → AllByRecursion (BlockIs IsShort) blocks
 short_blocks zones blocks p = blocks_whole IsShort blocks p.values p.ranges
 
-pub short_zones : (zones : Zones) (blocks : List (List Column)) → IsShortTable zones blocks → ZonesTextsAre IsShort zones
-short_zones zones blocks p = (p.names, p.statistics)
-
-pub short_header : (zones : Zones) (blocks : List (List Column)) (header : Bytes) → header ≡ header_with zones (flat_map block_numbers blocks) → IsShortTable zones blocks → IsShort header
+pub short_header : (zones : Zones) (blocks : List (List Column)) (header : Bytes) → header ≡ header_front zones ++ flat_map block_numbers blocks → IsShortTable zones blocks → IsShort header
 short_header zones blocks header e p = subst IsShort (sym (header_is zones blocks header e)) p.header
 
 -- ---- a table that has a file
@@ -91,7 +96,7 @@ no_refusal zones blocks l t = λ i. cond (not (l i)) (Some refusals.WrongLength)
 
 pub has_file : (zones : Zones) (blocks : List (List Column)) (header : Bytes) → have_lengths zones blocks ≡ true → have_types zones blocks ≡ true → list_all block_fits blocks ≡ true
     → broken_rule zones ≡ None → values_fit zones ≡ true → IsNumber (length zones.lengths) → sum zones.lengths ≤ most_rows
-    → AllByRecursion (BlockIs IsText) blocks → ZonesTextsAre IsText zones → header ≡ header_with zones (flat_map block_numbers blocks) → IsShort header → HasFile zones blocks
+    → AllByRecursion (BlockIs IsText) blocks → ZonesTextsAre IsText zones → header ≡ header_front zones ++ flat_map block_numbers blocks → IsShort header → HasFile zones blocks
 has_file zones blocks header l t f rules fit few rows bs zs e short =
     let parts = blocks_parts IsText blocks bs in
     record {
