@@ -23,7 +23,8 @@ fn write_cell(
     i: usize,
 ) -> Result<(), WriteFileError>
     requires { i < length column.now.rows }
-    ensures ok { OnOk result ((out.new.items ≡ out.old.items ++ cell_bytes column.now.ty (row_at column.now i)) × TextsAre IsText (raw_value (row_at column.now i))) }
+    ensures ok { OnOk result ((out.new.items ≡ out.old.items ++ cell_bytes column.now.ty (row_at column.now i))
+        × TextsAre IsText (raw_value (row_at column.now i))) }
     ensures err { IfErr result (IsTooLong (TextsAre IsShort (raw_value (row_at column.now i)))) }
 {
     let cell = column.scalar_at(alloc, i)?;

@@ -78,7 +78,8 @@ fn stat_byte(stat: Stat) -> u8
 
 /// Writes a statistic at the end: its path, the byte of its kind, and its value in each block.
 fn write_statistic(out: &mut Vec<u8>, statistic: &ZoneStat) -> Result<(), WriteFileError>
-    ensures ok { OnOk result ((out.new.items ≡ out.old.items ++ statistic_bytes (stat_view statistic.now)) × StatisticTextsAre IsText (stat_view statistic.now)) }
+    ensures ok { OnOk result ((out.new.items ≡ out.old.items ++ statistic_bytes (stat_view statistic.now))
+        × StatisticTextsAre IsText (stat_view statistic.now)) }
     ensures err { IfErr result (IsTooLong (StatisticTextsAre IsShort (stat_view statistic.now))) }
 {
     write_path(out, &statistic.path)?;

@@ -69,7 +69,8 @@ pub(crate) fn write_short_value(
     value: &ScalarValue,
 ) -> Result<(), WriteFileError>
     requires { fits (raw_view value.now) (type_view dtype.now) ≡ true }
-    ensures ok { OnOk result ((out.new.items ≡ out.old.items ++ value_bytes (type_view dtype.now) (raw_view value.now)) × TextsAre IsText (raw_view value.now)) }
+    ensures ok { OnOk result ((out.new.items ≡ out.old.items ++ value_bytes (type_view dtype.now) (raw_view value.now))
+        × TextsAre IsText (raw_view value.now)) }
     ensures err { IfErr result (IsTooLong (TextsAre IsShort (raw_view value.now))) }
 {
     if !has_short_texts(value) {
@@ -89,7 +90,8 @@ fn write_scalar(out: &mut Vec<u8>, scalar: &Scalar) -> Result<(), WriteFileError
 
 /// Writes the values of a statistic at the end, one after the other.
 pub(crate) fn write_scalars(out: &mut Vec<u8>, scalars: &[Scalar]) -> Result<(), WriteFileError>
-    ensures ok { OnOk result ((out.new.items ≡ out.old.items ++ flat_map scalar_bytes scalars.now) × AllByRecursion (λ s. TextsAre IsText s.value) scalars.now) }
+    ensures ok { OnOk result ((out.new.items ≡ out.old.items ++ flat_map scalar_bytes scalars.now)
+        × AllByRecursion (λ s. TextsAre IsText s.value) scalars.now) }
     ensures err { IfErr result (IsTooLong (AllByRecursion (λ s. TextsAre IsShort s.value) scalars.now)) }
 {
     for i in 0..scalars.len() {
