@@ -1,3 +1,9 @@
 pub mod WritingLoops
 pub mod WritingLemmas
 pub mod TableLemmas
+pub mod FrontLemmas
+pub mod ItemLemmas
+pub mod RangeLemmas
+pub mod HeaderLemmas
+pub mod HeaderSteps
+pub mod ScalarLemmas

@@ -1,0 +1,6 @@
+use Rattle.vx_wire_bytes.specs.Reading.{number_at}
+use Rattle.vx_file_bytes.proofs.ItemLemmas.{IsReadingItems}
+use Rattle.vx_file_bytes.proofs.fronts.numbers_front.Given as goal
+
+abbrev pub invariant-loop : goal.invariant-loop
+invariant-loop l = IsReadingItems number_at l.number l.bytes l.counter l.rest l.numbers.items
