@@ -1,0 +1,5 @@
+//! Tests of block files.
+#![tactic(auto)]
+
+#[cfg(test)]
+mod files;
