@@ -47,38 +47,38 @@ fn write_range(alloc: Global, out: &mut Vec<u8>, column: &ColumnRef) -> Result<u
     Ok((out.len() - start) as u32)
 }
 
-/// Writes the ranges of a block's columns at the end, and how long each is at the end of the lengths.
+/// Writes the ranges of a block's columns at the end, and how long each is at the end of the header.
 fn write_block(
     alloc: Global,
     ranges: &mut Vec<u8>,
-    lengths: &mut Vec<u8>,
+    header: &mut Vec<u8>,
     columns: &[ColumnRef],
 ) -> Result<(), WriteFileError>
     ensures ok { OnOk result ((ranges.new.items ≡ ranges.old.items ++ block_bytes columns.now)
-        × (lengths.new.items ≡ lengths.old.items ++ block_numbers columns.now) × BlockIs IsText columns.now) }
+        × (header.new.items ≡ header.old.items ++ block_numbers columns.now) × BlockIs IsText columns.now) }
     ensures err { IfErr result (IsTooLong (BlockIs IsShort columns.now)) }
 {
     for i in 0..columns.len() {
         let length = write_range(alloc, ranges, &columns[i])?;
-        write_number(lengths, length)?;
+        write_number(header, length)?;
     }
     Ok(())
 }
 
-/// Writes the ranges of all blocks at the end, and how long each is at the end of the lengths.
+/// Writes the ranges of all blocks at the end, and how long each is at the end of the header.
 pub(crate) fn write_blocks(
     alloc: Global,
     ranges: &mut Vec<u8>,
-    lengths: &mut Vec<u8>,
+    header: &mut Vec<u8>,
     blocks: &[Vec<ColumnRef>],
 ) -> Result<(), WriteFileError>
     ensures ok { OnOk result ((ranges.new.items ≡ ranges.old.items ++ flat_map block_bytes (map block_view blocks.now))
-        × (lengths.new.items ≡ lengths.old.items ++ flat_map block_numbers (map block_view blocks.now))
+        × (header.new.items ≡ header.old.items ++ flat_map block_numbers (map block_view blocks.now))
         × AllByRecursion (BlockIs IsText) (map block_view blocks.now)) }
     ensures err { IfErr result (IsTooLong (AllByRecursion (BlockIs IsShort) (map block_view blocks.now))) }
 {
     for i in 0..blocks.len() {
-        write_block(alloc, ranges, lengths, blocks[i].as_slice())?;
+        write_block(alloc, ranges, header, blocks[i].as_slice())?;
     }
     Ok(())
 }

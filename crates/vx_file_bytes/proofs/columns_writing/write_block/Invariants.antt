@@ -7,4 +7,4 @@ use Rattle.vx_file_bytes.proofs.columns_writing.write_block.Given as goal
 abbrev pub invariant-loop-i : goal.invariant-loop-i
 invariant-loop-i l =
     IsWriting column_bytes (ColumnIs IsText) (ColumnIs IsShort) l.fn.ranges.items l.ranges.items l.columns l.i
-    × IsWriting column_number (ColumnIs IsText) (ColumnIs IsShort) l.fn.lengths.items l.lengths.items l.columns l.i
+    × IsWriting column_number (ColumnIs IsText) (ColumnIs IsShort) l.fn.header.items l.header.items l.columns l.i

@@ -24,5 +24,5 @@ pub returns-clause-ok : goal.returns-clause-ok
 returns-clause-ok c =
     let bs = c.args.blocks.now in
     let ranges = seen_ends block_view block_bytes (BlockIs IsText) (BlockIs IsShort) c.args.ranges.now.items c.loop-i.ranges.items bs (map block_view bs) c.loop-i.i refl c.loop-i-test.false c.loop-i.invariant.0 in
-    let lengths = seen_ends block_view block_numbers (BlockIs IsText) (BlockIs IsShort) c.args.lengths.now.items c.loop-i.lengths.items bs (map block_view bs) c.loop-i.i refl c.loop-i-test.false c.loop-i.invariant.1 in
+    let lengths = seen_ends block_view block_numbers (BlockIs IsText) (BlockIs IsShort) c.args.header.now.items c.loop-i.header.items bs (map block_view bs) c.loop-i.i refl c.loop-i-test.false c.loop-i.invariant.1 in
     (ranges.0, lengths.0, ranges.1)

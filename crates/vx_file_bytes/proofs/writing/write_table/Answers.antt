@@ -22,7 +22,7 @@ pub returns-then-len-ge-LONG-clause-refused : goal.returns-then-len-ge-LONG-clau
 returns-then-len-ge-LONG-clause-refused c =
     let zones = c.args.zones.now in
     let blocks = map block_view c.args.blocks.now in
-    let written = c.write_blocks.new.lengths.items in
+    let written = c.write_blocks.new.header.items in
     let header : written ≡ header_front zones ++ flat_map block_numbers blocks =
     c.in_ok-write_blocks.ensures.ok.1 ∙ ap (λ (b : Bytes). b ++ flat_map block_numbers blocks) c.in_ok-header.ensures.ok.0 in
     (no_refusal zones blocks c.requires.lengths c.requires.types, λ p. omega (arith, short_header zones blocks written header p, c.len.ensures, c.if-len-ge-LONG.true))
@@ -31,7 +31,7 @@ pub returns-clause-written : goal.returns-clause-written
 returns-clause-written c =
     let zones = c.args.zones.now in
     let blocks = map block_view c.args.blocks.now in
-    let written = c.write_blocks.new.lengths.items in
+    let written = c.write_blocks.new.header.items in
     let header : written ≡ header_front zones ++ flat_map block_numbers blocks =
     c.in_ok-write_blocks.ensures.ok.1 ∙ ap (λ (b : Bytes). b ++ flat_map block_numbers blocks) c.in_ok-header.ensures.ok.0 in
     let ranges : c.write_blocks.new.ranges.items ≡ flat_map block_bytes blocks =
