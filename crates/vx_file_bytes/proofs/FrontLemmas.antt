@@ -1,5 +1,5 @@
 -- Fields that are read at the front of bytes.
-use Rattle.std.proofs.Common.{◌≡◌, refl, sym, ap, ◌∙◌, ℕ, ◌≤◌, ◌++◌, Option, Some, None, length, drop, arith}
+use Rattle.std.proofs.Common.{◌≡◌, sym, ap, ℕ, ◌≤◌, Option, Some, None, length, drop, arith}
 use Rattle.std.proofs.lemmas.List.{length-append}
 use Rattle.vx_dtype.specs.Types.{Bytes}
 use Rattle.vx_wire_bytes.specs.Fields.{IsFieldAt}

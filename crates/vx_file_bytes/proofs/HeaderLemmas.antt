@@ -1,5 +1,5 @@
 -- A header that is read whole is the one that the bytes spell.
-use Rattle.std.proofs.Common.{◌≡◌, ◌≢◌, refl, sym, ap, ◌∙◌, append-nil, Bool, true, false, Option, Some, None, [], ◌∷◌, ◌++◌, length, ◌==◌, arith}
+use Rattle.std.proofs.Common.{◌≡◌, ◌≢◌, refl, sym, ap, ◌∙◌, append-nil, Bool, true, false, Some, None, [], ◌∷◌, ◌++◌, length, ◌==◌, arith}
 use Rattle.std.proofs.lemmas.Bool.Decides.{nat_tests}
 use Rattle.std.proofs.lemmas.Option.{none-some}
 use Rattle.vx_dtype.specs.Types.{Bytes}

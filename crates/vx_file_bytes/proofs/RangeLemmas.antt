@@ -1,7 +1,6 @@
 -- The values of a range, read one after the other.
-use Rattle.std.proofs.Common.{◌≡◌, refl, sym, ap, ◌∙◌, ℕ, zero, suc, ◌+◌, ◌≤◌, ◌<◌, true, ◌&&◌, List, [], ◌∷◌, ◌++◌, map, Option, Some, None}
+use Rattle.std.proofs.Common.{◌≡◌, refl, sym, ap, ◌∙◌, ℕ, zero, suc, ◌+◌, ◌≤◌, ◌<◌, true, List, [], ◌∷◌, ◌++◌, Option, Some, None}
 use Rattle.std.proofs.lemmas.Bool.{and_from, and_parts}
-use Rattle.std.proofs.lemmas.List.{map_push}
 use Rattle.vx_dtype.specs.Types.{Bytes, Ty}
 use Rattle.vx_dtype.specs.Values.{Raw, Val, valued}
 use Rattle.vx_dtype.specs.Fits.{fits}

@@ -3,10 +3,9 @@ ghost use Rattle.std.specs.Prelude.{◌≡◌, nat_le, sum, length, map, IfOk, o
 ghost use Rattle.vx_dtype.specs.TypeRules.{most_deep};
 ghost use Rattle.vx_dtype.specs.TypeViews.{type_view};
 ghost use Rattle.vx_dtype.specs.Zipped.{zipped};
-ghost use Rattle.vx_wire_bytes.specs.Reading.{number_at};
 ghost use Rattle.vx_wire_bytes.specs.TypeReading.{type_at, all_fields_with};
 ghost use Rattle.vx_laws_file.specs.FileForms.{most_rows};
-ghost use Rattle.vx_laws_file.specs.HeaderReading.{items_with, columns_at, lengths_at, range_lengths_at};
+ghost use Rattle.vx_laws_file.specs.HeaderReading.{columns_at, lengths_at, range_lengths_at};
 
 use crate::fronts::{name_front, number_front, numbers_front, type_front};
 use std::alloc::Global;

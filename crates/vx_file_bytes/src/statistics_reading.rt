@@ -74,7 +74,8 @@ fn type_at<'a>(names: &[FieldName], dtype: &'a DType) -> Option<&'a DType>
 
 /// The type that a statistic's values have whose path leads to this type, where that is plain: the statistic's, made nullable.
 fn type_of_values(stat: Stat, dtype: &DType) -> Mem<Option<DType>>
-    ensures { IfOk result (λ found. option_map type_view found ≡ option_map nullable (option_and_then (statistic_type stat) (plain_only (type_view dtype.now)))) }
+    ensures { IfOk result (λ found. option_map type_view found
+        ≡ option_map nullable (option_and_then (statistic_type stat) (plain_only (type_view dtype.now)))) }
 {
     match dtype {
         DType::List(_, _) => Ok(None),
@@ -90,7 +91,8 @@ fn type_of_values(stat: Stat, dtype: &DType) -> Mem<Option<DType>>
 
 /// The type that the values of a statistic have, where these names lead to a plain field of the table: the statistic's, made nullable.
 fn type_of_statistic(columns: &StructFields, names: &[FieldName], stat: Stat) -> Mem<Option<DType>>
-    ensures { IfOk result (λ found. option_map type_view found ≡ option_map nullable (option_and_then (statistic_type stat) (leaf_type columns.now names.now))) }
+    ensures { IfOk result (λ found. option_map type_view found
+        ≡ option_map nullable (option_and_then (statistic_type stat) (leaf_type columns.now names.now))) }
 {
     let rows = DType::Struct(columns.clone()?, Nullability::NonNullable);
     match type_at(names, &rows) {

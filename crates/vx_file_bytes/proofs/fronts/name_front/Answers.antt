@@ -1,4 +1,4 @@
-use Rattle.std.proofs.Common.{Some, ap, ◌∙◌, subst, arith}
+use Rattle.std.proofs.Common.{Some, ◌∙◌, subst, arith}
 use Rattle.vx_wire_bytes.specs.Fields.{IsFieldAt, IsText}
 use Rattle.vx_wire_bytes.specs.Numbers.{piece_bytes}
 use Rattle.vx_wire_bytes.specs.Reading.{text_at}
