@@ -89,9 +89,24 @@ fn is_file(written: Option<Written>, want: &[u8]) -> bool {
 #[test]
 fn tables_are_refused_for_lengths_before_types(rt: HostRuntime) {
     let alloc = rt.alloc();
-    assert!(rt; is_refused(written(alloc, PType::I32, &[1], &[20]), WriteFileError::WrongLength));
-    assert!(rt; is_refused(written(alloc, PType::I64, &[1], &[20]), WriteFileError::WrongLength));
-    assert!(rt; is_refused(written(alloc, PType::I64, &[1, 12], &[20]), WriteFileError::WrongType));
+    assert!(rt;
+        is_refused(
+            written(alloc, PType::I32, &[1], &[20]),
+            WriteFileError::WrongLength
+        )
+    );
+    assert!(rt;
+        is_refused(
+            written(alloc, PType::I64, &[1], &[20]),
+            WriteFileError::WrongLength
+        )
+    );
+    assert!(rt;
+        is_refused(
+            written(alloc, PType::I64, &[1, 12], &[20]),
+            WriteFileError::WrongType
+        )
+    );
 }
 
 /// Whether the header of the column, of blocks of two rows and of one, whose ranges have 10 and 5 bytes.
