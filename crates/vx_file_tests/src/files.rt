@@ -1,4 +1,7 @@
 //! A small table as a block file: why none is written, the bytes that are, and what is read of them.
+ghost use Rattle.std.specs.Prelude.{◌≡◌, true};
+ghost use Rattle.vx_dtype.specs.TypeRules.{no_name_twice};
+ghost use Rattle.vx_dtype.specs.TypeViews.{type_view};
 
 use std::alloc::Global;
 use std::test::Fail;
@@ -23,7 +26,9 @@ type Blocks = Result<Vec<Vec<ColumnRef>>, ColumnError>;
 type Written = Result<Vec<u8>, WriteFileError>;
 
 /// The type of the column.
-fn number() -> DType {
+fn number() -> DType
+    ensures { no_name_twice (type_view result) ≡ true }
+{
     DType::Primitive(PType::I32, NonNullable)
 }
 
@@ -125,10 +130,10 @@ fn is_read(alloc: Global, bytes: &[u8]) -> Mem<bool> {
     }
 }
 
-/// Whether a range is read as these numbers.
-fn holds(alloc: Global, range: &[u8], numbers: &[i128]) -> Result<bool, ColumnError> {
+/// Whether a range is read as these numbers, which are so many.
+fn holds(alloc: Global, range: &[u8], rows: u32, numbers: &[i128]) -> Result<bool, ColumnError> {
     let want = column(alloc, PType::I32, numbers)?;
-    match read_range(alloc, &number(), numbers.len() as u32, range)? {
+    match read_range(alloc, &number(), rows, range)? {
         Some(column) => Ok(column == want),
         None => Ok(false),
     }
@@ -144,8 +149,8 @@ fn ample(rt: HostRuntime) -> Result<(), Fail> {
     let alloc = rt.alloc();
     assert!(rt; is_file(written(alloc, PType::I32, &[1, 12], &[20]), &FILE));
     assert!(rt; is_read(alloc, &FILE[9..23])?);
-    assert!(rt; holds(alloc, &FILE[23..33], &[1, 12]) == Ok(true));
-    assert!(rt; holds(alloc, &FILE[33..38], &[20]) == Ok(true));
+    assert!(rt; holds(alloc, &FILE[23..33], 2, &[1, 12]) == Ok(true));
+    assert!(rt; holds(alloc, &FILE[33..38], 1, &[20]) == Ok(true));
     Ok(())
 }
 
