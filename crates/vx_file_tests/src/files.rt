@@ -26,6 +26,7 @@ type Blocks = Result<Vec<Vec<ColumnRef>>, ColumnError>;
 type Written = Result<Vec<u8>, WriteFileError>;
 
 /// The type of the column.
+#[tactic(auto, unfolding(vx_dtype::specs::TypeRules::no_name_twice))]
 fn number() -> DType
     ensures { no_name_twice (type_view result) ≡ true }
 {
