@@ -92,7 +92,8 @@ fields_with (text_ty m) n = refl
 fields_with (list_ty e m) n = refl
 fields_with (struct_ty fs m) n = refl
 
-masked_fields : (t : Ty) (d : Column) (ts : List (Option Bool)) → AreMaskedOf t d ts → fields_of t ≡ fields_of d.ty
+-- so a masked column has the fields of the column within
+pub masked_fields : (t : Ty) (d : Column) (ts : List (Option Bool)) → AreMaskedOf t d ts → fields_of t ≡ fields_of d.ty
 masked_fields t d ts h = ap fields_of h.whole ∙ fields_with d.ty Nullable
 
 -- a field that is null where the struct is, is of a nullable type

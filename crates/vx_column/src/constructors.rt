@@ -7,7 +7,7 @@ ghost use Rattle.vx_dtype.specs.Values.{raw_bool, raw_int, raw_text, value_of};
 ghost use Rattle.vx_dtype.specs.RawViews.{raw_view};
 ghost use Rattle.vx_dtype.specs.TypeViews.{type_view};
 ghost use Rattle.vx_column.specs.declared.errors.ColumnError.TheVariants.{DuplicateField};
-ghost use Rattle.vx_column.specs.Columns.{column};
+ghost use Rattle.vx_column.specs.Columns.{Column, column};
 ghost use Rattle.vx_column.specs.Cells.{numbers_fit, truths_fit};
 ghost use Rattle.vx_column.specs.Totals.{number_fits};
 ghost use Rattle.vx_column.specs.Answers.{Answers, unless, optional_raw, list_raw, column_of_raws};
@@ -16,7 +16,9 @@ use crate::columns::ColumnRef;
 use crate::errors::ColumnError;
 use std::alloc::Global;
 use std::rc::Rc;
-use vx_dtype::{DType, ElementType, Mem, Nullability, PType, Scalar, ScalarValue, Text};
+use vx_dtype::{
+    DType, ElementType, Mem, NoMemory, Nullability, PType, Scalar, ScalarValue, Text,
+};
 use vx_numbers::Numbers;
 use vx_words::Truths;
 
@@ -142,6 +144,23 @@ fn has_number(p: PType, n: Nullability, number: Option<i128>) -> bool
     match number {
         Some(i) => p.in_range(i),
         None => n == Nullability::Nullable,
+    }
+}
+
+/// The column that was made, where nothing but want of memory can be in the way.
+pub fn made(answer: Result<ColumnRef, ColumnError>) -> Mem<ColumnRef>
+    requires { (told : Column) × Answers answer (Ok told) }
+    ensures { IfOk result (λ c. answer ≡ Ok c) }
+{
+    match answer {
+        Ok(column) => Ok(column),
+        Err(ColumnError::NoMemory) => Err(NoMemory),
+        Err(ColumnError::WrongLength) => unreachable!(),
+        Err(ColumnError::WrongValue) => unreachable!(),
+        Err(ColumnError::DuplicateField) => unreachable!(),
+        Err(ColumnError::UnknownField) => unreachable!(),
+        Err(ColumnError::Overflow) => unreachable!(),
+        Err(ColumnError::BadCast) => unreachable!(),
     }
 }
 

@@ -1,12 +1,12 @@
 // Fields of struct columns.
-ghost use Rattle.std.specs.Prelude.{◌≡◌, true, Some, position, option_copied};
+ghost use Rattle.std.specs.Prelude.{◌≡◌, true, Some, Ok, IfOk, position, option_copied};
 ghost use Rattle.std.specs.Str.{bytes_eq};
 ghost use Rattle.vx_dtype.specs.Types.{Fields, struct_ty};
 ghost use Rattle.vx_dtype.specs.declared.Nullability.{Nullability};
 ghost use Rattle.vx_dtype.specs.Fits.{fits};
 ghost use Rattle.vx_dtype.specs.RawViews.{raw_view};
 ghost use Rattle.vx_column.specs.Columns.{seen};
-ghost use Rattle.vx_dtype.specs.TypeRules.{field_names, widened};
+ghost use Rattle.vx_dtype.specs.TypeRules.{field_names, fields_of, widened};
 ghost use Rattle.vx_dtype.specs.StructTypes.{is_struct_ty};
 ghost use Rattle.vx_dtype.specs.Structs.{field_of};
 ghost use Rattle.vx_column.specs.Answers.{Answers, field_column, type_at_place, PartsOf};
@@ -51,25 +51,37 @@ impl ColumnRef {
         requires { is_struct_ty self.now.ty ≡ true }
         ensures { Answers result (field_column name.now self.now) }
     {
-        match self.cells() {
-            Cells::Masked { column, nulls } => {
-                let inner = column_in(column).field_of(alloc, name)?;
-                Ok(inner.masked_by(alloc, nulls.clone()?)?)
-            }
-            _ => self.field_of(alloc, name),
-        }
-    }
-
-    /// The column of the field with this name, as `field` answers, whatever parts the column is kept in.
-    fn field_of(&self, alloc: Global, name: &FieldName) -> Result<ColumnRef, ColumnError>
-        requires { is_struct_ty self.now.ty ≡ true }
-        ensures { Answers result (field_column name.now self.now) }
-    {
-        let DType::Struct(fields, nullability) = self.dtype() else {
+        let DType::Struct(fields, _) = self.dtype() else {
             return Err(ColumnError::UnknownField);
         };
         let Some(place) = fields.names().position(name) else {
             return Err(ColumnError::UnknownField);
+        };
+        Ok(self.field_at(alloc, name, place)?)
+    }
+
+    /// The column of the field with this name, as `field` answers, for a name that is known to stand at this place, counted from 0: so that
+    /// all fields of a struct are had in the time of their number.
+    pub fn field_at(&self, alloc: Global, name: &FieldName, place: usize) -> Mem<ColumnRef>
+        requires { position (bytes_eq name.now) (field_names (fields_of self.now.ty)) ≡ Some place }
+        ensures { IfOk result (λ field. Ok field ≡ field_column name.now self.now) }
+    {
+        match self.cells() {
+            Cells::Masked { column, nulls } => {
+                let inner = column_in(column).part_at(alloc, name, place)?;
+                Ok(inner.masked_by(alloc, nulls.clone()?)?)
+            }
+            _ => self.part_at(alloc, name, place),
+        }
+    }
+
+    /// The column of the field at this place, as `field_at` answers, whatever parts the column is kept in.
+    fn part_at(&self, alloc: Global, name: &FieldName, place: usize) -> Mem<ColumnRef>
+        requires { position (bytes_eq name.now) (field_names (fields_of self.now.ty)) ≡ Some place }
+        ensures { IfOk result (λ field. Ok field ≡ field_column name.now self.now) }
+    {
+        let DType::Struct(fields, nullability) = self.dtype() else {
+            unreachable!();
         };
         if let Cells::Columns {
             fields: columns,

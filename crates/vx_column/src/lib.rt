@@ -26,6 +26,7 @@ mod sums;
 pub use casts::cast;
 pub use columns::ColumnRef;
 pub use comparisons::{between, compare, list_contains};
+pub use constructors::made;
 pub use errors::ColumnError;
 pub use likes::like;
 pub use logic::{and_kleene, invert, is_null, or_kleene};

@@ -4,10 +4,11 @@ use crate::rows::{list_in, number_of, text_in};
 use serde_json::Value;
 use std::alloc::Global;
 use vx_column::ColumnRef;
-use vx_dtype::{DType, FieldName, FieldNames, Mem, Nullability, Scalar, ScalarValue, Text};
+use vx_dtype::{
+    DType, FieldName, FieldNames, Mem, Nullability, PType, Scalar, ScalarValue, Text,
+};
 use vx_expr::LiteralExpr;
 use vx_text::read_query;
-use vx_tokens::integer_named;
 
 /// The column of the values that words tell.
 pub(crate) fn of_told(alloc: Global, words: &Value) -> Result<ColumnRef, CaseError> {
@@ -110,7 +111,7 @@ fn truths(alloc: Global, words: &Value) -> Result<ColumnRef, CaseError> {
 
 /// Numbers of an integer type, null where there is none.
 fn numbers(alloc: Global, words: &Value) -> Result<ColumnRef, CaseError> {
-    let Some(ptype) = integer_named(text_in(words, "type")) else {
+    let Some(ptype) = PType::from_name(text_in(words, "type")) else {
         return Err(CaseError::NotAsked);
     };
     let mut values = Vec::new(alloc);

@@ -9,7 +9,6 @@ use serde_json::Value;
 use std::alloc::Global;
 use vx_dtype::{CompareOperator, Mem, PType};
 use vx_numbers::Numbers;
-use vx_tokens::{integer_name, integer_named};
 use vx_words::Truths;
 
 /// A call on one list.
@@ -231,7 +230,7 @@ fn equality(alloc: Global, left: Option<Numbers>, right: Option<Numbers>) -> Mem
 
 /// Of the list of the row's one number, as many times as it says: the type, the length, and at how many places the number stands.
 fn repeated(alloc: Global, row: &Value) -> Mem<String> {
-    let Some(ptype) = integer_named(text_in(row, "type")) else {
+    let Some(ptype) = PType::from_name(text_in(row, "type")) else {
         return not_asked(alloc);
     };
     let number = number_in(row, "number");
@@ -239,7 +238,7 @@ fn repeated(alloc: Global, row: &Value) -> Mem<String> {
         return not_asked(alloc);
     }
     let list = Numbers::repeated(alloc, ptype, number, word_in(row, "times") as usize)?;
-    let name = integer_name(list.ptype());
+    let name = list.ptype().name();
     let count = places_of(&list, number);
     Ok(format!(in alloc; "{name} {} {count}", list.len())?)
 }
@@ -276,7 +275,7 @@ fn numbers_in(alloc: Global, row: &Value, name: &str) -> Mem<Option<Numbers>> {
 
 /// The list of a type and numbers, none where one of them leaves the type.
 fn unmasked(alloc: Global, member: &Value) -> Mem<Option<Numbers>> {
-    let Some(ptype) = integer_named(text_in(member, "type")) else {
+    let Some(ptype) = PType::from_name(text_in(member, "type")) else {
         return Ok(None);
     };
     let mut numbers = Vec::new(alloc);
@@ -325,7 +324,7 @@ fn total_text(alloc: Global, list: Option<Numbers>) -> Mem<String> {
 
 /// The type of a list and each of its numbers, or `null`, behind a blank.
 fn numbers_text(alloc: Global, list: &Numbers) -> Mem<String> {
-    let mut text = String::from_str(alloc, integer_name(list.ptype()))?;
+    let mut text = String::from_str(alloc, list.ptype().name())?;
     for i in 0..list.len() {
         match list.number_at(i) {
             Some(number) => text.push_str(format!(in alloc; " {number}")?.as_str())?,

@@ -1,5 +1,4 @@
 pub mod RowLemmas
 pub mod ValueLemmas
 pub mod TreeLemmas
-mod NameLemmas
 mod PrefixLemmas

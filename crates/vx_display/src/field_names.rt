@@ -1,10 +1,10 @@
 // Names of fields without quotes.
 ghost use Rattle.std.specs.Prelude.{Some, []};
-ghost use Rattle.std.specs.Fmt.{WritesOnOk};
 ghost use Rattle.vx_expr.specs.SelectionTexts.{joined_names};
 
 use std::fmt;
-use vx_dtype::{FieldName, FieldNames};
+use vx_dtype::FieldNames;
+use vx_expr::write_names;
 
 /// Names that print as they are, with `, ` between any two.
 #[derive(Clone, Copy, Debug)]
@@ -16,17 +16,4 @@ impl<'a> fmt::Display for DisplayFieldNames<'a> {
     fn fmt<W: fmt::Write>(&self, f: &mut fmt::Formatter<W>) -> fmt::Result {
         write_names(self.0.as_slice(), f)
     }
-}
-
-/// Writes the names with `, ` between any two.
-fn write_names<W: fmt::Write>(names: &[FieldName], f: &mut fmt::Formatter<W>) -> fmt::Result
-    ensures { WritesOnOk W.write_str_gives f.old result (joined_names [] names.now) f.new }
-{
-    let mut separator = "";
-    for i in 0..names.len() {
-        f.write_str(separator)?;
-        f.write_str(names[i].as_str())?;
-        separator = ", ";
-    }
-    Ok(())
 }

@@ -3,6 +3,7 @@ pub mod OrderLemmas
 pub mod FitLemmas
 pub mod ValuedLemmas
 pub mod ZippedLemmas
+pub mod AgreeingLemmas
 pub mod RawLemmas
 pub mod PathLemmas
 pub mod ProjectionLemmas

@@ -7,8 +7,9 @@ use Rattle.std.specs.List.{slice_get, position, position_or_len}
 use Rattle.std.proofs.lemmas.Option.{slice_get_past, slice_get-get_or, slice_get-map}
 use Rattle.vx_dtype.specs.StructTypes.{field_types}
 use Rattle.vx_dtype.specs.Types.{Bytes, Ty, Fields, no_fields, field}
-use Rattle.vx_dtype.specs.TypeRules.{field_type, alike, alike_fields, field_names, depth_of, depth_below}
-use Rattle.vx_dtype.specs.Equal.{ty_eq, fields_eq}
+use Rattle.vx_dtype.specs.TypeRules.{field_type, field_names, depth_of, depth_below}
+use Rattle.vx_dtype.specs.declared.types.likeness.Nullabilities.{Nullabilities}
+use Rattle.vx_dtype.specs.Agreeing.{types_agree, fields_agree}
 use Rattle.vx_dtype.specs.Zipped.{zipped}
 
 and_false : (a b : Bool) → (a && (b && false)) ≡ false
@@ -101,34 +102,19 @@ module _ {A : Type 0} (see : A → Ty) where
   unfolding depth_of
   depth_below-step fs xs i f x e h = ap depth_below (fields_from-step fs xs i f x e h)
 
-  -- of other lengths they differ
-  pub fields_eq_lengths : (fs gs : List Bytes) (xs ys : List A) → length fs ≡ length xs → length gs ≡ length ys → length xs ≢ length ys → fields_eq (zipped fs (map see xs)) (zipped gs (map see ys)) ≡ false
-  unfolding fields_eq
-  fields_eq_lengths fs gs [] [] d e h = absurd (h refl)
-  fields_eq_lengths (f ∷ fs) gs [] (y ∷ ys) d e h = absurd (omega (arith, d))
-  fields_eq_lengths [] (g ∷ gs) [] (y ∷ ys) d e h = refl
-  fields_eq_lengths [] [] [] (y ∷ ys) d e h = absurd (omega (arith, e))
-  fields_eq_lengths [] gs (x ∷ xs) ys d e h = absurd (omega (arith, d))
-  fields_eq_lengths (f ∷ fs) (g ∷ gs) (x ∷ xs) [] d e h = absurd (omega (arith, e))
-  fields_eq_lengths (f ∷ fs) [] (x ∷ xs) [] d e h = refl
-  fields_eq_lengths (f ∷ fs) [] (x ∷ xs) (y ∷ ys) d e h = refl
-  fields_eq_lengths (f ∷ fs) (g ∷ gs) (x ∷ xs) (y ∷ ys) d e h =
+  -- of other lengths they don't agree
+  pub fields_agree_lengths : (by : Nullabilities) (fs gs : List Bytes) (xs ys : List A) → length fs ≡ length xs → length gs ≡ length ys → length xs ≢ length ys
+      → fields_agree by (zipped fs (map see xs)) (zipped gs (map see ys)) ≡ false
+  unfolding fields_agree
+  fields_agree_lengths by fs gs [] [] d e h = absurd (h refl)
+  fields_agree_lengths by (f ∷ fs) gs [] (y ∷ ys) d e h = absurd (omega (arith, d))
+  fields_agree_lengths by [] (g ∷ gs) [] (y ∷ ys) d e h = refl
+  fields_agree_lengths by [] [] [] (y ∷ ys) d e h = absurd (omega (arith, e))
+  fields_agree_lengths by [] gs (x ∷ xs) ys d e h = absurd (omega (arith, d))
+  fields_agree_lengths by (f ∷ fs) (g ∷ gs) (x ∷ xs) [] d e h = absurd (omega (arith, e))
+  fields_agree_lengths by (f ∷ fs) [] (x ∷ xs) [] d e h = refl
+  fields_agree_lengths by (f ∷ fs) [] (x ∷ xs) (y ∷ ys) d e h = refl
+  fields_agree_lengths by (f ∷ fs) (g ∷ gs) (x ∷ xs) (y ∷ ys) d e h =
       let k : length xs ≢ length ys = λ m. h (ap suc m) in
-      let q = fields_eq_lengths fs gs xs ys (omega (arith, d)) (omega (arith, e)) k in
-      ap (λ b. bytes_eq f g && (ty_eq (see x) (see y) && b)) q ∙ and_false (bytes_eq f g) (ty_eq (see x) (see y))
-
-  -- nor are they alike
-  pub alike_fields_lengths : (fs gs : List Bytes) (xs ys : List A) → length fs ≡ length xs → length gs ≡ length ys → length xs ≢ length ys → alike_fields (zipped fs (map see xs)) (zipped gs (map see ys)) ≡ false
-  unfolding alike_fields
-  alike_fields_lengths fs gs [] [] d e h = absurd (h refl)
-  alike_fields_lengths (f ∷ fs) gs [] (y ∷ ys) d e h = absurd (omega (arith, d))
-  alike_fields_lengths [] (g ∷ gs) [] (y ∷ ys) d e h = refl
-  alike_fields_lengths [] [] [] (y ∷ ys) d e h = absurd (omega (arith, e))
-  alike_fields_lengths [] gs (x ∷ xs) ys d e h = absurd (omega (arith, d))
-  alike_fields_lengths (f ∷ fs) (g ∷ gs) (x ∷ xs) [] d e h = absurd (omega (arith, e))
-  alike_fields_lengths (f ∷ fs) [] (x ∷ xs) [] d e h = refl
-  alike_fields_lengths (f ∷ fs) [] (x ∷ xs) (y ∷ ys) d e h = refl
-  alike_fields_lengths (f ∷ fs) (g ∷ gs) (x ∷ xs) (y ∷ ys) d e h =
-      let k : length xs ≢ length ys = λ m. h (ap suc m) in
-      let q = alike_fields_lengths fs gs xs ys (omega (arith, d)) (omega (arith, e)) k in
-      ap (λ b. bytes_eq f g && (alike (see x) (see y) && b)) q ∙ and_false (bytes_eq f g) (alike (see x) (see y))
+      let q = fields_agree_lengths by fs gs xs ys (omega (arith, d)) (omega (arith, e)) k in
+      ap (λ b. bytes_eq f g && (types_agree by (see x) (see y) && b)) q ∙ and_false (bytes_eq f g) (types_agree by (see x) (see y))

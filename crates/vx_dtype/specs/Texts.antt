@@ -1,7 +1,8 @@
 -- Printed texts, as their bytes: nullability, comparisons, types, quoted texts and lists of names.
 use lib.Chars.{codes}
-use Rattle.std.specs.Prelude.{ℕ, ◌+◌, ◌-◌, ◌/◌, ◌%◌, List, [], ◌∷◌, ◌++◌, ◌==◌, cond, nat_lt}
+use Rattle.std.specs.Prelude.{ℕ, ◌+◌, ◌-◌, ◌/◌, ◌%◌, List, [], ◌∷◌, ◌++◌, ◌==◌, cond, nat_lt, if◌then◌else◌, Option, Some, None}
 use Rattle.std.specs.List.{flat_map}
+use Rattle.std.specs.Str.{bytes_eq}
 use Rattle.vx_dtype.specs.Types.{Bytes, Ty, bool_ty, int_ty, text_ty, list_ty, struct_ty, Fields, no_fields, field, PType, U8, U16, U32, U64, I8, I16}
 use Rattle.vx_dtype.specs.Types.{I32, I64, Nullability, NonNullable, Nullable}
 use Rattle.vx_dtype.specs.Order.{CompareOperator, Eq, NotEq, Gt, Gte, Lt, Lte}
@@ -30,6 +31,18 @@ ptype_text I8 = codes "i8"
 ptype_text I16 = codes "i16"
 ptype_text I32 = codes "i32"
 ptype_text I64 = codes "i64"
+
+-- the integer type of this name
+unfoldable pub integer_named : Bytes → Option PType
+integer_named s =
+    if bytes_eq s (codes "u8") then Some U8 else
+    (if bytes_eq s (codes "u16") then Some U16 else
+    (if bytes_eq s (codes "u32") then Some U32 else
+    (if bytes_eq s (codes "u64") then Some U64 else
+    (if bytes_eq s (codes "i8") then Some I8 else
+    (if bytes_eq s (codes "i16") then Some I16 else
+    (if bytes_eq s (codes "i32") then Some I32 else
+    (if bytes_eq s (codes "i64") then Some I64 else None)))))))
 
 -- what stands before the part at this place: nothing before the first, `, ` before the others
 abbrev pub separator_at : ℕ → Bytes

@@ -2,7 +2,7 @@
 ghost use Rattle.std.specs.Prelude.{◌≡◌};
 ghost use Rattle.vx_dtype.specs.TypeRules.{ptype_number, ptype_numbered};
 ghost use Rattle.vx_dtype.specs.Fits.{least, greatest, in_range};
-ghost use Rattle.vx_dtype.specs.Texts.{ptype_text};
+ghost use Rattle.vx_dtype.specs.Texts.{ptype_text, integer_named};
 
 /// An integer type: its width in bits, and whether it has a sign.
 #[derive(Clone, Copy, PartialEq, Eq, Hash, Debug)]
@@ -88,7 +88,7 @@ impl PType {
     }
 
     /// The name of the type, as texts have it.
-    pub(crate) fn name(self) -> &'static str
+    pub fn name(self) -> &'static str
         ensures { result.now ≡ ptype_text self }
     {
         match self {
@@ -100,6 +100,24 @@ impl PType {
             PType::I16 => "i16",
             PType::I32 => "i32",
             PType::I64 => "i64",
+        }
+    }
+
+    /// The integer type of this name. None exactly where no integer type has the name.
+    #[tactic(auto, unfolding(crate::specs::Texts::integer_named))]
+    pub fn from_name(name: &str) -> Option<PType>
+        ensures { result ≡ integer_named name.now }
+    {
+        match name {
+            "u8" => Some(PType::U8),
+            "u16" => Some(PType::U16),
+            "u32" => Some(PType::U32),
+            "u64" => Some(PType::U64),
+            "i8" => Some(PType::I8),
+            "i16" => Some(PType::I16),
+            "i32" => Some(PType::I32),
+            "i64" => Some(PType::I64),
+            _ => None,
         }
     }
 }

@@ -25,4 +25,4 @@ pub use statistics::Stat;
 pub use types::depth::MOST_DEEP;
 pub use types::{DType, ElementType, StructFields};
 pub use values::ScalarValue;
-pub use writing::Quoted;
+pub use writing::{Quoted, separator};

@@ -96,6 +96,17 @@ impl FieldPath {
         Ok(FieldPath { parts })
     }
 
+    /// The path through the fields of these names, from the root on.
+    pub fn from_names(alloc: Global, names: Vec<FieldName>) -> Mem<FieldPath>
+        ensures { IfOk result (λ path. path ≡ names.items) }
+    {
+        let mut parts = Vec::with_capacity(alloc, names.len())?;
+        for name in names {
+            parts.push(Field::Name(name))?;
+        }
+        Ok(FieldPath { parts })
+    }
+
     /// A copy of the path with one more part at its end.
     pub fn push(&self, alloc: Global, name: FieldName) -> Mem<FieldPath>
         ensures { IfOk result (λ path. path ≡ self.now ++ name ∷ []) }

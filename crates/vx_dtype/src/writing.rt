@@ -8,7 +8,7 @@ ghost use Rattle.vx_dtype.specs.Texts.{separator_at, hex_digit, control_text, es
 use std::fmt;
 
 /// What stands before the part at this place: nothing before the first, `, ` before the others.
-pub(crate) fn separator(i: usize) -> &'static str
+pub fn separator(i: usize) -> &'static str
     ensures { result.now ≡ separator_at i }
 {
     if i == 0 { "" } else { ", " }

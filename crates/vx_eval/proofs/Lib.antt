@@ -5,7 +5,6 @@ pub mod NodeLemmas
 pub mod Computed
 pub mod BreakingLemmas
 pub mod Evaluated
-pub mod NameLemmas
 pub mod SelectionLemmas
 pub mod FailureLemmas
 pub mod StructRows

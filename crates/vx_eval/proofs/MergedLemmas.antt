@@ -1,17 +1,16 @@
 -- Columns of structs merged into one: names, types and rows.
-use Rattle.std.proofs.Common.{◌≡◌, refl, ap, sym, subst, ◌∙◌, ℕ, zero, suc, ◌+◌, ◌<◌, ◌==◌, Bool, true, false, ◌||◌, cond, List, [], ◌∷◌, map, drop, length, Option, Some, None, option_map, Result, Ok, Err}
-use Rattle.std.specs.Prelude.{unwrap_or, IfOk, IfErr}
+use Rattle.std.proofs.Common.{◌≡◌, refl, ap, sym, subst, ◌∙◌, ℕ, suc, ◌==◌, Bool, true, false, cond, List, [], ◌∷◌, map, length, Option, Some, None, option_map, Ok, Err}
+use Rattle.std.specs.Prelude.{unwrap_or}
 use Rattle.std.specs.Option.{option_or, option_and_then}
-use Rattle.std.specs.List.{All, AllZip, flat_map, list_all, slice_get}
-use Rattle.std.specs.Str.{bytes_eq}
+use Rattle.std.specs.List.{AllZip, flat_map, list_all, slice_get}
 use Rattle.std.specs.Cmp.{unsigned_Decides}
-use Rattle.std.proofs.Math.ListN.{get_or, get_or-map}
+use Rattle.std.proofs.Math.ListN.{get_or-map}
 use Rattle.std.proofs.lemmas.Bool.{and_parts, and_from}
-use Rattle.std.proofs.lemmas.List.{drop_more, length-map}
-use Rattle.std.proofs.lemmas.List.Folds.{list_any-append, flat_map-map}
+use Rattle.std.proofs.lemmas.List.{length-map}
+use Rattle.std.proofs.lemmas.List.Folds.{flat_map-map}
 use Rattle.vx_dtype.specs.declared.Nullability.{Nullability}
-use Rattle.vx_dtype.specs.Types.{Bytes, Ty, bool_ty, int_ty, text_ty, list_ty, struct_ty, Fields, no_fields, field}
-use Rattle.vx_dtype.specs.TypeRules.{nullability_of, widened, has_name, distinct_names, fields_of, field_names, field_type}
+use Rattle.vx_dtype.specs.Types.{Bytes, Ty, struct_ty, field}
+use Rattle.vx_dtype.specs.TypeRules.{nullability_of, widened, has_name, distinct_names, fields_of, field_type}
 use Rattle.vx_dtype.specs.StructTypes.{is_struct_ty, with_field}
 use Rattle.vx_dtype.specs.Structs.{field_of, first_names}
 use Rattle.vx_dtype.specs.Values.{Val, null_val, fault, member}
@@ -21,63 +20,26 @@ use Rattle.vx_column.specs.Columns.{Column, column, row_at}
 use Rattle.vx_column.specs.Answers.{Answers, unless, found_column, field_column}
 use Rattle.vx_column.specs.StructColumns.{column_types, all_have_rows, row_members, made_struct, struct_column}
 use Rattle.vx_column.specs.declared.errors.ColumnError.{ColumnError}
-use Rattle.vx_column.specs.declared.errors.ColumnError.TheVariants.{NoMemory, WrongLength, WrongValue, DuplicateField, UnknownField, Overflow, BadCast}
+use Rattle.vx_column.specs.declared.errors.ColumnError.TheVariants.{WrongLength, DuplicateField}
 use Rattle.vx_semantics.specs.Merging.{merged_names, last_giver}
 use Rattle.vx_semantics.specs.Typing.{not_struct, unless as unless_typed, names_in, type_in, type_or_empty, merged_type_at, merged_fields_at, merge_type}
 use Rattle.vx_semantics.specs.Meaning.{Slots, mean, sources, Source, source_names, merged_value, merged_members}
+use Rattle.vx_typing.specs.declared.field_places.MergedField.{MergedField}
+use Rattle.vx_typing.specs.MergedFields.{name_of}
+use Rattle.vx_typing.proofs.FieldPlaces.{IsGiver}
+use Rattle.vx_typing.proofs.NameLemmas.{first_names_distinct}
 use Rattle.vx_eval.specs.Failures.{failure_of}
 use Rattle.vx_eval.specs.Meant.{AreMeant}
 use Rattle.vx_eval.specs.MergedColumns.{column_names, field_in, merged_column}
 use Rattle.vx_eval.specs.Steps.{Makes}
 use Rattle.vx_eval.specs.WholeStructs.{all_valid}
 use Rattle.vx_eval.proofs.FailureLemmas.{fails_not}
-use Rattle.vx_eval.proofs.NameLemmas.{first_names_distinct, first_names_known}
 use Rattle.vx_eval.proofs.PackLemmas.{value_meant, meant_have_rows}
 use Rattle.vx_eval.proofs.StructRows.{struct_told, struct_made}
 
 -- ---- the last giver of a name
 
 module _ {X : Type 0} (names : X → List Bytes) (f : Bytes) where
-  -- the last of those from a place on is the last of all
-  last_from : (xs : List X) (i : ℕ) (x : X) → last_giver names f (drop i xs) ≡ Some x → last_giver names f xs ≡ Some x
-  last_from xs zero x h = h
-  last_from [] (suc i) x h = h
-  last_from (y ∷ xs) (suc i) x h = ap (λ o. option_or o (cond (has_name f (names y)) (Some y) None)) (last_from xs i x h)
-
-  module _ (xs : List X) (i left : ℕ) (x : X) (next : i + 1 ≡ left) (within : i < length xs) (is : x ≡ get_or xs i x) (none : last_giver names f (drop left xs) ≡ None) where
-    from_here : (b : Bool) → has_name f (names x) ≡ b → last_giver names f (drop i xs) ≡ option_or None (cond b (Some x) None)
-    from_here b given =
-        ap (last_giver names f) (drop_more xs i x within ∙ ap (λ y. y ∷ drop (i + 1) xs) (sym is))
-        ∙ ap (λ k. option_or (last_giver names f (drop k xs)) (cond (has_name f (names x)) (Some x) None)) next
-        ∙ ap (λ o. option_or o (cond (has_name f (names x)) (Some x) None)) none
-        ∙ ap (λ c. option_or None (cond c (Some x) None)) given
-
-    pub giver_found : has_name f (names x) ≡ true → last_giver names f xs ≡ Some x
-    giver_found given = last_from xs i x (from_here true given)
-
-    pub no_giver_more : has_name f (names x) ≡ false → last_giver names f (drop i xs) ≡ None
-    no_giver_more given = from_here false given
-
-  -- the last giver gives the name
-  pub giver_gives : (xs : List X) (x : X) → last_giver names f xs ≡ Some x → has_name f (names x) ≡ true
-  giver_gives [] x h = absurd cc
-  giver_gives (y ∷ xs) x h = by_rest (last_giver names f xs) (has_name f (names y)) refl h (giver_gives xs x)
-    where
-      by_rest : (o : Option X) (b : Bool) → has_name f (names y) ≡ b → option_or o (cond b (Some y) None) ≡ Some x → (o ≡ Some x → has_name f (names x) ≡ true) → has_name f (names x) ≡ true
-      by_rest (Some z) b e k rest = rest k
-      by_rest None true e k rest = let same : y ≡ x = cc in subst (λ z. has_name f (names z) ≡ true) same e
-      by_rest None false e k rest = absurd cc
-
-  -- a name that one of them gives has a last giver
-  pub giver_there : (xs : List X) → has_name f (flat_map names xs) ≡ true → last_giver names f xs ≡ None → ⊥
-  giver_there [] h k = absurd cc
-  giver_there (y ∷ xs) h k = by_rest (last_giver names f xs) (has_name f (names y)) (sym (list_any-append (bytes_eq f) (names y) (flat_map names xs)) ∙ h) k (giver_there xs)
-    where
-      by_rest : (o : Option X) (b : Bool) → (b || has_name f (flat_map names xs)) ≡ true → option_or o (cond b (Some y) None) ≡ None → (has_name f (flat_map names xs) ≡ true → o ≡ None → ⊥) → ⊥
-      by_rest (Some z) b e k rest = absurd cc
-      by_rest None true e k rest = absurd cc
-      by_rest None false e k rest = rest e refl
-
   -- of what is seen by another, the last giver is what is seen of the last giver
   pub last_giver-map : {A : Type 0} (see : A → X) (xs : List A) → last_giver names f (map see xs) ≡ option_map see (last_giver (λ x. names (see x)) f xs)
   last_giver-map see [] = refl
@@ -92,52 +54,17 @@ module _ {X : Type 0} (names : X → List Bytes) (f : Bytes) where
 
 -- ---- the field of the last giver
 
--- what has a field of a name is a struct, and has a type of it
-pub gives_struct : (f : Bytes) (t : Ty) → has_name f (names_in t) ≡ true → is_struct_ty t ≡ true
-gives_struct f (bool_ty n) h = absurd cc
-gives_struct f (int_ty p n) h = absurd cc
-gives_struct f (text_ty n) h = absurd cc
-gives_struct f (list_ty e n) h = absurd cc
-gives_struct f (struct_ty fs n) h = refl
-
-type_there : (f : Bytes) (fs : Fields) → has_name f (field_names fs) ≡ true → field_type f fs ≡ None → ⊥
-type_there f no_fields h k = absurd cc
-type_there f (field g t fs) h k = by_test (bytes_eq f g) h k (type_there f fs)
-  where
-    by_test : (b : Bool) → (b || has_name f (field_names fs)) ≡ true → cond b (Some t) (field_type f fs) ≡ None → (has_name f (field_names fs) ≡ true → field_type f fs ≡ None → ⊥) → ⊥
-    by_test true e k rest = absurd cc
-    by_test false e k rest = rest e k
-
 -- the column of the field is that of the name
-pub field_is : (f : Bytes) (c d : Column) → Ok d ≡ field_column f c → field_in f c ≡ Some d
+field_is : (f : Bytes) (c d : Column) → Ok d ≡ field_column f c → field_in f c ≡ Some d
 field_is f c d h = by_type (field_type f (fields_of c.ty)) h
   where
     by_type : (o : Option Ty) → Ok d ≡ found_column f c o → option_map (λ t. column (widened t (nullability_of c.ty)) (map (field_of f) c.rows)) o ≡ Some d
     by_type None k = absurd cc
     by_type (Some t) k = cc
 
--- and is not refused where the name is given
-field_there : (f : Bytes) (c : Column) (e : ColumnError) → has_name f (column_names c) ≡ true → Err e ≡ field_column f c → ⊥
-field_there f c e given h = by_type (field_type f (fields_of c.ty)) refl h
-  where
-    by_type : (o : Option Ty) → field_type f (fields_of c.ty) ≡ o → Err e ≡ found_column f c o → ⊥
-    by_type None none k = type_there f (fields_of c.ty) given none
-    by_type (Some t) none k = absurd cc
-
-pub field_found : (f : Bytes) (cs : List Column) (c : Column) (r : Result Column ColumnError) → last_giver column_names f cs ≡ Some c → Answers r (field_column f c)
-    → IfOk r (λ d. merged_column f cs ≡ Some d)
-field_found f cs c (Ok d) last h = ap (option_and_then (field_in f)) last ∙ field_is f c d h
-field_found f cs c (Err e) last h = tt
-
-pub field_refused : (f : Bytes) (c : Column) (r : Result Column ColumnError) → has_name f (column_names c) ≡ true → Answers r (field_column f c) → IfErr r (λ e. e ≡ NoMemory)
-field_refused f c (Ok d) given h = tt
-field_refused f c (Err NoMemory) given h = refl
-field_refused f c (Err WrongLength) given h = absurd (field_there f c WrongLength given h)
-field_refused f c (Err WrongValue) given h = absurd (field_there f c WrongValue given h)
-field_refused f c (Err DuplicateField) given h = absurd (field_there f c DuplicateField given h)
-field_refused f c (Err UnknownField) given h = absurd (field_there f c UnknownField given h)
-field_refused f c (Err Overflow) given h = absurd (field_there f c Overflow given h)
-field_refused f c (Err BadCast) given h = absurd (field_there f c BadCast given h)
+-- so of a merged field it is that of the name in the last column that gives it
+pub field_found : (cs : List Column) (m : MergedField) (c d : Column) → IsGiver column_names cs m c → Ok d ≡ field_column m.name c → merged_column m.name cs ≡ Some d
+field_found cs m c d giver h = ap (option_and_then (field_in m.name)) giver.last ∙ field_is m.name c d h
 
 -- what is known of the column of a name
 pub record FieldFound (cs : List Column) (f : Bytes) (d : Column) : Type 0 where
@@ -284,6 +211,10 @@ module _ (names : List Bytes) (m : Nullability) (cs ds : List Column) (n : ℕ) 
   pub merges_all : (e : ColumnError) → Answers (Err e) (struct_column names ds n (all_valid m n)) → Makes (merge_type m (column_types cs)) merged_rows (Err (failure_of e))
   merges_all e k = fails_not (merge_type m (column_types cs)) merged_rows e merged_col (subst (Answers (Err e)) merged_told k)
 
--- names in order of first appearance are given
-pub all_named : (cs : List Column) (names : List Bytes) → names ≡ merged_names column_names cs → All (λ f. has_name f (flat_map column_names cs) ≡ true) names
-all_named cs names is = subst (All (λ f. has_name f (flat_map column_names cs) ≡ true)) (sym is) (first_names_known (flat_map column_names cs))
+-- the columns of merged fields are those of their names
+pub found_by_name : (cs : List Column) (ms : List MergedField) (ds : List Column) → map (λ m. merged_column m.name cs) ms ≡ map Some ds → map (λ f. merged_column f cs) (map name_of ms) ≡ map Some ds
+found_by_name cs ms ds h = by_name ms ∙ h
+  where
+    by_name : (ns : List MergedField) → map (λ f. merged_column f cs) (map name_of ns) ≡ map (λ (m : MergedField). merged_column m.name cs) ns
+    by_name [] = refl
+    by_name (m ∷ ns) = ap (λ os. merged_column m.name cs ∷ os) (by_name ns)

@@ -31,7 +31,7 @@ use Rattle.vx_eval.specs.declared.errors.Failure.TheVariants as failures
 use Rattle.vx_semantics.specs.Typing.{unknown_field, duplicate_field, unless, fields_without, selected_fields, included_once, select_type}
 use Rattle.vx_semantics.specs.Meaning.{select3}
 use Rattle.vx_eval.proofs.FailureLemmas.{fails_as, fails_not}
-use Rattle.vx_eval.proofs.NameLemmas.{left_false, right_false, has_name_itself, none_kept, distinct_kept}
+use Rattle.vx_typing.proofs.NameLemmas.{left_false, right_false, has_name_itself, none_kept, distinct_kept}
 
 -- whether a name is none of these
 abbrev pub is_left : List Bytes → Bytes → Bool

@@ -1,16 +1,15 @@
 // Columns of several structs' fields.
-ghost use Rattle.std.specs.Prelude.{◌≡◌, ℕ, List, true, Some, length, map, IfOk, IfErr, option_copied};
-ghost use Rattle.std.specs.List.{All, flat_map};
+ghost use Rattle.std.specs.Prelude.{◌≡◌, ℕ, List, Some, length, map, IfOk};
+ghost use Rattle.std.specs.List.{All, list_all};
 ghost use Rattle.vx_dtype.specs.Types.{Ty};
-ghost use Rattle.vx_dtype.specs.TypeRules.{has_name};
-ghost use Rattle.vx_dtype.specs.TypeViews.{type_view};
+ghost use Rattle.vx_dtype.specs.StructTypes.{is_struct_ty};
 ghost use Rattle.vx_dtype.specs.Values.{Val};
 ghost use Rattle.vx_expr.specs.Trees.{Trees, merge};
 ghost use Rattle.vx_column.specs.StructColumns.{column_types};
-ghost use Rattle.vx_column.specs.declared.errors.ColumnError.TheVariants.{NoMemory};
-ghost use Rattle.vx_semantics.specs.Merging.{last_giver};
+ghost use Rattle.vx_semantics.specs.Merging.{merged_names};
 ghost use Rattle.vx_semantics.specs.Typing.{merge_type};
 ghost use Rattle.vx_semantics.specs.Meaning.{Slots, mean};
+ghost use Rattle.vx_typing.specs.MergedFields.{name_of, IsGivenBy};
 ghost use Rattle.vx_eval.specs.Meant.{AreMeant};
 ghost use Rattle.vx_eval.specs.MergedColumns.{column_names, merged_column};
 ghost use Rattle.vx_eval.specs.Steps.{Makes};
@@ -18,65 +17,63 @@ ghost use Rattle.vx_eval.specs.Steps.{Makes};
 use crate::column_packs::whole_structs;
 use crate::errors::Failure;
 use std::alloc::Global;
-use vx_column::{ColumnError, ColumnRef};
-use vx_dtype::{DType, FieldName, FieldNames, Mem, Nullability};
-use vx_typing::{all_structs, gives, merged_names};
+use vx_column::ColumnRef;
+use vx_dtype::{FieldNames, Mem, Nullability};
+use vx_typing::{MergedField, merged_field_names, merged_fields, names_in};
 
-/// The types of columns, in order.
-fn types_of(alloc: Global, columns: &[ColumnRef]) -> Mem<Vec<DType>>
-    ensures { IfOk result (λ types. map type_view types.items ≡ column_types columns.now) }
+/// Whether each column is one of structs.
+fn all_structs(columns: &[ColumnRef]) -> bool
+    ensures { result ≡ list_all is_struct_ty (column_types columns.now) }
 {
-    let mut types = Vec::with_capacity(alloc, columns.len())?;
     for column in columns {
-        types.push(column.dtype().clone()?)?;
-    }
-    Ok(types)
-}
-
-/// The last column of structs with a field of this name.
-fn last_giver<'a>(name: &FieldName, structs: &'a [ColumnRef]) -> Option<&'a ColumnRef>
-    ensures { option_copied result ≡ last_giver column_names name.now structs.now }
-{
-    let mut left = structs.len();
-    while left > 0 {
-        left -= 1;
-        let column = &structs[left];
-        if gives(column.dtype(), name) {
-            return Some(column);
+        if !column.dtype().is_struct() {
+            return false;
         }
     }
-    None
+    true
 }
 
-/// The column of the field of this name in the last column of structs that has one.
-fn merged_column(
-    alloc: Global,
-    name: &FieldName,
-    structs: &[ColumnRef],
-) -> Result<ColumnRef, ColumnError>
-    requires { has_name name.now (flat_map column_names structs.now) ≡ true }
-    ensures found { IfOk result (λ column. merged_column name.now structs.now ≡ Some column) }
-    ensures refused { IfErr result (λ e. e ≡ NoMemory) }
+/// The names of the fields of each column of structs.
+fn names_in_each(alloc: Global, structs: &[ColumnRef]) -> Mem<Vec<FieldNames>>
+    ensures { IfOk result (λ names. names.items ≡ map column_names structs.now) }
 {
-    let Some(giver) = last_giver(name, structs) else {
-        unreachable!();
-    };
-    giver.field(alloc, name)
+    let mut names = Vec::with_capacity(alloc, structs.len())?;
+    for column in structs {
+        names.push(names_in(alloc, column.dtype())?)?;
+    }
+    Ok(names)
 }
 
-/// The columns of the fields of these names, each in the last column of structs that has one.
+/// The fields that columns of structs give together.
+fn fields_together(alloc: Global, structs: &[ColumnRef]) -> Mem<Vec<MergedField>>
+    ensures names { IfOk result (λ fields. map name_of fields.items ≡ merged_names column_names structs.now) }
+    ensures places { IfOk result (λ fields. All (IsGivenBy (map column_names structs.now)) fields.items) }
+{
+    let names = names_in_each(alloc, structs)?;
+    Ok(merged_fields(alloc, names.as_slice())?)
+}
+
+/// The column of a merged field: that of its name in the column of structs at its place.
+fn merged_column(alloc: Global, field: &MergedField, structs: &[ColumnRef]) -> Mem<ColumnRef>
+    requires { IsGivenBy (map column_names structs.now) field.now }
+    ensures { IfOk result (λ column. merged_column field.now.name structs.now ≡ Some column) }
+{
+    let giver = &structs[field.place.giver];
+    Ok(giver.field_at(alloc, &field.name, field.place.index)?)
+}
+
+/// The columns of merged fields, in order.
 fn merged_columns(
     alloc: Global,
-    names: &[FieldName],
+    fields: &[MergedField],
     structs: &[ColumnRef],
-) -> Result<Vec<ColumnRef>, ColumnError>
-    requires { All (λ f. has_name f (flat_map column_names structs.now) ≡ true) names.now }
-    ensures found { IfOk result (λ columns. map (λ f. merged_column f structs.now) names.now ≡ map Some columns.items) }
-    ensures refused { IfErr result (λ e. e ≡ NoMemory) }
+) -> Mem<Vec<ColumnRef>>
+    requires { All (IsGivenBy (map column_names structs.now)) fields.now }
+    ensures { IfOk result (λ columns. map (λ m. merged_column m.name structs.now) fields.now ≡ map Some columns.items) }
 {
-    let mut columns = Vec::with_capacity(alloc, names.len())?;
-    for name in names {
-        columns.push(merged_column(alloc, name, structs)?)?;
+    let mut columns = Vec::with_capacity(alloc, fields.len())?;
+    for field in fields {
+        columns.push(merged_column(alloc, field, structs)?)?;
     }
     Ok(columns)
 }
@@ -91,12 +88,11 @@ pub(crate) fn merge_column(
     ensures { (t : Ty) (slots : Slots) (rows : List Val) (es : Trees) → length rows ≡ len → AreMeant t slots rows es structs.items →
         Makes (merge_type nullability (column_types structs.items)) (map (λ row. mean t slots row (merge es nullability)) rows) result }
 {
-    let types = types_of(alloc, structs.as_slice())?;
-    if !all_structs(types.as_slice()) {
+    if !all_structs(structs.as_slice()) {
         return Err(Failure::Mistyped);
     }
-    let names = merged_names(alloc, types.as_slice())?;
-    let fields = merged_columns(alloc, names.as_slice(), structs.as_slice())?;
-    let kept = FieldNames::new(alloc, names)?;
-    Ok(whole_structs(alloc, kept, nullability, fields, len)?)
+    let fields = fields_together(alloc, structs.as_slice())?;
+    let columns = merged_columns(alloc, fields.as_slice(), structs.as_slice())?;
+    let names = merged_field_names(alloc, fields.as_slice())?;
+    Ok(whole_structs(alloc, names, nullability, columns, len)?)
 }

@@ -36,5 +36,6 @@ pub use exprs::select::SelectExpr;
 pub use laws::{another_number_of_children_is_refused, own_children_change_nothing};
 pub use node_texts::{DisplayAs, DisplayFormat};
 pub use operators::{Operator, operators_order_by_number};
+pub use selection_texts::write_names;
 pub use selections::FieldSelection;
 pub use vortex_expr::VortexExpr;

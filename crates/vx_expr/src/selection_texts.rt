@@ -1,12 +1,12 @@
 // How choices of fields are printed.
-ghost use Rattle.std.specs.Prelude.{◌≡◌, [], ◌++◌, Some};
+ghost use Rattle.std.specs.Prelude.{[], ◌++◌, Some};
 ghost use Rattle.std.specs.Fmt.{WritesOnOk};
 ghost use Rattle.vx_dtype.specs.Texts.{separator_at};
 ghost use Rattle.vx_expr.specs.SelectionTexts.{joined_names, selection_text};
 
 use crate::selections::FieldSelection;
 use std::fmt;
-use vx_dtype::FieldName;
+use vx_dtype::{FieldName, separator};
 
 impl fmt::Display for FieldSelection {
     ghost output = { λ selection. Some (selection_text selection) };
@@ -27,8 +27,8 @@ impl fmt::Display for FieldSelection {
     }
 }
 
-/// Writes the names with a separator between any two.
-fn write_names<W: fmt::Write>(names: &[FieldName], f: &mut fmt::Formatter<W>) -> fmt::Result
+/// Writes the names as they are, with `, ` between any two. Fails only where the writer does.
+pub fn write_names<W: fmt::Write>(names: &[FieldName], f: &mut fmt::Formatter<W>) -> fmt::Result
     ensures { WritesOnOk W.write_str_gives f.old result (joined_names [] names.now) f.new }
 {
     for i in 0..names.len() {
@@ -43,11 +43,4 @@ fn write_name<W: fmt::Write>(i: usize, name: &FieldName, f: &mut fmt::Formatter<
 {
     f.write_str(separator(i))?;
     f.write_str(name.as_str())
-}
-
-/// What stands before the part at this place: nothing before the first, `, ` before the others.
-fn separator(i: usize) -> &'static str
-    ensures { result.now ≡ separator_at i }
-{
-    if i == 0 { "" } else { ", " }
 }

@@ -1,15 +1,13 @@
 // The blocks of the generated table, as columns.
-ghost use Rattle.std.specs.Prelude.{◌≡◌, ◌+◌, ◌/◌, ◌<◌, pos, Ok, map, option_map, IfOk};
-ghost use Rattle.vx_column.specs.Columns.{Column as ColumnData};
-ghost use Rattle.vx_column.specs.Answers.{Answers};
+ghost use Rattle.std.specs.Prelude.{◌≡◌, ◌+◌, ◌/◌, ◌<◌, pos, map, option_map, IfOk};
 ghost use Rattle.vx_tables.specs.Blocks.{block_view};
 ghost use Rattle.vx_generated.specs.GeneratedBlocks.{column_in, columns_in, generated_blocks};
 ghost use Rattle.vx_generated.specs.GeneratedViews.{column_view, integers_of};
 
 use crate::numbers::{Column, block_count, numbers_in};
 use std::alloc::Global;
-use vx_column::{ColumnError, ColumnRef};
-use vx_dtype::{Mem, NoMemory};
+use vx_column::{ColumnRef, made};
+use vx_dtype::Mem;
 
 /// The blocks of the table of this many rows.
 pub(crate) fn blocks(alloc: Global, rows: u32) -> Mem<Vec<Vec<ColumnRef>>>
@@ -62,22 +60,5 @@ fn integer_of(number: Option<u64>) -> Option<i128>
     match number {
         Some(n) => Some(n as i128),
         None => None,
-    }
-}
-
-/// The column that was made, where nothing but want of memory can be in the way.
-fn made(answer: Result<ColumnRef, ColumnError>) -> Mem<ColumnRef>
-    requires { (told : ColumnData) × Answers answer (Ok told) }
-    ensures { IfOk result (λ c. answer ≡ Ok c) }
-{
-    match answer {
-        Ok(column) => Ok(column),
-        Err(ColumnError::NoMemory) => Err(NoMemory),
-        Err(ColumnError::WrongLength) => unreachable!(),
-        Err(ColumnError::WrongValue) => unreachable!(),
-        Err(ColumnError::DuplicateField) => unreachable!(),
-        Err(ColumnError::UnknownField) => unreachable!(),
-        Err(ColumnError::Overflow) => unreachable!(),
-        Err(ColumnError::BadCast) => unreachable!(),
     }
 }

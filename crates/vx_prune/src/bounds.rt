@@ -39,15 +39,11 @@ fn accessed_names(alloc: Global, expr: &ExprRef) -> Mem<Option<Vec<FieldName>>>
 }
 
 /// The path through the fields of these names, the last one first.
-fn path_through(alloc: Global, names: Vec<FieldName>) -> Mem<FieldPath>
+fn path_through(alloc: Global, mut names: Vec<FieldName>) -> Mem<FieldPath>
     ensures { IfOk result (λ path. path ≡ reverse names.items) }
 {
-    let mut left = names;
-    let mut path = FieldPath::root(alloc);
-    while let Some(name) = left.pop() {
-        path = path.push(alloc, name)?;
-    }
-    Ok(path)
+    names.reverse();
+    FieldPath::from_names(alloc, names)
 }
 
 /// The least or the greatest value of an operand: of a constant itself, of a path what the catalog answers.

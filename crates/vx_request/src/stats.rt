@@ -119,11 +119,11 @@ fn cells_from(alloc: Global, dtype: &DType, cells: &[Value]) -> Mem<Scalars>
 fn path_of(alloc: Global, names: &[&str]) -> Mem<FieldPath>
     ensures { IfOk result (λ path. path ≡ map name_view names.now) }
 {
-    let mut path = FieldPath::root(alloc);
+    let mut path = Vec::with_capacity(alloc, names.len())?;
     for name in names {
-        path = path.push(alloc, FieldName::new(alloc, name)?)?;
+        path.push(FieldName::new(alloc, name)?)?;
     }
-    Ok(path)
+    FieldPath::from_names(alloc, path)
 }
 
 /// What stands for a statistic whose path leads to no plain field: zones with this statistic are refused for its path.

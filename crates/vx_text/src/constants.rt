@@ -8,7 +8,7 @@ ghost use Rattle.vx_text.specs.Writing.{type_text, labels_text, item_text, items
 
 use std::fmt;
 use vx_dtype::{DType, Scalar, ScalarValue, StructFields};
-use vx_tokens::{Name, Quote, integer_name};
+use vx_tokens::{Name, Quote};
 
 /// Writes a type.
 #[cycle(types)]
@@ -18,7 +18,7 @@ pub(crate) fn write_type<W: fmt::Write>(dtype: &DType, f: &mut fmt::Formatter<W>
 {
     match dtype {
         DType::Bool(n) => write!(f, "bool{n}"),
-        DType::Primitive(p, n) => write!(f, "{}{n}", integer_name(*p)),
+        DType::Primitive(p, n) => write!(f, "{}{n}", p.name()),
         DType::Utf8(n) => write!(f, "utf8{n}"),
         DType::List(element, n) => {
             f.write_str("list(")?;
@@ -110,7 +110,7 @@ fn number_suffix(dtype: &DType) -> &'static str
     ensures { result.now ≡ number_suffix (type_view dtype.now) }
 {
     match dtype {
-        DType::Primitive(p, _) => integer_name(*p),
+        DType::Primitive(p, _) => p.name(),
         _ => "",
     }
 }

@@ -10,8 +10,10 @@ ghost use Rattle.vx_text.specs.Grammar.{struct_with, word_base, sign_base, base_
 use crate::parts::{MOST_TOKENS, after, name_front};
 use std::alloc::Global;
 use std::rc::Rc;
-use vx_dtype::{DType, ElementType, FieldName, FieldNames, Mem, Nullability, StructFields, Text};
-use vx_tokens::{Sign, Token, integer_named};
+use vx_dtype::{
+    DType, ElementType, FieldName, FieldNames, Mem, Nullability, PType, StructFields, Text,
+};
+use vx_tokens::{Sign, Token};
 
 /// The type that no type stands in, of this name.
 fn plain_type(word: &str) -> Option<DType>
@@ -21,7 +23,7 @@ fn plain_type(word: &str) -> Option<DType>
         "bool" => Some(DType::Bool(Nullability::NonNullable)),
         "utf8" => Some(DType::Utf8(Nullability::NonNullable)),
         _ => {
-            let ptype = integer_named(word)?;
+            let ptype = PType::from_name(word)?;
             Some(DType::Primitive(ptype, Nullability::NonNullable))
         }
     }

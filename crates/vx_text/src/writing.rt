@@ -3,7 +3,6 @@ ghost use Rattle.std.specs.Prelude.{◌≡◌, ◌<◌, Some, [], ◌∷◌, ◌
 ghost use Rattle.std.specs.Fmt.{WritesOnOk};
 ghost use Rattle.std.specs.String.{string_bytes};
 ghost use Rattle.std.specs.Result.{result_map_both};
-ghost use Rattle.vx_dtype.specs.Texts.{separator_at};
 ghost use Rattle.vx_text.specs.Writing.{choice_text, like_word, between_word, pack_word, merge_word, query_text, IsWritten};
 ghost use Rattle.vx_text.specs.WritingParts.{before_text, closing_text, opening_text, part_of, parts_of, written_children, Began};
 
@@ -12,7 +11,7 @@ use crate::errors::TextError;
 use crate::writable::is_writable;
 use std::alloc::{AllocError, Global};
 use std::fmt;
-use vx_dtype::{BetweenOptions, Nullability, StrictComparison};
+use vx_dtype::{BetweenOptions, Nullability, StrictComparison, separator};
 use vx_expr::{Expr, ExprRef, FieldSelection, VortexExpr};
 use vx_tokens::{Name, Names};
 
@@ -216,13 +215,6 @@ fn write_before<W: fmt::Write>(expr: &ExprRef, i: usize, f: &mut fmt::Formatter<
         }
         _ => f.write_str(separator(i)),
     }
-}
-
-/// What stands before the part at this place: nothing before the first, `, ` before the others.
-fn separator(i: usize) -> &'static str
-    ensures { result.now ≡ separator_at i }
-{
-    if i == 0 { "" } else { ", " }
 }
 
 /// Writes the text of a node behind its last child.

@@ -3,8 +3,8 @@ use Rattle.std.specs.Prelude.{ℕ, zero, suc, ◌==◌, nat_lt, Bool, true, fals
 use Rattle.std.specs.Prelude.{List, [], ◌∷◌, ◌++◌, length, Option, Some, None, option_map, codes}
 use Rattle.std.specs.Str.{bytes_eq, is_utf8}
 use Rattle.vx_dtype.specs.declared.PType.{PType}
-use Rattle.vx_dtype.specs.declared.PType.TheVariants.{U8, U16, U32, U64, I8, I16, I32, I64}
 use Rattle.vx_dtype.specs.Types.{Bytes}
+pub use Rattle.vx_dtype.specs.Texts.{integer_named}
 use Rattle.vx_tokens.specs.declared.lexing.Class.{Class}
 use Rattle.vx_tokens.specs.declared.lexing.Class.TheVariants as classes
 use Rattle.vx_tokens.specs.declared.tokens.Keyword.{Keyword}
@@ -92,18 +92,6 @@ word_or s None = Word s
 
 abbrev pub word_token : Bytes → Token
 word_token s = word_or s (keyword_of s)
-
--- the integer type of this name
-unfoldable pub integer_named : Bytes → Option PType
-integer_named s =
-    if bytes_eq s (codes "u8") then Some U8 else
-    (if bytes_eq s (codes "u16") then Some U16 else
-    (if bytes_eq s (codes "u32") then Some U32 else
-    (if bytes_eq s (codes "u64") then Some U64 else
-    (if bytes_eq s (codes "i8") then Some I8 else
-    (if bytes_eq s (codes "i16") then Some I16 else
-    (if bytes_eq s (codes "i32") then Some I32 else
-    (if bytes_eq s (codes "i64") then Some I64 else None)))))))
 
 -- what may stand at the end of a number: nothing, or the name of an integer type
 abbrev pub suffix_of : Bytes → Option (Option PType)

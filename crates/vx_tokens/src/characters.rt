@@ -1,11 +1,9 @@
 // Characters, and the words and signs that they make.
 ghost use Rattle.std.specs.Prelude.{◌≡◌, ◌∷◌, option_map};
-ghost use Rattle.vx_dtype.specs.Texts.{ptype_text};
-ghost use Rattle.vx_tokens.specs.Tokens.{is_blank, is_digit, is_first, is_inner, connective_of, call_word_of, match_word_of, keyword_of, integer_named};
+ghost use Rattle.vx_tokens.specs.Tokens.{is_blank, is_digit, is_first, is_inner, connective_of, call_word_of, match_word_of, keyword_of};
 ghost use Rattle.vx_tokens.specs.Tokens.{two_signs, bracket_of, stop_of, operation_of, one_sign};
 
 use crate::tokens::{Keyword, Sign};
-use vx_dtype::PType;
 
 /// Whether a character stands between tokens and means nothing.
 pub(crate) fn is_blank(byte: u8) -> bool
@@ -96,40 +94,6 @@ pub(crate) fn keyword_of(word: &str) -> Option<Keyword>
         return Some(keyword);
     }
     match_word_of(word)
-}
-
-/// The integer type of this name.
-#[tactic(auto, unfolding(crate::specs::Tokens::integer_named))]
-pub fn integer_named(word: &str) -> Option<PType>
-    ensures { result ≡ integer_named word.now }
-{
-    match word {
-        "u8" => Some(PType::U8),
-        "u16" => Some(PType::U16),
-        "u32" => Some(PType::U32),
-        "u64" => Some(PType::U64),
-        "i8" => Some(PType::I8),
-        "i16" => Some(PType::I16),
-        "i32" => Some(PType::I32),
-        "i64" => Some(PType::I64),
-        _ => None,
-    }
-}
-
-/// The name of an integer type.
-pub fn integer_name(ptype: PType) -> &'static str
-    ensures { result.now ≡ ptype_text ptype }
-{
-    match ptype {
-        PType::U8 => "u8",
-        PType::U16 => "u16",
-        PType::U32 => "u32",
-        PType::U64 => "u64",
-        PType::I8 => "i8",
-        PType::I16 => "i16",
-        PType::I32 => "i32",
-        PType::I64 => "i64",
-    }
 }
 
 /// The sign of two characters.

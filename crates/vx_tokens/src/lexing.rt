@@ -6,7 +6,7 @@ ghost use Rattle.vx_tokens.specs.Tokens.{word_token, word_behind, name_behind, t
 ghost use Rattle.vx_tokens.specs.Tokens.{suffix_of, number_of, number_within, number_behind, sign_at, marked_at, token_at, tokens_of};
 
 use crate::characters::{
-    integer_named, is_blank, is_digit, is_first, is_inner, keyword_of, one_sign, two_signs,
+    is_blank, is_digit, is_first, is_inner, keyword_of, one_sign, two_signs,
 };
 use crate::tokens::Token;
 use std::alloc::Global;
@@ -81,7 +81,7 @@ fn suffix_of(word: &str) -> Option<Option<PType>>
     if word.is_empty() {
         return Some(None);
     }
-    let ptype = integer_named(word)?;
+    let ptype = PType::from_name(word)?;
     Some(Some(ptype))
 }
 

@@ -7,7 +7,6 @@ mod marks;
 mod numbers;
 mod tokens;
 
-pub use characters::{integer_name, integer_named};
 pub use lexing::tokens_of;
 pub use marks::{Name, Names, Quote};
 pub use numbers::integer_of;

@@ -1,17 +1,16 @@
--- The structs that go into a merge: child by child, and the last that gives a name.
-use Rattle.std.proofs.Common.{◌≡◌, ℕ, zero, suc, ◌+◌, ◌<◌, Bool, true, false, cond, List, [], ◌∷◌, length, map, drop, Option, Some, None, Ok, Result, refl, ap, sym, ◌∙◌}
-use Rattle.std.specs.Option.{option_or}
-use Rattle.std.proofs.Math.ListN.{get_or}
-use Rattle.std.proofs.lemmas.List.{drop_more}
+-- The structs that go into a merge, child by child, and the pack of what they give together.
+use Rattle.std.proofs.Common.{◌≡◌, List, [], ◌∷◌, length, map, Ok, Result, refl, ap, sym, ◌∙◌}
+use Rattle.std.proofs.lemmas.List.{length-map}
 use Rattle.vx_dtype.specs.Types.{Bytes, Ty}
-use Rattle.vx_dtype.specs.TypeRules.{has_name}
-use Rattle.vx_expr.specs.Trees.{Tree, merge, trees_of, children_of}
+use Rattle.vx_expr.specs.Trees.{Tree, pack, merge, trees_of, children_of}
 use Rattle.vx_expr.proofs.TreeLemmas.{listed_trees_of}
-use Rattle.vx_semantics.specs.Merging.{last_giver}
+use Rattle.vx_semantics.specs.Merging.{merged_names}
 use Rattle.vx_semantics.specs.Typing.{Refusal, and_then}
 use Rattle.vx_semantics.specs.LooseTyping.{loosely_typed}
 use Rattle.vx_dtype.specs.declared.Nullability.{Nullability}
-use Rattle.vx_passes.specs.Merging.{Giving, giving_of, givings, givings_pack, merge_removed}
+use Rattle.vx_passes.specs.Merging.{Giving, giving_names, giving_of, givings, given_field, givings_pack, merge_removed}
+use Rattle.vx_typing.specs.declared.field_places.MergedField.{MergedField}
+use Rattle.vx_typing.specs.MergedFields.{name_of}
 use Rattle.vx_transform.specs.Rebuilds.{each}
 
 -- a child of a merge as a struct that goes into it
@@ -22,33 +21,25 @@ pub givings_each : (t : Ty) (es : List Tree) → givings t (trees_of es) ≡ eac
 givings_each t [] = refl
 givings_each t (e ∷ es) = ap (λ r. and_then (typed_giving t e) (λ g. and_then r (λ gs. Ok (g ∷ gs)))) (givings_each t es)
 
--- ---- the last struct that gives a name
-
-module _ {A X : Type 0} (see : A → X) (names : X → List Bytes) (f : Bytes) where
-  -- the last giver of those from a place on is the last of all
-  last_giver-from : (xs : List A) (i : ℕ) (x : X) → last_giver names f (map see (drop i xs)) ≡ Some x → last_giver names f (map see xs) ≡ Some x
-  last_giver-from xs zero x h = h
-  last_giver-from [] (suc i) x h = h
-  last_giver-from (y ∷ xs) (suc i) x h = ap (λ o. option_or o (cond (has_name f (names (see y))) (Some (see y)) None)) (last_giver-from xs i x h)
-
-  module _ (xs : List A) (i left : ℕ) (x : A) (next : i + 1 ≡ left) (within : i < length xs) (is : x ≡ get_or xs i x) (none : last_giver names f (map see (drop left xs)) ≡ None) where
-    from_here : (b : Bool) → has_name f (names (see x)) ≡ b → last_giver names f (map see (drop i xs)) ≡ option_or None (cond b (Some (see x)) None)
-    from_here b given =
-        let last : List X → Option X = last_giver names f in
-        ap (λ ys. last (map see ys)) (drop_more xs i x within ∙ ap (λ y. y ∷ drop (i + 1) xs) (sym is))
-        ∙ ap (λ k. option_or (last (map see (drop k xs))) (cond (has_name f (names (see x))) (Some (see x)) None)) next
-        ∙ ap (λ o. option_or o (cond (has_name f (names (see x))) (Some (see x)) None)) none
-        ∙ ap (λ c. option_or None (cond c (Some (see x)) None)) given
-
-    pub last_found : has_name f (names (see x)) ≡ true → last_giver names f (map see xs) ≡ Some (see x)
-    last_found given = last_giver-from xs i (see x) (from_here true given)
-
-    pub none_more : has_name f (names (see x)) ≡ false → last_giver names f (map see (drop i xs)) ≡ None
-    none_more given = from_here false given
-
 -- a merge as a pack, by its children
 pub merge_by_children : (t : Ty) (e : Tree) (es : List Tree) (n : Nullability) → merge (trees_of es) n ≡ e
     → merge_removed t e ≡ and_then (givings t (trees_of (children_of e))) (λ gs. Ok (givings_pack n gs))
 merge_by_children t e es n is =
     ap (merge_removed t) (sym is) ∙ ap (λ ds. and_then (givings t (trees_of ds)) (λ gs. Ok (givings_pack n gs))) (sym (listed_trees_of es))
     ∙ ap (λ d. and_then (givings t (trees_of (children_of d))) (λ gs. Ok (givings_pack n gs))) is
+
+-- ---- the pack of merged fields
+
+by_names : (gs : List Giving) (ms : List MergedField) → map (λ m. given_field gs m.name) ms ≡ map (given_field gs) (map name_of ms)
+by_names gs [] = refl
+by_names gs (m ∷ ms) = ap (λ es. given_field gs m.name ∷ es) (by_names gs ms)
+
+-- there are as many fields as names
+pub as_many_fields : (gs : List Giving) (ms : List MergedField) → length (map name_of ms) ≡ length (map (λ m. given_field gs m.name) ms)
+as_many_fields gs ms = length-map ms name_of ∙ sym (length-map ms (λ (m : MergedField). given_field gs m.name))
+
+-- the names beside the fields of the names are the pack of all that is given
+pub pack_by_fields : (n : Nullability) (gs : List Giving) (ms : List MergedField) → map name_of ms ≡ merged_names giving_names gs
+    → pack (map name_of ms) (trees_of (map (λ m. given_field gs m.name) ms)) n ≡ givings_pack n gs
+pack_by_fields n gs ms is =
+    ap (λ es. pack (map name_of ms) (trees_of es) n) (by_names gs ms) ∙ ap (λ fs. pack fs (trees_of (map (given_field gs) fs)) n) is

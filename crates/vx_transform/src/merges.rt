@@ -1,9 +1,9 @@
 // A merge as a pack of the fields that its children give.
-ghost use Rattle.std.specs.Prelude.{◌≡◌, map, option_map, IfOk};
-ghost use Rattle.std.specs.List.{flat_map};
-ghost use Rattle.vx_dtype.specs.TypeRules.{has_name};
+ghost use Rattle.std.specs.Prelude.{◌≡◌, map, IfOk};
+ghost use Rattle.std.specs.List.{All};
 ghost use Rattle.vx_dtype.specs.TypeViews.{type_view};
-ghost use Rattle.vx_semantics.specs.Merging.{last_giver};
+ghost use Rattle.vx_semantics.specs.Merging.{merged_names};
+ghost use Rattle.vx_typing.specs.MergedFields.{name_of, IsGivenBy};
 ghost use Rattle.vx_passes.specs.Merging.{giving_names, given_field, givings_pack, merge_removed};
 ghost use Rattle.vx_transform.specs.CodeViews.{giving_view};
 
@@ -12,10 +12,10 @@ use crate::merged_structs::{Giving, givings};
 use crate::packs::pack_of;
 use crate::rebuilding::Step;
 use std::alloc::Global;
-use vx_build::{col, get_item};
-use vx_dtype::{DType, FieldName, FieldNames, Mem, Nullability};
+use vx_build::get_item;
+use vx_dtype::{DType, FieldNames, Mem, Nullability};
 use vx_expr::{Expr, ExprRef};
-use vx_typing::{first_names, followed_by};
+use vx_typing::{MergedField, merged_field_names, merged_fields};
 
 /// The pack of the given fields in the place of a merge.
 #[derive(Drop)]
@@ -43,61 +43,49 @@ pub(crate) fn givings_pack(
 ) -> Mem<ExprRef>
     ensures { IfOk result (λ made. made ≡ givings_pack nullability (map giving_view given.now)) }
 {
-    let names = first_names(alloc, all_names(alloc, given)?.as_slice())?;
-    let fields = given_fields(alloc, names.as_slice(), given)?;
-    pack_of(alloc, FieldNames::new(alloc, names)?, fields, nullability)
+    let fields = fields_together(alloc, given)?;
+    let values = given_fields(alloc, fields.as_slice(), given)?;
+    let names = merged_field_names(alloc, fields.as_slice())?;
+    Ok(pack_of(alloc, names, values, nullability)?)
 }
 
-/// The fields of these names, each of the last struct that gives it.
-fn given_fields(alloc: Global, names: &[FieldName], given: &[Giving]) -> Mem<Vec<ExprRef>>
-    ensures { IfOk result (λ fields. fields.items ≡ map (given_field (map giving_view given.now)) names.now) }
+/// The fields that structs give together.
+fn fields_together(alloc: Global, given: &[Giving]) -> Mem<Vec<MergedField>>
+    ensures names { IfOk result (λ fields. map name_of fields.items ≡ merged_names giving_names (map giving_view given.now)) }
+    ensures places { IfOk result (λ fields. All (IsGivenBy (map giving_names (map giving_view given.now))) fields.items) }
 {
-    let mut fields = Vec::with_capacity(alloc, names.len())?;
-    for name in names {
-        fields.push(given_field(alloc, name, given)?)?;
-    }
-    Ok(fields)
+    let names = names_in_each(alloc, given)?;
+    Ok(merged_fields(alloc, names.as_slice())?)
 }
 
-/// The field of this name of the last struct that gives it; of the row where none does, which no merge asks for.
-fn given_field(alloc: Global, name: &FieldName, given: &[Giving]) -> Mem<ExprRef>
-    ensures { IfOk result (λ made. made ≡ given_field (map giving_view given.now) name.now) }
+/// The names of each struct's fields.
+fn names_in_each(alloc: Global, given: &[Giving]) -> Mem<Vec<FieldNames>>
+    ensures { IfOk result (λ names. names.items ≡ map giving_names (map giving_view given.now)) }
 {
-    match last_giver(name, given) {
-        Some(giving) => get_item(alloc, name.clone()?, giving.expr.clone()?),
-        None => col(alloc, name.clone()?),
-    }
-}
-
-/// Whether a struct has a field of this name.
-fn gives(giving: &Giving, name: &FieldName) -> bool
-    ensures { result ≡ has_name name.now (giving_names (giving_view giving.now)) }
-{
-    name.is_among(giving.names.as_slice())
-}
-
-/// The last struct that has a field of this name.
-fn last_giver<'a>(name: &FieldName, given: &'a [Giving]) -> Option<&'a Giving>
-    ensures { option_map (λ giving. giving_view giving.now) result ≡ last_giver giving_names name.now (map giving_view given.now) }
-{
-    let mut left = given.len();
-    while left > 0 {
-        left -= 1;
-        let giving = &given[left];
-        if gives(giving, name) {
-            return Some(giving);
-        }
-    }
-    None
-}
-
-/// The names of the structs' fields, in order.
-fn all_names(alloc: Global, given: &[Giving]) -> Mem<Vec<FieldName>>
-    ensures { IfOk result (λ names. names.items ≡ flat_map giving_names (map giving_view given.now)) }
-{
-    let mut names = Vec::new(alloc);
+    let mut names = Vec::with_capacity(alloc, given.len())?;
     for giving in given {
-        names = followed_by(names, giving.names.as_slice())?;
+        names.push(giving.names.clone()?)?;
     }
     Ok(names)
+}
+
+/// Merged fields as expressions, in order.
+fn given_fields(alloc: Global, fields: &[MergedField], given: &[Giving]) -> Mem<Vec<ExprRef>>
+    requires { All (IsGivenBy (map giving_names (map giving_view given.now))) fields.now }
+    ensures { IfOk result (λ made. made.items ≡ map (λ m. given_field (map giving_view given.now) m.name) fields.now) }
+{
+    let mut made = Vec::with_capacity(alloc, fields.len())?;
+    for field in fields {
+        made.push(given_field(alloc, field, given)?)?;
+    }
+    Ok(made)
+}
+
+/// A merged field as an expression: the field of its name of the struct at its place.
+fn given_field(alloc: Global, field: &MergedField, given: &[Giving]) -> Mem<ExprRef>
+    requires { IsGivenBy (map giving_names (map giving_view given.now)) field.now }
+    ensures { IfOk result (λ made. made ≡ given_field (map giving_view given.now) field.now.name) }
+{
+    let giving = &given[field.place.giver];
+    Ok(get_item(alloc, field.name.clone()?, giving.expr.clone()?)?)
 }

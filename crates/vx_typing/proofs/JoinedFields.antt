@@ -1,14 +1,12 @@
 -- Fields behind fields, as loops collect them.
-use Rattle.std.proofs.Common.{◌≡◌, ℕ, suc, ◌+◌, ◌<◌, ◌≤◌, true, false, cond, List, [], ◌∷◌, ◌++◌, length, map, drop, Option, Some, None, refl, ap, sym, ◌∙◌, arith}
+use Rattle.std.proofs.Common.{◌≡◌, ℕ, suc, ◌+◌, ◌≤◌, true, false, cond, List, [], ◌∷◌, ◌++◌, length, map, Some, refl, ap, sym, ◌∙◌, arith}
 use Rattle.std.specs.List.{slice_get}
-use Rattle.std.proofs.Math.ListN.{get_or}
 use Rattle.vx_dtype.specs.Types.{Bytes, Ty, Fields, no_fields, field}
 use Rattle.vx_dtype.specs.TypeRules.{field_names, has_name}
-use Rattle.vx_dtype.specs.StructTypes.{field_types, with_field}
+use Rattle.vx_dtype.specs.StructTypes.{field_types}
 use Rattle.vx_dtype.specs.Zipped.{zipped}
 use Rattle.vx_dtype.proofs.FieldsFrom.{fields_from, fields_from-here, fields_from-past}
-use Rattle.vx_dtype.proofs.DistinctLemmas.{names-from}
-use Rattle.vx_semantics.specs.Typing.{fields_without, merged_type_at, merged_fields_at}
+use Rattle.vx_semantics.specs.Typing.{fields_without}
 
 -- the fields, and the others behind them
 abbrev pub joined : Fields → Fields → Fields
@@ -50,29 +48,6 @@ module _ (names : List Bytes) (fs : Fields) (i : ℕ) where
 
   pub none_left : length (field_names fs) ≤ i → fields_without names (fields_from i fs) ≡ no_fields
   none_left h = ap (fields_without names) (fields_from-past i fs h)
-
--- ---- merged fields
-
--- the field of the name at a place is before those of the names behind it, where it has a type
-pub merged_here : (names : List Bytes) (ts : List Ty) (i : ℕ) (f : Bytes) (o : Option Ty) → i < length names → f ≡ get_or names i f → merged_type_at f ts ≡ o
-    → merged_fields_at (drop i names) ts ≡ with_field f o (merged_fields_at (drop (i + 1) names) ts)
-merged_here names ts i f o h e typed =
-    ap (λ ns. merged_fields_at ns ts) (names-from names i f h e) ∙ ap (λ p. with_field f p (merged_fields_at (drop (i + 1) names) ts)) typed
-
-module _ {A : Type 0} (see : A → Ty) (names : List Bytes) (ts : List Ty) (i : ℕ) (f : Bytes) (kept : List Bytes) (xs : List A) (within : i < length names) (is : f ≡ get_or names i f)
-    (so_far : merged_fields_at names ts ≡ joined (zipped kept (map see xs)) (merged_fields_at (drop i names) ts)) where
-  -- a name that no struct gives is passed over
-  pub passed_over : merged_type_at f ts ≡ None → merged_fields_at names ts ≡ joined (zipped kept (map see xs)) (merged_fields_at (drop (i + 1) names) ts)
-  passed_over none = so_far ∙ ap (joined (zipped kept (map see xs))) (merged_here names ts i f None within is none)
-
-  -- another is collected
-  pub collected : (x : A) (kept_with : List Bytes) (with_x : List A) → length kept ≡ length xs → kept_with ≡ kept ++ f ∷ [] → with_x ≡ xs ++ x ∷ [] → merged_type_at f ts ≡ Some (see x)
-      → merged_fields_at names ts ≡ joined (zipped kept_with (map see with_x)) (merged_fields_at (drop (i + 1) names) ts)
-  collected x kept_with with_x e is_kept is_with typed =
-      let left = merged_fields_at (drop (i + 1) names) ts in
-      so_far ∙ ap (joined (zipped kept (map see xs))) (merged_here names ts i f (Some (see x)) within is typed)
-      ∙ sym (joined_more see kept xs f x left e)
-      ∙ ap (λ ns. joined (zipped ns (map see (xs ++ x ∷ []))) left) (sym is_kept) ∙ ap (λ ys. joined (zipped kept_with (map see ys)) left) (sym is_with)
 
 -- a field whose name is not among these is collected
 pub taken_in : {A : Type 0} (see : A → Ty) (names : List Bytes) (fs : Fields) (i : ℕ) (f : Bytes) (kept : List Bytes) (xs : List A)

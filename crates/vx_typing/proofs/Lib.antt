@@ -1,5 +1,8 @@
 pub mod JoinedFields
-pub mod MergeLemmas
+pub mod NameLemmas
+pub mod FirstNames
+pub mod FieldPlaces
+pub mod MergedTypes
 pub mod TypeLists
 pub mod SlotLemmas
 pub mod PostOrderValues

@@ -1,6 +1,7 @@
 pub mod TypingAnswers
 pub mod OwnSlots
 pub mod OperandTypes
+pub mod MergedFields
 pub use Rattle.vx_dtype.specs.TypeViews
 pub use Rattle.vx_dtype.specs.TypeRules
 pub use Rattle.vx_dtype.specs.StructTypes

@@ -2,6 +2,7 @@
 #![tactic(auto)]
 
 mod errors;
+mod field_places;
 mod kinds;
 mod loose_rules;
 mod loose_typing;
@@ -13,8 +14,9 @@ mod slots;
 mod strict_typing;
 
 pub use errors::TypeError;
+pub use field_places::{FieldPlace, MergedField, merged_field_names, merged_fields};
 pub use kinds::{equal_plain, is_bool, is_text, takes_cast, union_of};
 pub use loose_typing::return_dtype;
-pub use merges::{all_structs, first_names, followed_by, gives, merged_names};
+pub use merges::names_in;
 pub use slots::{held_fits, slots_fit};
 pub use strict_typing::typed;

@@ -199,14 +199,6 @@ module _ (f : Val → Val) (v b ov ob : List ℕ) (n : ℕ) (taken : AreTidy n v
 module _ (f : Val → Val → Val) (lv lb rv rb ov ob : List ℕ) (ls rs : List (Option Bool)) (same : length rs ≡ length ls)
     (seen_left : truths_of_words lv lb (length ls) ≡ ls) (left : AreTidy (length ls) lv lb)
     (seen_right : truths_of_words rv rb (length rs) ≡ rs) (right : AreTidy (length rs) rv rb) where
-  pub both_lengths : (length lb ≡ length lv) × (length rv ≡ length lv) × (length rb ≡ length lv) × (words_for (length ls) ≡ length lv)
-  both_lengths =
-      let p = left.valid_length in
-      let q = left.values_length in
-      let r = right.valid_length in
-      let s = right.values_length in
-      (omega arith, omega arith, omega arith, omega arith)
-
   pub both_tidy_seen : f null_val null_val ≡ null_val → length ov ≡ length lv → length ob ≡ length lv
       → ((i : ℕ) → i < 64 * length lv → val_of_words ov ob i ≡ f (val_of_words lv lb i) (val_of_words rv rb i))
       → AreBareUnderNull ov ob → AreTidy (length ls) ov ob

@@ -1,5 +1,5 @@
 -- Kleene's logic on one word, and from words to lists of words.
-use Rattle.std.proofs.Common.{◌≡◌, ℕ, ◌-◌, ◌<◌, List, get_or, Bool, true, false, not, ◌&&◌, ◌||◌, eqb, refl, ◌∙◌, ap, arith, w64, min, max, Fits}
+use Rattle.std.proofs.Common.{◌≡◌, ℕ, ◌-◌, ◌<◌, Bool, true, false, not, ◌&&◌, ◌||◌, eqb, refl, ◌∙◌, ap, arith, w64, min, max, Fits}
 use Rattle.std.proofs.lemmas.Bool.Decides.{nat_tests}
 use Rattle.std.proofs.lemmas.Nat.Bits.{bit_at_and, bit_at_or, bit_at_not, bit_at-lt}
 use Rattle.std.specs.Prelude.{bit_and, bit_or}
@@ -125,17 +125,3 @@ not_place v b ov ob i p h (e, w) =
     let valid : word_bit ov i ≡ word_bit v i = ap (λ x. word_bit x i) e in
     let value : word_bit ob i ≡ _ = ap (λ x. word_bit x i) w ∙ not_value_bit v b i p h in
     rw (valid, value) (not_table (word_bit v i) (word_bit b i))
-
--- ---- the first n words of the answer are made so
-abbrev pub AreAndWords : (lv lb rv rb ov ob : List ℕ) → ℕ → Type 0
-AreAndWords lv lb rv rb ov ob n = (k : ℕ) → k < n
-    → (get_or ov k 0 ≡ and_valid (get_or lv k 0) (get_or lb k 0) (get_or rv k 0) (get_or rb k 0))
-    × (get_or ob k 0 ≡ and_value (get_or lv k 0) (get_or lb k 0) (get_or rv k 0) (get_or rb k 0))
-
-abbrev pub AreOrWords : (lv lb rv rb ov ob : List ℕ) → ℕ → Type 0
-AreOrWords lv lb rv rb ov ob n = (k : ℕ) → k < n
-    → (get_or ov k 0 ≡ or_valid (get_or lv k 0) (get_or lb k 0) (get_or rv k 0) (get_or rb k 0))
-    × (get_or ob k 0 ≡ or_value (get_or lv k 0) (get_or lb k 0) (get_or rv k 0) (get_or rb k 0))
-
-abbrev pub AreNotWords : (v b ov ob : List ℕ) → ℕ → Type 0
-AreNotWords v b ov ob n = (k : ℕ) → k < n → (get_or ov k 0 ≡ get_or v k 0) × (get_or ob k 0 ≡ not_value (get_or v k 0) (get_or b k 0))

@@ -1,3 +1,4 @@
 pub mod Words
+pub mod Connectives
 pub mod Truths
 pub mod TruthsEqual

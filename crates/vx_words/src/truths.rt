@@ -4,11 +4,12 @@ ghost use Rattle.std.specs.Cmp.{partial_equiv_from_equiv};
 ghost use Rattle.std.specs.Simd.Lanes.{zip2};
 ghost use Rattle.vx_dtype.specs.Logic.{and3, or3, not3, is_null3};
 ghost use Rattle.vx_words.specs.Words.{truth_of_words, HaveSameBits, IsNextPlace};
+ghost use Rattle.vx_words.specs.Connectives.{connected3};
 ghost use Rattle.vx_words.specs.Truths.{AreTidy, truths_of_words, vals_of, is_true, true_at, hidden_if, kept_items};
 ghost use Rattle.vx_words.specs.TruthsEqual.{truths_eq, truths_eq_equiv};
 
 use crate::bits::{PLACES, bit, bit_count, next_bit, ones, push_bit, repeated_bit, without, zeros};
-use crate::logic::{and_words, not_words, or_words};
+use crate::logic::{Connective, connect_words, not_words};
 use std::alloc::{AllocError, Global};
 use std::marker::Model;
 use vx_dtype::Mem;
@@ -94,12 +95,7 @@ impl Truths {
         requires { length other.now ≡ length self.now }
         ensures { IfOk result (λ truths. vals_of truths ≡ zip2 and3 (vals_of self.now) (vals_of other.now)) }
     {
-        let (lv, lb) = self.words();
-        let (rv, rb) = other.words();
-        let mut valid = zeros(alloc, self.len())?;
-        let mut values = zeros(alloc, self.len())?;
-        and_words(lv, lb, rv, rb, &mut valid, &mut values);
-        Ok(Truths::of_words(self.len(), valid, values))
+        connected(alloc, Connective::And, self, other)
     }
 
     /// Whether one side holds, place by place, by Kleene's logic: true beside anything is true, false beside false is false, all else is null.
@@ -107,12 +103,7 @@ impl Truths {
         requires { length other.now ≡ length self.now }
         ensures { IfOk result (λ truths. vals_of truths ≡ zip2 or3 (vals_of self.now) (vals_of other.now)) }
     {
-        let (lv, lb) = self.words();
-        let (rv, rb) = other.words();
-        let mut valid = zeros(alloc, self.len())?;
-        let mut values = zeros(alloc, self.len())?;
-        or_words(lv, lb, rv, rb, &mut valid, &mut values);
-        Ok(Truths::of_words(self.len(), valid, values))
+        connected(alloc, Connective::Or, self, other)
     }
 
     /// True and false exchanged, place by place; null stays.
@@ -233,6 +224,20 @@ impl PartialEq for Truths {
 
 impl Eq for Truths {
     ghost laws = { truths_eq_equiv };
+}
+
+/// The truths of two lists connected, place by place.
+#[inline(always)]
+fn connected(alloc: Global, connective: Connective, left: &Truths, right: &Truths) -> Mem<Truths>
+    requires { length right.now ≡ length left.now }
+    ensures { IfOk result (λ truths. vals_of truths ≡ zip2 (connected3 connective) (vals_of left.now) (vals_of right.now)) }
+{
+    let (lv, lb) = left.words();
+    let (rv, rb) = right.words();
+    let mut valid = zeros(alloc, left.len())?;
+    let mut values = zeros(alloc, left.len())?;
+    connect_words(connective, lv, lb, rv, rb, &mut valid, &mut values);
+    Ok(Truths::of_words(left.len(), valid, values))
 }
 
 /// The truth at a place of words of validity and words of values.

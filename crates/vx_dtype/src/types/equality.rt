@@ -7,65 +7,21 @@ ghost use Rattle.vx_dtype.specs.EqualLaws.{ty_eq_equiv, ty_decides, fields_eq_eq
 ghost use Rattle.vx_dtype.specs.Feeds.{ty_feed, fields_feed};
 ghost use Rattle.vx_dtype.specs.TypeViews.{type_view};
 
-use super::{DType, ElementType, StructFields};
+use super::likeness::{Nullabilities, same, same_fields};
+use super::{DType, StructFields};
 use std::hash::{Hash, Hasher};
-
-#[cycle(same)]
-#[tactic(auto, unfolding(crate::specs::Equal::ty_eq, crate::specs::TypeRules::depth_of))]
-fn same(left: &DType, right: &DType) -> bool
-    ensures { result ≡ ty_eq (type_view left.now) (type_view right.now) }
-{
-    match (left, right) {
-        (DType::Bool(n), DType::Bool(m)) => n == m,
-        (DType::Primitive(p, n), DType::Primitive(q, m)) => p == q && n == m,
-        (DType::Utf8(n), DType::Utf8(m)) => n == m,
-        (DType::List(e, n), DType::List(d, m)) => same_elements(e, d) && n == m,
-        (DType::Struct(fs, n), DType::Struct(gs, m)) => same_fields(fs, gs) && n == m,
-        _ => false,
-    }
-}
-
-#[cycle(same)]
-#[tactic(auto, unfolding(crate::specs::TypeRules::depth_of))]
-fn same_elements(left: &ElementType, right: &ElementType) -> bool
-    ensures { result ≡ ty_eq left.now right.now }
-{
-    same(left.dtype(), right.dtype())
-}
-
-#[cycle(same)]
-#[tactic(auto, using(crate::proofs::ZippedLemmas::fields_eq_lengths), unfolding(crate::specs::Equal::fields_eq, crate::specs::TypeRules::depth_of))]
-fn same_fields(left: &StructFields, right: &StructFields) -> bool
-    ensures { result ≡ fields_eq left.now right.now }
-{
-    if left.dtypes.len() != right.dtypes.len() {
-        return false;
-    }
-    for i in 0..left.dtypes.len() {
-        let name = &left.names.as_slice()[i];
-        let other = &right.names.as_slice()[i];
-        let dtype = &left.dtypes[i];
-        if name != other {
-            return false;
-        }
-        if !same(dtype, &right.dtypes[i]) {
-            return false;
-        }
-    }
-    true
-}
 
 impl PartialEq for DType {
     ghost eq = { λ x y. ty_eq (type_view x) (type_view y) };
 
     ghost laws = { on_per type_view (partial_equiv_from_equiv ty_eq_equiv) };
 
-    #[tactic(auto, using(crate::specs::EqualLaws::ty_decides))]
+    #[tactic(auto, using(crate::proofs::AgreeingLemmas::counted_types, crate::proofs::AgreeingLemmas::counted_types_decides))]
     fn eq(&self, other: &DType) -> bool
         ensures gives { result ≡ ty_eq (type_view self.now) (type_view other.now) }
         ensures same { Decides result (type_view self.now ≡ type_view other.now) }
     {
-        same(self, other)
+        same(Nullabilities::Counted, self, other)
     }
 }
 
@@ -78,12 +34,12 @@ impl PartialEq for StructFields {
 
     ghost laws = { partial_equiv_from_equiv fields_eq_equiv };
 
-    #[tactic(auto, using(crate::specs::EqualLaws::fields_decides))]
+    #[tactic(auto, using(crate::proofs::AgreeingLemmas::counted_fields, crate::proofs::AgreeingLemmas::counted_fields_decides))]
     fn eq(&self, other: &StructFields) -> bool
         ensures gives { result ≡ fields_eq self.now other.now }
         ensures same { Decides result (self.now ≡ other.now) }
     {
-        same_fields(self, other)
+        same_fields(Nullabilities::Counted, self, other)
     }
 }
 

@@ -1,17 +1,19 @@
-use Rattle.std.proofs.Common.{sym}
+use Rattle.std.proofs.Common.{rules, ◌<◌, length}
 use Rattle.vx_eval.specs.MergedColumns.{column_names}
-use Rattle.vx_eval.proofs.MergedLemmas.{giver_there, giver_gives, gives_struct, field_found, field_refused}
+use Rattle.vx_typing.proofs.FieldPlaces.{giver_within, giver_at}
+use Rattle.vx_eval.proofs.MergedLemmas.{field_found}
 use Rattle.vx_eval.proofs.column_merges.merged_column.Goals as goal
 
-pub unreachable-requires : goal.unreachable-requires
-unreachable-requires c = giver_there column_names c.args.name.now c.args.structs.now c.requires (sym c.in_default.ensures)
+pub bounds-structs-field : goal.bounds-structs-field
+bounds-structs-field c = giver_within column_names c.args.structs.now c.args.field.now c.requires
 
-pub field-requires : goal.field-requires
-field-requires c = gives_struct c.args.name.now c.in-Some.giver.now.ty (giver_gives column_names c.args.name.now c.args.structs.now c.in-Some.giver.now (sym c.in-Some.ensures))
+pub offset_bounds-structs-field : goal.offset_bounds-structs-field
+offset_bounds-structs-field c = let within = giver_within column_names c.args.structs.now c.args.field.now c.requires in search (rules, within)
 
-pub returns-clause-found : goal.returns-clause-found
-returns-clause-found c = field_found c.args.name.now c.args.structs.now c.in-Some.giver.now c.field.result (sym c.in-Some.ensures) c.field.ensures
+pub field_at-requires : goal.field_at-requires
+field_at-requires c = (giver_at column_names c.args.structs.now c.args.field.now c.requires c.index-structs-field.result c.index-structs-field.is).first
 
-pub returns-clause-refused : goal.returns-clause-refused
-returns-clause-refused c =
-    field_refused c.args.name.now c.in-Some.giver.now c.field.result (giver_gives column_names c.args.name.now c.args.structs.now c.in-Some.giver.now (sym c.in-Some.ensures)) c.field.ensures
+pub returns : goal.returns
+returns c =
+    field_found c.args.structs.now c.args.field.now c.index-structs-field.result c.in_ok-field_at.field-0
+    (giver_at column_names c.args.structs.now c.args.field.now c.requires c.index-structs-field.result c.index-structs-field.is) c.in_ok-field_at.ensures

@@ -1,8 +1,9 @@
 use Rattle.std.proofs.Common.{◌≡◌, map, take}
+use Rattle.vx_typing.specs.declared.field_places.MergedField.{MergedField}
 use Rattle.vx_passes.specs.Merging.{given_field}
 use Rattle.vx_transform.specs.CodeViews.{giving_view}
 use Rattle.vx_transform.proofs.merges.given_fields.Given as goal
 
--- the fields of the names so far
-abbrev pub invariant-loop-name : goal.invariant-loop-name
-invariant-loop-name l = l.fields.items ≡ map (given_field (map giving_view l.given)) (take l.name-index l.names)
+-- the expressions of the fields so far
+abbrev pub invariant-loop-field : goal.invariant-loop-field
+invariant-loop-field l = l.made.items ≡ map (λ (m : MergedField). given_field (map giving_view l.given) m.name) (take l.field-index l.fields)

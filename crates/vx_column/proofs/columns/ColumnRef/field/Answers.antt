@@ -1,15 +1,20 @@
-use Rattle.std.proofs.Common.{◌≡◌, ap, sym, ◌∙◌, subst, Ok}
-use Rattle.vx_words.specs.Truths.{vals_of}
-use Rattle.vx_column.specs.Answers.{field_column}
-use Rattle.vx_column.specs.Columns.{masked, zip_rows}
-use Rattle.vx_column.specs.Cells.{cell_rows, AreMaskedOf, ArePartsOf}
-use Rattle.vx_column.proofs.MaskedParts.{masked_field}
+use Rattle.std.proofs.Common.{◌≡◌, refl, ap, sym, ◌∙◌, Some, None}
+use Rattle.std.specs.Str.{bytes_eq}
+use Rattle.std.specs.List.{position}
+use Rattle.vx_dtype.specs.TypeRules.{field_type, field_names, fields_of}
+use Rattle.vx_dtype.specs.TypeViews.{type_view}
+use Rattle.vx_column.proofs.FieldLemmas.{field_missing}
 use Rattle.vx_column.proofs.columns.ColumnRef.field.Goals as goal
 
-pub returns-in_ok-masked_by-in-Masked : goal.returns-in_ok-masked_by-in-Masked
-returns-in_ok-masked_by-in-Masked c =
-    let rows : zip_rows masked c.in-Masked.column.value.rows (vals_of c.in-Masked.nulls.value) ≡ c.args.self.now.rows = ap (cell_rows c.args.self.now.ty) (sym c.in-Masked.is) ∙ c.cells.ensures.rows in
-    let parts : AreMaskedOf c.args.self.now.ty c.in-Masked.column.value c.in-Masked.nulls.value = subst (ArePartsOf c.args.self.now.ty) c.in-Masked.is c.cells.ensures.parts in
-    let inner : Ok c.in_ok-inner-in-Masked.inner ≡ field_column c.args.name.now c.in-Masked.column.value = c.in_ok-inner-in-Masked.ensures ∙ ap (field_column c.args.name.now) c.column_in.ensures in
-    let made = c.in_ok-masked_by-in-Masked.ensures.rows ∙ ap (λ ts. zip_rows masked c.in_ok-inner-in-Masked.inner.rows (vals_of ts)) c.in_ok-clone-in-Masked.ensures.cases in
-    masked_field c.args.name.now c.args.self.now c.in-Masked.column.value c.in_ok-inner-in-Masked.inner c.in_ok-masked_by-in-Masked.field-0 c.in-Masked.nulls.value parts rows inner c.in_ok-masked_by-in-Masked.ensures.dtype made
+pub returns-in_default-position : goal.returns-in_default-position
+returns-in_default-position c =
+    let here : fields_of c.args.self.now.ty ≡ c.in-Struct.fields = ap fields_of (sym c.dtype.ensures.shown ∙ ap type_view c.in-Struct.is) in
+    let place : position (bytes_eq c.args.name.now) (field_names c.in-Struct.fields) ≡ None = rw c.names.ensures at (sym c.position.ensures ∙ c.in_default-position.is) in
+    let missing : field_type c.args.name.now (fields_of c.args.self.now.ty) ≡ None = ap (field_type c.args.name.now) here ∙ field_missing c.args.name.now c.in-Struct.fields place in
+    rw missing refl
+
+pub field_at-requires : goal.field_at-requires
+field_at-requires c =
+    let here : fields_of c.args.self.now.ty ≡ c.in-Struct.fields = ap fields_of (sym c.dtype.ensures.shown ∙ ap type_view c.in-Struct.is) in
+    let place : position (bytes_eq c.args.name.now) (field_names c.in-Struct.fields) ≡ Some c.in-Some.place = rw c.names.ensures at (sym c.position.ensures ∙ c.in-Some.is) in
+    ap (λ fs. position (bytes_eq c.args.name.now) (field_names fs)) here ∙ place
