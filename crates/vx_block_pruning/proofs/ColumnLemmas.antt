@@ -13,7 +13,7 @@ use Rattle.vx_zones.specs.Zoning.{scalars_fit}
 use Rattle.vx_column.specs.declared.errors.ColumnError.{ColumnError}
 use Rattle.vx_column.specs.declared.errors.ColumnError.TheVariants.{WrongValue, DuplicateField}
 use Rattle.vx_column.specs.Columns.{Column, column, raws_fit, raw_rows}
-use Rattle.vx_column.specs.Answers.{Answers, unless, column_of_raws}
+use Rattle.vx_column.specs.Answers.{AnswersColumn, unless, column_of_raws}
 use Rattle.vx_block_pruning.specs.StatisticColumns.{column_type, column_of, IsUniform}
 use Rattle.vx_block_pruning.proofs.RunLemmas.{run-all}
 
@@ -49,12 +49,12 @@ column_made z first count t xs u e f =
     ∙ ap (λ (rows : _). Ok (column own rows)) (held-valued own run one_type)))
 
 -- an answer that tells a column is this column, where it is one
-pub made_is : (answer : Result Column ColumnError) (told made : Column) → Answers answer (Ok told) → answer ≡ Ok made → made ≡ told
+pub made_is : (answer : Result Column ColumnError) (told made : Column) → AnswersColumn answer (Ok told) → answer ≡ Ok made → made ≡ told
 made_is answer told made h e =
-    let both : Answers (Ok made) (Ok told) = subst (λ (a : Result Column ColumnError). Answers a (Ok told)) e h in
+    let both : AnswersColumn (Ok made) (Ok told) = subst (λ (a : Result Column ColumnError). AnswersColumn a (Ok told)) e h in
     cc
 
 -- what is answered for the values of such a statistic in a run of blocks tells its column there
 pub column_told : (z : ZoneStat) (first count : ℕ) (t : Ty) (xs : List Raw) (answer : Result Column ColumnError) → IsUniform z → t ≡ column_type z
-    → xs ≡ held (take count (drop first z.values)) → Answers answer (column_of_raws t xs) → Answers answer (Ok (column_of first count z))
-column_told z first count t xs answer u e f h = subst (Answers answer) (column_made z first count t xs u e f) h
+    → xs ≡ held (take count (drop first z.values)) → AnswersColumn answer (column_of_raws t xs) → AnswersColumn answer (Ok (column_of first count z))
+column_told z first count t xs answer u e f h = subst (AnswersColumn answer) (column_made z first count t xs u e f) h

@@ -22,7 +22,7 @@ use Rattle.vx_zones.specs.declared.zones.ZoneStat.{ZoneStat as HeldStat}
 use Rattle.vx_column.specs.declared.errors.ColumnError.{ColumnError}
 use Rattle.vx_column.specs.declared.errors.ColumnError.TheVariants.{WrongLength, DuplicateField}
 use Rattle.vx_column.specs.Columns.{Column, column}
-use Rattle.vx_column.specs.Answers.{Answers, unless}
+use Rattle.vx_column.specs.Answers.{AnswersColumn, unless}
 use Rattle.vx_column.specs.StructColumns.{column_types, all_have_rows, lengths_agree, row_members, struct_row, made_struct, struct_column}
 use Rattle.vx_laws_pruning.specs.PruningLaws.{AreAccepted}
 use Rattle.vx_laws_pruning.proofs.Accepted.{follows_rules}
@@ -156,7 +156,7 @@ each-has_run zones stats first count a e w =
 -- what is answered for the columns of the flagged statistics tells the table
 pub table-told : (zones : Zones) (zs : List ZoneStat) (flags : List Bool) (names : List Bytes) (cs : List Column) (first count : ℕ) (answer : Result Column ColumnError)
     → AreAccepted zones → zs ≡ zones.stats → TellsAvailable zones flags names → cs ≡ map (column_of first count) (flagged flags zs) → first + count ≤ length zones.lengths
-    → Answers answer (struct_column names cs count None) → Answers answer (Ok (pruning_table zones first count))
+    → AnswersColumn answer (struct_column names cs count None) → AnswersColumn answer (Ok (pruning_table zones first count))
 table-told zones zs flags names cs first count answer a e h p w told =
-    subst (Answers answer)
+    subst (AnswersColumn answer)
     (table-made zones first count names cs a w h.named (p ∙ ap (map (column_of first count)) (ap (flagged flags) e ∙ h.kept))) told

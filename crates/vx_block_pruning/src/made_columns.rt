@@ -1,14 +1,14 @@
 // Columns that are made of what makes a column.
 ghost use Rattle.std.specs.Prelude.{◌≡◌, Ok, IfOk};
 ghost use Rattle.vx_column.specs.Columns.{Column};
-ghost use Rattle.vx_column.specs.Answers.{Answers};
+ghost use Rattle.vx_column.specs.Answers.{AnswersColumn};
 
 use vx_column::{ColumnError, ColumnRef};
 use vx_dtype::{Mem, NoMemory};
 
 /// The column that was made, where nothing but want of memory can be in the way.
 pub(crate) fn made(answer: Result<ColumnRef, ColumnError>) -> Mem<ColumnRef>
-    requires { (told : Column) × Answers answer (Ok told) }
+    requires { (told : Column) × AnswersColumn answer (Ok told) }
     ensures { IfOk result (λ c. answer ≡ Ok c) }
 {
     match answer {

@@ -22,9 +22,9 @@ abbrev pub unless : Bool → ColumnError → Result Column ColumnError → Resul
 unless b e answer = cond b answer (Err e)
 
 -- the answer is the one that is told, but for want of memory, which may come at any time
-abbrev pub Answers : Result Column ColumnError → Result Column ColumnError → Type 0
-Answers (Err NoMemory) told = Unit {0}
-Answers answer told = answer ≡ told
+abbrev pub AnswersColumn : Result Column ColumnError → Result Column ColumnError → Type 0
+AnswersColumn (Err NoMemory) told = Unit {0}
+AnswersColumn answer told = answer ≡ told
 
 -- the raw value of an optional one: null where there is none
 abbrev pub optional_raw : {A : Type 0} → (A → Raw) → Option A → Raw

@@ -13,7 +13,7 @@ ghost use Rattle.vx_column.specs.Columns.{column, seen};
 ghost use Rattle.vx_column.specs.RawParts.{raw_cast};
 ghost use Rattle.vx_column.specs.PlainValues.{numbers_vals};
 ghost use Rattle.vx_column.specs.Totals.{stray_null};
-ghost use Rattle.vx_column.specs.Answers.{Answers, unless_faulty, GivesUnlessFaulty};
+ghost use Rattle.vx_column.specs.Answers.{AnswersColumn, unless_faulty, GivesUnlessFaulty};
 
 use crate::cells::{Cells, numbers_in};
 use crate::columns::ColumnRef;
@@ -70,7 +70,7 @@ fn cast_rows(alloc: Global, c: &ColumnRef, target: &DType) -> Mem<Option<Vec<Sca
 #[tactic(auto, using(crate::proofs::CastLemmas::cast_names))]
 fn cast_values(alloc: Global, c: &ColumnRef, target: &DType) -> Result<ColumnRef, ColumnError>
     requires { takes_cast c.now.ty (type_view target.now) ≡ true }
-    ensures { Answers result (unless_faulty BadCast (column (type_view target.now) (map (cast3 (type_view target.now)) c.now.rows))) }
+    ensures { AnswersColumn result (unless_faulty BadCast (column (type_view target.now) (map (cast3 (type_view target.now)) c.now.rows))) }
 {
     match cast_rows(alloc, c, target)? {
         Some(made) => Ok(column_of(alloc, target.clone()?, made)?),
@@ -89,7 +89,7 @@ fn cast_constant(
     requires takes { takes_cast c.now.ty (type_view target.now) ≡ true }
     requires fit { fits (raw_view value.now) c.now.ty ≡ true }
     requires rows { c.now.rows ≡ replicate (length c.now.rows) (seen c.now.ty value.now) }
-    ensures { Answers result (unless_faulty BadCast (column (type_view target.now) (map (cast3 (type_view target.now)) c.now.rows))) }
+    ensures { AnswersColumn result (unless_faulty BadCast (column (type_view target.now) (map (cast3 (type_view target.now)) c.now.rows))) }
 {
     match cast_value(value, target)? {
         Some(made) => Ok(ColumnRef::of_constant(target.clone()?, made, c.len())),
@@ -117,7 +117,7 @@ fn cast_numbers(
     ptype: PType,
     n: Nullability,
 ) -> Result<ColumnRef, ColumnError>
-    ensures { Answers result (unless_faulty BadCast (column (int_ty ptype n) (map (cast3 (int_ty ptype n)) (numbers_vals numbers.now)))) }
+    ensures { AnswersColumn result (unless_faulty BadCast (column (int_ty ptype n) (map (cast3 (int_ty ptype n)) (numbers_vals numbers.now)))) }
 {
     let stray = has_stray_null(alloc, numbers, n)?;
     if stray {
@@ -140,7 +140,7 @@ fn widens(target: &DType, dtype: &DType) -> bool
 /// isn't nullable.
 pub fn cast(alloc: Global, c: &ColumnRef, target: &DType) -> Result<ColumnRef, ColumnError>
     requires { takes_cast c.now.ty (type_view target.now) ≡ true }
-    ensures { Answers result (unless_faulty BadCast (column (type_view target.now) (map (cast3 (type_view target.now)) c.now.rows))) }
+    ensures { AnswersColumn result (unless_faulty BadCast (column (type_view target.now) (map (cast3 (type_view target.now)) c.now.rows))) }
 {
     if widens(target, c.dtype()) {
         return Ok(c.made_nullable(alloc)?);

@@ -6,7 +6,7 @@ ghost use Rattle.vx_dtype.specs.Values.{bool_val, value_of};
 ghost use Rattle.vx_dtype.specs.Logic.{is_null3};
 ghost use Rattle.vx_dtype.specs.Fits.{fits};
 ghost use Rattle.vx_dtype.specs.RawViews.{raw_view};
-ghost use Rattle.vx_column.specs.Answers.{Answers, column_of_raws};
+ghost use Rattle.vx_column.specs.Answers.{AnswersColumn, column_of_raws};
 ghost use Rattle.vx_dtype.specs.TypeRules.{no_name_twice, field_names, fields_of, with_nullability};
 ghost use Rattle.vx_dtype.specs.TypeViews.{type_view};
 ghost use Rattle.vx_column.specs.Columns.{Column, column, row_at, rows_fit, values_fit, seen, seen_rows, masked, zip_rows};
@@ -164,7 +164,7 @@ impl ColumnRef {
         dtype: DType,
         values: Vec<ScalarValue>,
     ) -> Result<ColumnRef, ColumnError>
-        ensures { Answers result (column_of_raws (type_view dtype) (map raw_view values.items)) }
+        ensures { AnswersColumn result (column_of_raws (type_view dtype) (map raw_view values.items)) }
     {
         if !all_fit(&dtype, values.as_slice()) {
             return Err(ColumnError::WrongValue);

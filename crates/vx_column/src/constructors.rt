@@ -10,7 +10,7 @@ ghost use Rattle.vx_column.specs.declared.errors.ColumnError.TheVariants.{Duplic
 ghost use Rattle.vx_column.specs.Columns.{Column, column};
 ghost use Rattle.vx_column.specs.Cells.{numbers_fit, truths_fit};
 ghost use Rattle.vx_column.specs.Totals.{number_fits};
-ghost use Rattle.vx_column.specs.Answers.{Answers, unless, optional_raw, list_raw, column_of_raws};
+ghost use Rattle.vx_column.specs.Answers.{AnswersColumn, unless, optional_raw, list_raw, column_of_raws};
 
 use crate::columns::ColumnRef;
 use crate::errors::ColumnError;
@@ -31,14 +31,14 @@ impl ColumnRef {
         dtype: DType,
         values: &[ScalarValue],
     ) -> Result<ColumnRef, ColumnError>
-        ensures { Answers result (column_of_raws (type_view dtype) (map raw_view values.now)) }
+        ensures { AnswersColumn result (column_of_raws (type_view dtype) (map raw_view values.now)) }
     {
         ColumnRef::of_values(alloc, dtype, Vec::from_clones(alloc, values)?)
     }
 
     /// The column of this many rows of one value. DuplicateField exactly where a name stands twice in a struct of its type, at any depth.
     pub fn constant(alloc: Global, value: &Scalar, len: usize) -> Result<ColumnRef, ColumnError>
-        ensures { Answers result (unless (no_name_twice value.now.ty) DuplicateField (Ok (column value.now.ty (replicate len (value_of value.now))))) }
+        ensures { AnswersColumn result (unless (no_name_twice value.now.ty) DuplicateField (Ok (column value.now.ty (replicate len (value_of value.now))))) }
     {
         if !value.dtype().has_distinct_names(alloc)? {
             return Err(ColumnError::DuplicateField);
@@ -53,7 +53,7 @@ impl ColumnRef {
         values: Vec<Option<bool>>,
         n: Nullability,
     ) -> Result<ColumnRef, ColumnError>
-        ensures { Answers result (column_of_raws (bool_ty n) (map (optional_raw raw_bool) values.items)) }
+        ensures { AnswersColumn result (column_of_raws (bool_ty n) (map (optional_raw raw_bool) values.items)) }
     {
         if !all_fit(n, values.as_slice()) {
             return Err(ColumnError::WrongValue);
@@ -70,7 +70,7 @@ impl ColumnRef {
         values: Vec<Option<i128>>,
         n: Nullability,
     ) -> Result<ColumnRef, ColumnError>
-        ensures { Answers result (column_of_raws (int_ty p n) (map (optional_raw raw_int) values.items)) }
+        ensures { AnswersColumn result (column_of_raws (int_ty p n) (map (optional_raw raw_int) values.items)) }
     {
         if !all_in_range(p, n, values.as_slice()) {
             return Err(ColumnError::WrongValue);
@@ -85,7 +85,7 @@ impl ColumnRef {
         values: Vec<Option<Text>>,
         n: Nullability,
     ) -> Result<ColumnRef, ColumnError>
-        ensures { Answers result (column_of_raws (text_ty n) (map (optional_raw raw_text) values.items)) }
+        ensures { AnswersColumn result (column_of_raws (text_ty n) (map (optional_raw raw_text) values.items)) }
     {
         let mut rows = Vec::with_capacity(alloc, values.len())?;
         for value in values {
@@ -106,7 +106,7 @@ impl ColumnRef {
         values: Vec<Option<Vec<ScalarValue>>>,
         n: Nullability,
     ) -> Result<ColumnRef, ColumnError>
-        ensures { Answers result (column_of_raws (list_ty (type_view element) n) (map (optional_raw list_raw) values.items)) }
+        ensures { AnswersColumn result (column_of_raws (list_ty (type_view element) n) (map (optional_raw list_raw) values.items)) }
     {
         let dtype = DType::List(ElementType::new(Rc::new(alloc, element)?), n);
         ColumnRef::of_values(alloc, dtype, list_rows(alloc, values)?)
@@ -149,7 +149,7 @@ fn has_number(p: PType, n: Nullability, number: Option<i128>) -> bool
 
 /// The column that was made, where nothing but want of memory can be in the way.
 pub fn made(answer: Result<ColumnRef, ColumnError>) -> Mem<ColumnRef>
-    requires { (told : Column) × Answers answer (Ok told) }
+    requires { (told : Column) × AnswersColumn answer (Ok told) }
     ensures { IfOk result (λ c. answer ≡ Ok c) }
 {
     match answer {

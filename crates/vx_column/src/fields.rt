@@ -9,7 +9,7 @@ ghost use Rattle.vx_column.specs.Columns.{seen};
 ghost use Rattle.vx_dtype.specs.TypeRules.{field_names, fields_of, widened};
 ghost use Rattle.vx_dtype.specs.StructTypes.{is_struct_ty};
 ghost use Rattle.vx_dtype.specs.Structs.{field_of};
-ghost use Rattle.vx_column.specs.Answers.{Answers, field_column, type_at_place, PartsOf};
+ghost use Rattle.vx_column.specs.Answers.{AnswersColumn, field_column, type_at_place, PartsOf};
 
 use crate::cells::{Cells, column_in, columns_in};
 use crate::columns::ColumnRef;
@@ -49,7 +49,7 @@ impl ColumnRef {
     /// UnknownField exactly where there is no field of this name.
     pub fn field(&self, alloc: Global, name: &FieldName) -> Result<ColumnRef, ColumnError>
         requires { is_struct_ty self.now.ty ≡ true }
-        ensures { Answers result (field_column name.now self.now) }
+        ensures { AnswersColumn result (field_column name.now self.now) }
     {
         let DType::Struct(fields, _) = self.dtype() else {
             return Err(ColumnError::UnknownField);

@@ -4,7 +4,7 @@ ghost use Rattle.std.specs.List.{All, AllZip};
 ghost use Rattle.vx_dtype.specs.Types.{struct_ty};
 ghost use Rattle.vx_dtype.specs.StructTypes.{is_struct_ty, projected};
 ghost use Rattle.vx_dtype.specs.Structs.{selected};
-ghost use Rattle.vx_column.specs.Answers.{Answers};
+ghost use Rattle.vx_column.specs.Answers.{AnswersColumn};
 ghost use Rattle.vx_column.specs.StructColumns.{projected_column, place_of, IsAtPlace};
 ghost use Rattle.vx_column.specs.Cells.{HasAtPlace};
 
@@ -50,7 +50,7 @@ impl ColumnRef {
     /// UnknownField exactly where there is no field of one of the names; else DuplicateField exactly where a name is asked twice.
     pub fn project(&self, alloc: Global, names: &[FieldName]) -> Result<ColumnRef, ColumnError>
         requires { is_struct_ty self.now.ty ≡ true }
-        ensures { Answers result (projected_column names.now self.now) }
+        ensures { AnswersColumn result (projected_column names.now self.now) }
     {
         match self.cells() {
             Cells::Masked { column, nulls } => {
@@ -64,7 +64,7 @@ impl ColumnRef {
     /// The column of structs of these fields, as `project` answers, whatever parts the column is kept in.
     fn projection_of(&self, alloc: Global, names: &[FieldName]) -> Result<ColumnRef, ColumnError>
         requires { is_struct_ty self.now.ty ≡ true }
-        ensures { Answers result (projected_column names.now self.now) }
+        ensures { AnswersColumn result (projected_column names.now self.now) }
     {
         let DType::Struct(fields, nullability) = self.dtype() else {
             return Err(ColumnError::UnknownField);

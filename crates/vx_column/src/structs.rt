@@ -5,7 +5,7 @@ ghost use Rattle.vx_dtype.specs.Values.{raw_struct};
 ghost use Rattle.vx_dtype.specs.RawViews.{raw_view, raws_of};
 ghost use Rattle.vx_dtype.specs.TypeRules.{no_name_twice};
 ghost use Rattle.vx_dtype.specs.TypeViews.{type_view};
-ghost use Rattle.vx_column.specs.Answers.{Answers};
+ghost use Rattle.vx_column.specs.Answers.{AnswersColumn};
 ghost use Rattle.vx_column.specs.Cells.{all_rows_fit};
 ghost use Rattle.vx_column.specs.StructColumns.{column_types, all_have_rows, truths_number, struct_column};
 
@@ -27,7 +27,7 @@ impl ColumnRef {
         len: usize,
         valid: Option<Vec<bool>>,
     ) -> Result<ColumnRef, ColumnError>
-        ensures { Answers result (struct_column names fields.items len (option_map (λ v. v.items) valid)) }
+        ensures { AnswersColumn result (struct_column names fields.items len (option_map (λ v. v.items) valid)) }
     {
         let truths = slice_of(&valid);
         if names.len() != fields.len() {

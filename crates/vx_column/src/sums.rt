@@ -4,7 +4,7 @@ ghost use Rattle.vx_dtype.specs.TypeRules.{is_int_ty, alike, nullability_of, uni
 ghost use Rattle.vx_dtype.specs.Sums.{add3, sub3};
 ghost use Rattle.vx_column.specs.declared.errors.ColumnError.TheVariants.{Overflow};
 ghost use Rattle.vx_column.specs.Columns.{column, zip_rows};
-ghost use Rattle.vx_column.specs.Answers.{Answers, unless_faulty};
+ghost use Rattle.vx_column.specs.Answers.{AnswersColumn, unless_faulty};
 ghost use Rattle.vx_column.specs.Totals.{total3, totals};
 ghost use Rattle.vx_numbers.specs.Numbers.{number_list, if_in_range};
 
@@ -42,7 +42,7 @@ impl Total {
         requires integers { is_int_ty l.now.ty ≡ true }
         requires same { alike l.now.ty r.now.ty ≡ true }
         requires lengths { length l.now.rows ≡ length r.now.rows }
-        ensures { Answers result (unless_faulty Overflow (column (with_nullability l.now.ty (union (nullability_of l.now.ty) (nullability_of r.now.ty)))
+        ensures { AnswersColumn result (unless_faulty Overflow (column (with_nullability l.now.ty (union (nullability_of l.now.ty) (nullability_of r.now.ty)))
             (zip_rows (total3 self) l.now.rows r.now.rows))) }
     {
         let left = numbers_of(alloc, l)?;
@@ -60,7 +60,7 @@ pub fn checked_add(alloc: Global, l: &ColumnRef, r: &ColumnRef) -> Result<Column
     requires integers { is_int_ty l.now.ty ≡ true }
     requires same { alike l.now.ty r.now.ty ≡ true }
     requires lengths { length l.now.rows ≡ length r.now.rows }
-    ensures { Answers result (unless_faulty Overflow (column (with_nullability l.now.ty (union (nullability_of l.now.ty) (nullability_of r.now.ty)))
+    ensures { AnswersColumn result (unless_faulty Overflow (column (with_nullability l.now.ty (union (nullability_of l.now.ty) (nullability_of r.now.ty)))
         (zip_rows add3 l.now.rows r.now.rows))) }
 {
     Total::Sum.columns(alloc, l, r)
@@ -71,7 +71,7 @@ pub fn checked_sub(alloc: Global, l: &ColumnRef, r: &ColumnRef) -> Result<Column
     requires integers { is_int_ty l.now.ty ≡ true }
     requires same { alike l.now.ty r.now.ty ≡ true }
     requires lengths { length l.now.rows ≡ length r.now.rows }
-    ensures { Answers result (unless_faulty Overflow (column (with_nullability l.now.ty (union (nullability_of l.now.ty) (nullability_of r.now.ty)))
+    ensures { AnswersColumn result (unless_faulty Overflow (column (with_nullability l.now.ty (union (nullability_of l.now.ty) (nullability_of r.now.ty)))
         (zip_rows sub3 l.now.rows r.now.rows))) }
 {
     Total::Difference.columns(alloc, l, r)

@@ -17,7 +17,7 @@ use Rattle.vx_dtype.specs.Values.{Val, null_val, fault, member}
 use Rattle.vx_dtype.specs.Zipped.{zipped}
 use Rattle.vx_expr.specs.Trees.{merge, Trees, no_trees, tree}
 use Rattle.vx_column.specs.Columns.{Column, column, row_at}
-use Rattle.vx_column.specs.Answers.{Answers, unless, found_column, field_column}
+use Rattle.vx_column.specs.Answers.{AnswersColumn, unless, found_column, field_column}
 use Rattle.vx_column.specs.StructColumns.{column_types, all_have_rows, row_members, made_struct, struct_column}
 use Rattle.vx_column.specs.declared.errors.ColumnError.{ColumnError}
 use Rattle.vx_column.specs.declared.errors.ColumnError.TheVariants.{WrongLength, DuplicateField}
@@ -208,8 +208,8 @@ module _ (names : List Bytes) (m : Nullability) (cs ds : List Column) (n : ℕ) 
       (merge_told ∙ ap (λ (d : Column). Ok d.ty) (sym same), ap (λ (d : Column). d.rows) same)
 
   -- and is not refused
-  pub merges_all : (e : ColumnError) → Answers (Err e) (struct_column names ds n (all_valid m n)) → Makes (merge_type m (column_types cs)) merged_rows (Err (failure_of e))
-  merges_all e k = fails_not (merge_type m (column_types cs)) merged_rows e merged_col (subst (Answers (Err e)) merged_told k)
+  pub merges_all : (e : ColumnError) → AnswersColumn (Err e) (struct_column names ds n (all_valid m n)) → Makes (merge_type m (column_types cs)) merged_rows (Err (failure_of e))
+  merges_all e k = fails_not (merge_type m (column_types cs)) merged_rows e merged_col (subst (AnswersColumn (Err e)) merged_told k)
 
 -- the columns of merged fields are those of their names
 pub found_by_name : (cs : List Column) (ms : List MergedField) (ds : List Column) → map (λ m. merged_column m.name cs) ms ≡ map Some ds → map (λ f. merged_column f cs) (map name_of ms) ≡ map Some ds

@@ -14,7 +14,7 @@ use Rattle.vx_dtype.specs.Values.{Val, null_val, member}
 use Rattle.vx_dtype.specs.Zipped.{zipped}
 use Rattle.vx_expr.specs.Trees.{Tree, pack, Trees, no_trees, tree}
 use Rattle.vx_column.specs.Columns.{Column, column, row_at}
-use Rattle.vx_column.specs.Answers.{Answers, unless}
+use Rattle.vx_column.specs.Answers.{AnswersColumn, unless}
 use Rattle.vx_column.specs.StructColumns.{column_types, all_have_rows, row_members, struct_column}
 use Rattle.vx_column.specs.declared.errors.ColumnError.{ColumnError}
 use Rattle.vx_column.specs.declared.errors.ColumnError.TheVariants.{WrongLength, DuplicateField}
@@ -82,7 +82,7 @@ module _ (names : List Bytes) (m : Nullability) (cs : List Column) (n : ℕ) (t 
   packed_by true false c p q k = absurd cc
   packed_by false d c p q k = absurd cc
 
-  unpacked_by : (b d : Bool) (e : ColumnError) → (length names == length cs) ≡ b → distinct_names names ≡ d → Answers (Err e) (unless b WrongLength (unless d DuplicateField (Ok packed)))
+  unpacked_by : (b d : Bool) (e : ColumnError) → (length names == length cs) ≡ b → distinct_names names ≡ d → AnswersColumn (Err e) (unless b WrongLength (unless d DuplicateField (Ok packed)))
       → Makes (pack_type names m (column_types cs)) packed_rows (Err (failure_of e))
   unpacked_by true true e p q k = fails_not (pack_type names m (column_types cs)) packed_rows e packed k
   unpacked_by true false e p q k =
@@ -101,5 +101,5 @@ module _ (names : List Bytes) (m : Nullability) (cs : List Column) (n : ℕ) (t 
   packs c k = packed_by (length names == length cs) (distinct_names names) c refl refl (k ∙ packed_told)
 
   -- and is refused where the rule refuses
-  pub packs_not : (e : ColumnError) → Answers (Err e) (struct_column names cs n (all_valid m n)) → Makes (pack_type names m (column_types cs)) packed_rows (Err (failure_of e))
-  packs_not e k = unpacked_by (length names == length cs) (distinct_names names) e refl refl (subst (Answers (Err e)) packed_told k)
+  pub packs_not : (e : ColumnError) → AnswersColumn (Err e) (struct_column names cs n (all_valid m n)) → Makes (pack_type names m (column_types cs)) packed_rows (Err (failure_of e))
+  packs_not e k = unpacked_by (length names == length cs) (distinct_names names) e refl refl (subst (AnswersColumn (Err e)) packed_told k)

@@ -20,7 +20,7 @@ use Rattle.vx_expr.specs.declared.FieldSelection.TheVariants.{Include, Exclude}
 use Rattle.vx_expr.specs.Children.{where_so}
 use Rattle.vx_expr.specs.Selections.{listed_names, taken_names, names_where_known}
 use Rattle.vx_column.specs.Columns.{Column, column, rows_fit}
-use Rattle.vx_column.specs.Answers.{Answers, unless as unless_column}
+use Rattle.vx_column.specs.Answers.{AnswersColumn, unless as unless_column}
 use Rattle.vx_column.specs.StructColumns.{found_fields, projected_column}
 use Rattle.vx_column.specs.declared.errors.ColumnError.{ColumnError}
 use Rattle.vx_column.specs.declared.errors.ColumnError.TheVariants.{DuplicateField}
@@ -229,7 +229,7 @@ module _ (s : FieldSelection) (fs : Fields) (taken : List Bytes) (vs : List Val)
   chosen_by false e c k = absurd cc
 
   refused_by : (b : Bool) → included_once s ≡ b → (x : ColumnError)
-      → Answers (Err x) (unless_column b DuplicateField (Ok (column (struct_ty (selected_fields s fs) NonNullable) (map (select3 s) vs))))
+      → AnswersColumn (Err x) (unless_column b DuplicateField (Ok (column (struct_ty (selected_fields s fs) NonNullable) (map (select3 s) vs))))
       → Makes (select_type s (struct_ty fs NonNullable)) (map (select3 s) vs) (Err (failure_of x))
   refused_by true e x k = fails_not (select_type s (struct_ty fs NonNullable)) (map (select3 s) vs) x (column (struct_ty (selected_fields s fs) NonNullable) (map (select3 s) vs)) k
   refused_by false e x k =
@@ -241,9 +241,9 @@ module _ (s : FieldSelection) (fs : Fields) (taken : List Bytes) (vs : List Val)
   chosen c k = chosen_by (included_once s) refl c (k ∙ told_by (included_once s) refl)
 
   -- and are refused where the rule refuses
-  pub refused : (e : ColumnError) → Answers (Err e) (projected_column taken (column (struct_ty fs NonNullable) vs))
+  pub refused : (e : ColumnError) → AnswersColumn (Err e) (projected_column taken (column (struct_ty fs NonNullable) vs))
       → Makes (select_type s (struct_ty fs NonNullable)) (map (select3 s) vs) (Err (failure_of e))
-  refused e k = refused_by (included_once s) refl e (subst (Answers (Err e)) (told_by (included_once s) refl) k)
+  refused e k = refused_by (included_once s) refl e (subst (AnswersColumn (Err e)) (told_by (included_once s) refl) k)
 
 -- ---- the answers of the step
 
@@ -296,7 +296,7 @@ module _ (s : FieldSelection) (fs : Fields) (taken : List Bytes) (col : Column) 
   selects c k =
       subst (λ t. Makes (select_type s t) (map (select3 s) col.rows) (Ok c)) (sym at) (chosen s fs taken col.rows (takes s fs taken named) once_here fit_here c (k ∙ here))
 
-  pub selects_not : (e : ColumnError) → Answers (Err e) (projected_column taken col) → Makes (select_type s col.ty) (map (select3 s) col.rows) (Err (failure_of e))
+  pub selects_not : (e : ColumnError) → AnswersColumn (Err e) (projected_column taken col) → Makes (select_type s col.ty) (map (select3 s) col.rows) (Err (failure_of e))
   selects_not e k =
       subst (λ t. Makes (select_type s t) (map (select3 s) col.rows) (Err (failure_of e))) (sym at)
-      (refused s fs taken col.rows (takes s fs taken named) once_here fit_here e (subst (Answers (Err e)) here k))
+      (refused s fs taken col.rows (takes s fs taken named) once_here fit_here e (subst (AnswersColumn (Err e)) here k))

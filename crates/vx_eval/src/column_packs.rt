@@ -3,7 +3,7 @@ ghost use Rattle.std.specs.Prelude.{◌≡◌, ℕ, List, length, map, option_ma
 ghost use Rattle.vx_dtype.specs.Types.{Ty};
 ghost use Rattle.vx_dtype.specs.Values.{Val};
 ghost use Rattle.vx_expr.specs.Trees.{Trees, pack};
-ghost use Rattle.vx_column.specs.Answers.{Answers};
+ghost use Rattle.vx_column.specs.Answers.{AnswersColumn};
 ghost use Rattle.vx_column.specs.StructColumns.{column_types, struct_column};
 ghost use Rattle.vx_semantics.specs.Typing.{pack_type};
 ghost use Rattle.vx_semantics.specs.Meaning.{Slots, mean};
@@ -34,7 +34,7 @@ pub(crate) fn whole_structs(
     fields: Vec<ColumnRef>,
     len: usize,
 ) -> Result<ColumnRef, ColumnError>
-    ensures { Answers result (struct_column names fields.items len (all_valid nullability len)) }
+    ensures { AnswersColumn result (struct_column names fields.items len (all_valid nullability len)) }
 {
     let truths = all_valid(alloc, nullability, len)?;
     ColumnRef::struct_(alloc, names, fields, len, truths)

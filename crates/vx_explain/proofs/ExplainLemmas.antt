@@ -24,7 +24,7 @@ use Rattle.vx_scan.specs.Scanning.{scan_type}
 use Rattle.vx_scan.specs.Texts.{SpellsTree, IsTextRefused, SpellBoth, AreRefused}
 use Rattle.vx_scan.specs.declared.errors.Side.TheVariants.{Filter, Projection}
 use Rattle.vx_scan.specs.declared.errors.ScanError.{ScanError}
-use Rattle.vx_explain.specs.Explanations.{parts_of, parts_text, pruning_text, required_names, told, explanation_lines}
+use Rattle.vx_explain.specs.Explanations.{parts_of, parts_text, pruning_text, required_names, labelled, explanation_lines}
 use Rattle.vx_scan.proofs.KindLemmas.{text_refused_so}
 use Rattle.vx_explain.specs.Explaining.{IsUnexplained, Explains}
 
@@ -54,22 +54,22 @@ none_required None zs h = refl
 none_required (Some p) zs h = absurd h
 
 -- lines and what stands behind them
-told_then : (word text rest more : Bytes) → told word text rest ++ more ≡ told word text (rest ++ more)
-told_then word text rest more =
+labelled_then : (word text rest more : Bytes) → labelled word text rest ++ more ≡ labelled word text (rest ++ more)
+labelled_then word text rest more =
     append_assoc word (text ++ (codes "\n" ++ rest)) more ∙ ap (λ x. word ++ x) (append_assoc text (codes "\n" ++ rest) more)
 
 pub lines_joined : (filter_text pruning required filter_parts projection_text projection_parts : Bytes)
-    → told (codes "filter ") filter_text (told (codes "pruning ") pruning (told (codes "required ") required (told (codes "parts ") filter_parts [])))
-    ++ told (codes "projection ") projection_text (told (codes "parts ") projection_parts [])
+    → labelled (codes "filter ") filter_text (labelled (codes "pruning ") pruning (labelled (codes "required ") required (labelled (codes "parts ") filter_parts [])))
+    ++ labelled (codes "projection ") projection_text (labelled (codes "parts ") projection_parts [])
     ≡ explanation_lines filter_text pruning required filter_parts projection_text projection_parts
 lines_joined filter_text pruning required filter_parts projection_text projection_parts =
-    let rest = told (codes "projection ") projection_text (told (codes "parts ") projection_parts []) in
-    let last = told (codes "parts ") filter_parts [] in
-    told_then (codes "filter ") filter_text (told (codes "pruning ") pruning (told (codes "required ") required last)) rest
-    ∙ ap (told (codes "filter ") filter_text) (
-    told_then (codes "pruning ") pruning (told (codes "required ") required last) rest
-    ∙ ap (told (codes "pruning ") pruning) (
-    told_then (codes "required ") required last rest ∙ ap (told (codes "required ") required) (told_then (codes "parts ") filter_parts [] rest)))
+    let rest = labelled (codes "projection ") projection_text (labelled (codes "parts ") projection_parts []) in
+    let last = labelled (codes "parts ") filter_parts [] in
+    labelled_then (codes "filter ") filter_text (labelled (codes "pruning ") pruning (labelled (codes "required ") required last)) rest
+    ∙ ap (labelled (codes "filter ") filter_text) (
+    labelled_then (codes "pruning ") pruning (labelled (codes "required ") required last) rest
+    ∙ ap (labelled (codes "pruning ") pruning) (
+    labelled_then (codes "required ") required last rest ∙ ap (labelled (codes "required ") required) (labelled_then (codes "parts ") filter_parts [] rest)))
 
 -- a text that spells nothing refuses both, and so does what is not typed
 module _ (holds : ExprEncoding → Bool) (zones : Zones) (ft pt : Bytes) where

@@ -43,18 +43,18 @@ required_names stats (Some p) =
     map (λ z. quoted_text (joined_name z.path z.stat)) (filter (λ z. list_any (same_question (z.path, z.stat)) p.required) stats)
 
 -- a line of a word and a text, before those that follow
-abbrev pub told : Bytes → Bytes → Bytes → Bytes
-told word text rest = word ++ (text ++ (codes "\n" ++ rest))
+abbrev pub labelled : Bytes → Bytes → Bytes → Bytes
+labelled word text rest = word ++ (text ++ (codes "\n" ++ rest))
 
 -- the lines of an explanation: of the filter, its pruning expression, the statistics that this needs, and its parts; of the projection and its parts
 abbrev pub explanation_lines : Bytes → Bytes → Bytes → Bytes → Bytes → Bytes → Bytes
 explanation_lines filter_text pruning required filter_parts projection_text projection_parts =
-    told (codes "filter ") filter_text
-    (told (codes "pruning ") pruning
-    (told (codes "required ") required
-    (told (codes "parts ") filter_parts
-    (told (codes "projection ") projection_text
-    (told (codes "parts ") projection_parts [])))))
+    labelled (codes "filter ") filter_text
+    (labelled (codes "pruning ") pruning
+    (labelled (codes "required ") required
+    (labelled (codes "parts ") filter_parts
+    (labelled (codes "projection ") projection_text
+    (labelled (codes "parts ") projection_parts [])))))
 
 -- the explanation of a filter and a projection over a table with these zones
 abbrev pub explain_text : Zones → Tree → Tree → Bytes

@@ -5,7 +5,7 @@ ghost use Rattle.vx_partition.specs.Splits.{split_view};
 ghost use Rattle.vx_partition.specs.SplitTexts.{split_text};
 ghost use Rattle.vx_wire.specs.Registries.{registered};
 ghost use Rattle.vx_scan.specs.Opening.{ArePrepared};
-ghost use Rattle.vx_explain.specs.Explanations.{explain_text, explanation_lines, told};
+ghost use Rattle.vx_explain.specs.Explanations.{explain_text, explanation_lines, labelled};
 ghost use Rattle.vx_explain.specs.Explaining.{Explains};
 
 use crate::pruning::{pruning_text, required_text};
@@ -115,9 +115,9 @@ fn lines(alloc: Global, texts: &Texts) -> Mem<String>
 
 /// The lines on the filter.
 fn filter_lines(alloc: Global, texts: &Texts) -> Mem<String>
-    ensures { IfOk result (λ text. string_bytes text ≡ told (codes "filter ") (string_bytes texts.now.filter)
-        (told (codes "pruning ") (string_bytes texts.now.pruning) (told (codes "required ") (string_bytes texts.now.required)
-        (told (codes "parts ") (string_bytes texts.now.filter_parts) [])))) }
+    ensures { IfOk result (λ text. string_bytes text ≡ labelled (codes "filter ") (string_bytes texts.now.filter)
+        (labelled (codes "pruning ") (string_bytes texts.now.pruning) (labelled (codes "required ") (string_bytes texts.now.required)
+        (labelled (codes "parts ") (string_bytes texts.now.filter_parts) [])))) }
 {
     let text = format!(in alloc;
         "filter {}\npruning {}\nrequired {}\nparts {}\n",
@@ -128,8 +128,8 @@ fn filter_lines(alloc: Global, texts: &Texts) -> Mem<String>
 
 /// The lines on the projection.
 fn projection_lines(alloc: Global, texts: &Texts) -> Mem<String>
-    ensures { IfOk result (λ text. string_bytes text ≡ told (codes "projection ") (string_bytes texts.now.projection)
-        (told (codes "parts ") (string_bytes texts.now.projection_parts) [])) }
+    ensures { IfOk result (λ text. string_bytes text ≡ labelled (codes "projection ") (string_bytes texts.now.projection)
+        (labelled (codes "parts ") (string_bytes texts.now.projection_parts) [])) }
 {
     let text = format!(in alloc;
         "projection {}\nparts {}\n",

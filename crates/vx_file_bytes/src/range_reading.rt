@@ -2,7 +2,7 @@
 ghost use Rattle.std.specs.Prelude.{◌≡◌, true, Ok, IfOk, IfSome, option_map};
 ghost use Rattle.vx_dtype.specs.TypeRules.{no_name_twice};
 ghost use Rattle.vx_dtype.specs.TypeViews.{type_view};
-ghost use Rattle.vx_column.specs.Answers.{Answers};
+ghost use Rattle.vx_column.specs.Answers.{AnswersColumn};
 ghost use Rattle.vx_column.specs.Columns.{Column as ColumnData, column, values_fit, seen_rows};
 ghost use Rattle.vx_laws_file.specs.HeldTables.{values_at, range_values};
 
@@ -36,7 +36,7 @@ fn values_front<'a>(
 
 /// The column that was made, where nothing but want of memory can be in the way.
 fn made(answer: Result<ColumnRef, ColumnError>) -> Mem<ColumnRef>
-    requires { (told : ColumnData) × Answers answer (Ok told) }
+    requires { (told : ColumnData) × AnswersColumn answer (Ok told) }
     ensures { IfOk result (λ c. answer ≡ Ok c) }
 {
     match answer {

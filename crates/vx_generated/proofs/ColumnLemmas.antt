@@ -9,7 +9,7 @@ use Rattle.vx_dtype.specs.TypeRules.{no_name_twice}
 use Rattle.vx_dtype.specs.Fits.{fits}
 use Rattle.vx_dtype.specs.Values.{Raw, raw_int, Val, valued}
 use Rattle.vx_column.specs.Columns.{Column, column, raws_fit, raw_rows}
-use Rattle.vx_column.specs.Answers.{Answers, unless, optional_raw, column_of_raws}
+use Rattle.vx_column.specs.Answers.{AnswersColumn, unless, optional_raw, column_of_raws}
 use Rattle.vx_column.specs.declared.errors.ColumnError.{ColumnError}
 use Rattle.vx_column.specs.declared.errors.ColumnError.TheVariants.{WrongValue}
 use Rattle.vx_laws_generated.specs.GeneratedTable.{GeneratedColumn, id_column, v_column, integer_of, nullability_of, number_at, number_val, numbers_in, block_length}
@@ -90,17 +90,17 @@ made-in c rows block integers h within e =
 -- an answer that is made of them
 pub answers-made : (c : GeneratedColumn) (rows block : ℕ) (p : PType) (m : Nullability) (integers : List (Option ℤ)) (answer : Result Column ColumnError)
     → rows < 2 ^ 32 → block < (rows + 63) / 64 → p ≡ integer_of c → m ≡ nullability_of c → integers ≡ integers_of (numbers_in c rows block)
-    → Answers answer (column_of_raws (int_ty p m) (map (optional_raw raw_int) integers)) → Answers answer (Ok (column_in c rows block))
+    → AnswersColumn answer (column_of_raws (int_ty p m) (map (optional_raw raw_int) integers)) → AnswersColumn answer (Ok (column_in c rows block))
 answers-made c rows block p m integers answer h within e g k told =
     let types : column_of_raws (int_ty p m) (map (optional_raw raw_int) integers)
     ≡ column_of_raws (int_ty (integer_of c) (nullability_of c)) (map (optional_raw raw_int) integers) =
     ap₂ (λ (q : PType) (n : Nullability). column_of_raws (int_ty q n) (map (optional_raw raw_int) integers)) e g in
-    subst (Answers answer) (types ∙ made-in c rows block integers h within k) told
+    subst (AnswersColumn answer) (types ∙ made-in c rows block integers h within k) told
 
-pub made-is : {E : Type 0} (told : Column) (answer : Result Column ColumnError) (result : Result Column E) → IfOk result (λ c. answer ≡ Ok c) → Answers answer (Ok told)
+pub made-is : {E : Type 0} (told : Column) (answer : Result Column ColumnError) (result : Result Column E) → IfOk result (λ c. answer ≡ Ok c) → AnswersColumn answer (Ok told)
     → IfOk result (λ c. c ≡ told)
 made-is {E} told answer (Err e) h k = tt
-made-is {E} told answer (Ok c) h k = ok-is c told (subst (λ a. Answers a (Ok told)) h k)
+made-is {E} told answer (Ok c) h k = ok-is c told (subst (λ a. AnswersColumn a (Ok told)) h k)
   where
-    ok-is : (a b : Column) → Answers (Ok a) (Ok b) → a ≡ b
+    ok-is : (a b : Column) → AnswersColumn (Ok a) (Ok b) → a ≡ b
     ok-is a b e = cc

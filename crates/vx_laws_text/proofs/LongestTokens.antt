@@ -1,6 +1,7 @@
 -- The token at the front of a text is the longest that stands there.
 use Rattle.std.proofs.Common.{◌≡◌, ℕ, ◌≤◌, Bool, true, false, [], ◌∷◌, ◌++◌, length, refl, sym, ap, subst, ◌∙◌, append_assoc, Option, Some, None, arith, length-append, codes}
 use Rattle.std.specs.Prelude.{option_map, if◌then◌else◌, ◌==◌, ◌||◌}
+use Rattle.std.specs.Option.{option_or}
 use Rattle.std.specs.List.{list_all, flat_map}
 use Rattle.std.specs.Str.{is_utf8, bytes_eq}
 use Rattle.std.proofs.lemmas.Bool.{and_parts}
@@ -15,7 +16,7 @@ use Rattle.vx_tokens.specs.declared.tokens.Sign.{Sign}
 use Rattle.vx_tokens.specs.declared.tokens.Sign.TheVariants as signs
 use Rattle.vx_tokens.specs.declared.tokens.Token.{Token}
 use Rattle.vx_tokens.specs.declared.tokens.Token.TheVariants.{Reserved, Word, Quoted, Quote, Number, Mark}
-use Rattle.vx_tokens.specs.Tokens.{◌>>=◌, is_first, is_digit, is_inner, before, run_of, keyword_of, word_or, word_token, integer_named, suffix_of, is_number, number_behind, quoted_run, two_signs, bracket_of, stop_of, operation_of, or_else, one_sign, longer_sign, sign_at, word_behind, quoted_behind, name_behind, text_behind, marked_at, token_at}
+use Rattle.vx_tokens.specs.Tokens.{◌>>=◌, is_first, is_digit, is_inner, before, run_of, keyword_of, word_or, word_token, integer_named, suffix_of, is_number, number_behind, quoted_run, two_signs, bracket_of, stop_of, operation_of, one_sign, longer_sign, sign_at, word_behind, quoted_behind, name_behind, text_behind, marked_at, token_at}
 use Rattle.vx_tokens.specs.Names.{doubled, within_marks, is_word}
 use Rattle.vx_laws_text.specs.Longest.{sign_text, suffix_text, goes_on, SpellsToken, Stands, TokenStands, NoLongerStands}
 use Rattle.vx_laws_text.proofs.Cutting.{begins}
@@ -189,14 +190,14 @@ operation_is b s e =
     pick_sign b 43 signs.Plus s _ refl (pick_sign b 45 signs.Minus s _ refl (pick_sign b 61 signs.Eq s _ refl (pick_sign b 62 signs.Gt s _ refl
     (pick_sign b 60 signs.Lt s None refl (λ h. absurd cc))))) e
 
-either_is : (b : ℕ) (s : Sign) (o other : Option Sign) → (o ≡ Some s → sign_text s ≡ b ∷ []) → (other ≡ Some s → sign_text s ≡ b ∷ []) → or_else o other ≡ Some s → sign_text s ≡ b ∷ []
+either_is : (b : ℕ) (s : Sign) (o other : Option Sign) → (o ≡ Some s → sign_text s ≡ b ∷ []) → (other ≡ Some s → sign_text s ≡ b ∷ []) → option_or o other ≡ Some s → sign_text s ≡ b ∷ []
 either_is b s None other h k e = k e
 either_is b s (Some x) other h k e = h e
 
 one_is : (b : ℕ) (s : Sign) → one_sign b ≡ Some s → sign_text s ≡ b ∷ []
 unfolding one_sign
 one_is b s e =
-    either_is b s (bracket_of b) (or_else (stop_of b) (operation_of b)) (bracket_is b s) (either_is b s (stop_of b) (operation_of b) (stop_is b s) (operation_is b s)) e
+    either_is b s (bracket_of b) (option_or (stop_of b) (operation_of b)) (bracket_is b s) (either_is b s (stop_of b) (operation_of b) (stop_is b s) (operation_is b s)) e
 
 pick_pair : (a k : ℕ) (made s : Sign) (other : Option Sign) → sign_text made ≡ k ∷ 61 ∷ [] → (other ≡ Some s → sign_text s ≡ a ∷ 61 ∷ []) → (if a == k then Some made else other) ≡ Some s → sign_text s ≡ a ∷ 61 ∷ []
 pick_pair a k made s other text more e = go (a == k) refl e

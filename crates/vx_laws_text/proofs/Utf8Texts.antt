@@ -1,6 +1,7 @@
 -- In a text that is UTF-8, what stands between two marks and behind a token is UTF-8.
 use Rattle.std.proofs.Common.{◌≡◌, ℕ, zero, suc, ◌+◌, ◌<◌, ◌≤◌, Bool, true, false, List, [], ◌∷◌, ◌++◌, length, get_or, take, drop, refl, sym, ap, subst, ◌∙◌, append_assoc, append-nil, Option, Some, None, arith, IsUtf8, length-append, ◌⊎◌, inl, inr}
 use Rattle.std.specs.Prelude.{option_map, if◌then◌else◌, ◌==◌}
+use Rattle.std.specs.Option.{option_or}
 use Rattle.std.specs.Str.{is_utf8}
 use Rattle.std.proofs.lemmas.Str.{IsUtf8-nil, IsUtf8-append, IsUtf8-take, IsUtf8-drop, IsUtf8-from_ascii, IsCharBoundary-before_ascii, IsCharBoundary-after_ascii, IsUtf8-from_is_utf8, is_utf8-from_IsUtf8}
 use Rattle.std.proofs.lemmas.Str.Ascii.{IsAscii-nil, IsAscii-cons}
@@ -10,7 +11,7 @@ use Rattle.vx_dtype.specs.Types.{Bytes}
 use Rattle.vx_tokens.specs.declared.tokens.Sign.{Sign}
 use Rattle.vx_tokens.specs.declared.tokens.Token.{Token}
 use Rattle.vx_tokens.specs.declared.tokens.Token.TheVariants.{Quoted, Quote, Mark}
-use Rattle.vx_tokens.specs.Tokens.{◌>>=◌, is_blank, is_first, is_digit, is_inner, before, run_of, word_token, number_of, number_behind, quoted_run, two_signs, bracket_of, stop_of, operation_of, or_else, one_sign, longer_sign, sign_at, word_behind, quoted_behind, name_behind, text_behind, marked_at, token_at, next_token, tokens_within}
+use Rattle.vx_tokens.specs.Tokens.{◌>>=◌, is_blank, is_first, is_digit, is_inner, before, run_of, word_token, number_of, number_behind, quoted_run, two_signs, bracket_of, stop_of, operation_of, one_sign, longer_sign, sign_at, word_behind, quoted_behind, name_behind, text_behind, marked_at, token_at, next_token, tokens_within}
 use Rattle.vx_laws_text.specs.Unchecked.{unchecked_name, unchecked_text, unchecked_mark_at, unchecked_at, unchecked_next, unchecked_within, QuotedIsUtf8, RestIsUtf8, TestChangesNothing}
 use Rattle.vx_laws_text.proofs.Pieces.{if-true}
 
@@ -182,7 +183,7 @@ no_operation b high = grind (arith, nat_tests)
 
 no_sign : (b : ℕ) → 128 ≤ b → one_sign b ≡ None
 unfolding one_sign
-no_sign b high = ap (λ (o : Option Sign). or_else o (or_else (stop_of b) (operation_of b))) (no_bracket b high) ∙ (ap (λ (o : Option Sign). or_else o (operation_of b)) (no_stop b high) ∙ no_operation b high)
+no_sign b high = ap (λ (o : Option Sign). option_or o (option_or (stop_of b) (operation_of b))) (no_bracket b high) ∙ (ap (λ (o : Option Sign). option_or o (operation_of b)) (no_stop b high) ∙ no_operation b high)
 
 no_pair : (b c : ℕ) → 128 ≤ b → two_signs b c ≡ None
 no_pair b c high = grind (arith, nat_tests)

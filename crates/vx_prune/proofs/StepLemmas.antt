@@ -7,7 +7,7 @@ use Rattle.vx_expr.specs.Operators.{comparison_of, inverse_comparison}
 use Rattle.vx_expr.specs.Trees.{Tree, binary, not_of}
 use Rattle.vx_passes.specs.Catalogs.{Catalog}
 use Rattle.vx_passes.specs.Falsifying.{Question, Found, comparison_falsified, found_by, found_in, and_of, or_of, joined_known, falsified}
-use Rattle.vx_prune.specs.Finding.{Answers, AsksSome, Finds}
+use Rattle.vx_prune.specs.Finding.{AnswersFound, AsksSome, Finds}
 use Rattle.vx_prune.specs.Steps.{Task, ask, second_of_either, second_of_both, join_either, join_both, second_task, asked_comparison, filtered, held, after_asking, stepped, all_stepped}
 use Rattle.vx_prune.specs.Steps.{further_steps, task_steps, tasks_steps, Leads, Takes, Goes}
 use Rattle.vx_prune.proofs.FindingLemmas.{Stops, fails, some_more, some_then}
@@ -173,7 +173,7 @@ module _ {S : Type 0} (answer : S → Catalog) (asked : S → List Question) whe
   -- what finds the same of the catalog as it was
   pub found_same : {E : Type 0} (find other : Catalog → Found) (before after : S) (result : Result (Option Tree) E) → find (answer before) ≡ other (answer before)
       → Finds answer asked find before after result → Finds answer asked other before after result
-  found_same find other before after result e h = record { same = h.same; found = subst (λ x. Answers x (asked before) (asked after) result) e h.found }
+  found_same find other before after result e h = record { same = h.same; found = subst (λ x. AnswersFound x (asked before) (asked after) result) e h.found }
 
   -- steps stand for what is to be found
   pub leaves : (find : Catalog → Found) (most : ℕ) (old new rest : List Task) (here : S) (found : Option Tree) → new ≡ old ++ rest → tasks_steps rest < most

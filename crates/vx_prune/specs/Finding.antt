@@ -12,12 +12,12 @@ pub record AsksSome (all before after : List Question) : Type 0 where
   pub grown : after ≡ before ++ part
 
 -- the answer is what is found, and just the questions for it were asked; without memory a first part of them was asked
-abbrev pub Answers : {E : Type 0} → Found → List Question → List Question → Result (Option Tree) E → Type 0
-Answers x before after (Ok tree) = (tree ≡ x.tree) × (after ≡ before ++ x.asked)
-Answers x before after (Err e) = AsksSome x.asked before after
+abbrev pub AnswersFound : {E : Type 0} → Found → List Question → List Question → Result (Option Tree) E → Type 0
+AnswersFound x before after (Ok tree) = (tree ≡ x.tree) × (after ≡ before ++ x.asked)
+AnswersFound x before after (Err e) = AsksSome x.asked before after
 
 -- the answer is what is found of the catalog as it was, just the questions for it were asked, and the catalog answers what it answered
 pub record Finds {S E : Type 0} (answer : S → Catalog) (asked : S → List Question) (find : Catalog → Found) (before after : S)
     (result : Result (Option Tree) E) : Type 0 where
   pub same : answer after ≡ answer before
-  pub found : Answers (find (answer before)) (asked before) (asked after) result
+  pub found : AnswersFound (find (answer before)) (asked before) (asked after) result

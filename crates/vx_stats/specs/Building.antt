@@ -10,8 +10,8 @@ use Rattle.vx_stats.specs.declared.errors.StatsError.TheVariants.{NoMemory, Wron
 
 -- the answer is the zones that the rows of the table have, where the blocks are one with these zones; else their refusal; want of memory may be
 -- answered at any time
-abbrev pub Answers : Zones → List (List Column) → Result Zones StatsError → Type 0
-Answers zones blocks (Ok built) = (built ≡ built_zones (table_of_blocks zones blocks)) × (table_refusal zones blocks ≡ None)
-Answers zones blocks (Err NoMemory) = Unit {0}
-Answers zones blocks (Err WrongLength) = table_refusal zones blocks ≡ Some refusals.WrongLength
-Answers zones blocks (Err WrongType) = table_refusal zones blocks ≡ Some refusals.WrongType
+abbrev pub AnswersBuilt : Zones → List (List Column) → Result Zones StatsError → Type 0
+AnswersBuilt zones blocks (Ok built) = (built ≡ built_zones (table_of_blocks zones blocks)) × (table_refusal zones blocks ≡ None)
+AnswersBuilt zones blocks (Err NoMemory) = Unit {0}
+AnswersBuilt zones blocks (Err WrongLength) = table_refusal zones blocks ≡ Some refusals.WrongLength
+AnswersBuilt zones blocks (Err WrongType) = table_refusal zones blocks ≡ Some refusals.WrongType

@@ -4,7 +4,7 @@ ghost use Rattle.std.specs.List.{AllByRecursion};
 ghost use Rattle.vx_zones.specs.ZoneViews.{stat_view};
 ghost use Rattle.vx_tables.specs.Blocks.{block_view, have_lengths, have_types, table_of_blocks};
 ghost use Rattle.vx_laws_stats.specs.BuiltStatistics.{built_stats};
-ghost use Rattle.vx_stats.specs.Building.{Answers};
+ghost use Rattle.vx_stats.specs.Building.{AnswersBuilt};
 ghost use Rattle.vx_stats.specs.ColumnFacts.{column_at};
 
 use crate::errors::StatsError;
@@ -26,7 +26,7 @@ pub fn build_stats(
     zones: &ZoneMap,
     blocks: &[Vec<ColumnRef>],
 ) -> Result<ZoneMap, StatsError>
-    ensures { Answers zones.now (map block_view blocks.now) result }
+    ensures { AnswersBuilt zones.now (map block_view blocks.now) result }
 {
     if !have_lengths(zones, blocks) {
         return Err(StatsError::WrongLength);
@@ -48,7 +48,7 @@ fn zones_with(
     requires lengths { have_lengths zones.now (map block_view blocks.now) ≡ true }
     requires types { have_types zones.now (map block_view blocks.now) ≡ true }
     requires stats { map stat_view stats.items ≡ built_stats (table_of_blocks zones.now (map block_view blocks.now)) }
-    ensures { Answers zones.now (map block_view blocks.now) result }
+    ensures { AnswersBuilt zones.now (map block_view blocks.now) result }
 {
     let fields = columns_of(zones).clone()?;
     let lengths = Vec::from_slice(alloc, zones.lengths())?;

@@ -27,6 +27,6 @@ unfoldable pub reading_of : Bytes → Result Tree TextError
 reading_of bytes = if nat_lt most_bytes (length bytes) then Err errors.TooLong else query_or_refused (tokens_of bytes)
 
 -- the answer is this, but for want of memory, which may be answered at any time
-abbrev pub IsRead : Bytes → Result Tree TextError → Type 0
-IsRead bytes (Err errors.NoMemory) = Unit {0}
-IsRead bytes answer = reading_of bytes ≡ answer
+abbrev pub IsQueryRead : Bytes → Result Tree TextError → Type 0
+IsQueryRead bytes (Err errors.NoMemory) = Unit {0}
+IsQueryRead bytes answer = reading_of bytes ≡ answer

@@ -1,6 +1,6 @@
 // Reading a text as an expression.
 ghost use Rattle.std.specs.Prelude.{◌≡◌, Some};
-ghost use Rattle.vx_text.specs.Reading.{IsRead};
+ghost use Rattle.vx_text.specs.Reading.{IsQueryRead};
 
 use crate::errors::TextError;
 use crate::parts::MOST_TOKENS;
@@ -23,7 +23,7 @@ pub const MOST_BYTES: usize = 1_048_576;
 /// - `BadValue` exactly where a number or an item isn't a value of its type.
 #[tactic(auto, unfolding(crate::specs::Reading::reading_of))]
 pub fn read_query(alloc: Global, text: &str) -> Result<ExprRef, TextError>
-    ensures { IsRead text.now result }
+    ensures { IsQueryRead text.now result }
 {
     let bytes = text.as_bytes();
     if bytes.len() > MOST_BYTES {

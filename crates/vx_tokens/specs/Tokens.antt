@@ -1,6 +1,7 @@
 -- Tokens: what a text is cut into, the longest one at each place.
 use Rattle.std.specs.Prelude.{ℕ, zero, suc, ◌==◌, nat_lt, Bool, true, false, not, ◌&&◌, ◌||◌, if◌then◌else◌}
 use Rattle.std.specs.Prelude.{List, [], ◌∷◌, ◌++◌, length, Option, Some, None, option_map, codes}
+use Rattle.std.specs.Option.{option_or}
 use Rattle.std.specs.Str.{bytes_eq, is_utf8}
 use Rattle.vx_dtype.specs.declared.PType.{PType}
 use Rattle.vx_dtype.specs.Types.{Bytes}
@@ -78,12 +79,8 @@ match_word_of s =
     (if bytes_eq s (codes "between_oc") then Some words.BetweenOc else
     (if bytes_eq s (codes "between_co") then Some words.BetweenCo else None)))))))
 
-abbrev pub or_else : {A : Type 0} → Option A → Option A → Option A
-or_else (Some x) other = Some x
-or_else None other = other
-
 unfoldable pub keyword_of : Bytes → Option Keyword
-keyword_of s = or_else (connective_of s) (or_else (call_word_of s) (match_word_of s))
+keyword_of s = option_or (connective_of s) (option_or (call_word_of s) (match_word_of s))
 
 -- a word: one that is reserved, or one that may be a name
 abbrev pub word_or : Bytes → Option Keyword → Token
@@ -165,7 +162,7 @@ operation_of b =
     (if b == 60 then Some signs.Lt else None))))
 
 unfoldable pub one_sign : ℕ → Option Sign
-one_sign b = or_else (bracket_of b) (or_else (stop_of b) (operation_of b))
+one_sign b = option_or (bracket_of b) (option_or (stop_of b) (operation_of b))
 
 -- the sign of two characters where there is one, or else the sign of the first
 abbrev pub longer_sign : Option Sign → ℕ → ℕ → Bytes → Option (Token × Bytes)

@@ -9,7 +9,7 @@ use Rattle.vx_wire_bytes.specs.declared.trees.WireTree.{WireTree}
 use Rattle.vx_wire_bytes.specs.declared.trees.WireTree.TheViews.{out-WireTree}
 use Rattle.vx_wire_bytes.proofs.TreeLemmas.{tree_view-out}
 use Rattle.vx_wire.specs.Building.{AreBuilt, AreBuiltTo, IsBuilt, IsRefusedFirst, IsOneRefused, IsUnbuilt}
-use Rattle.vx_wire.specs.WireOrders.{nodes_of, nodes_of_all}
+use Rattle.vx_wire.specs.WireOrders.{wire_nodes, all_wire_nodes}
 use Rattle.vx_wire.specs.declared.encodings.ExprEncoding.{ExprEncoding}
 use Rattle.vx_wire.specs.declared.errors.BuildError.{BuildError}
 use Rattle.vx_wire.specs.declared.errors.BuildError.TheVariants as errors
@@ -17,14 +17,14 @@ use Rattle.vx_wire.proofs.WireLemmas.{built_rows}
 
 -- ---- the walk that lists the nodes
 
-all_append : (ns ms : List Wire) → nodes_of_all (wires_in (ns ++ ms)) ≡ nodes_of_all (wires_in ns) ++ nodes_of_all (wires_in ms)
-unfolding nodes_of
+all_append : (ns ms : List Wire) → all_wire_nodes (wires_in (ns ++ ms)) ≡ all_wire_nodes (wires_in ns) ++ all_wire_nodes (wires_in ms)
+unfolding wire_nodes
 all_append [] ms = refl
-all_append (n ∷ ns) ms = ap (λ x. nodes_of n ++ x) (all_append ns ms) ∙ sym (append_assoc (nodes_of n) (nodes_of_all (wires_in ns)) (nodes_of_all (wires_in ms)))
+all_append (n ∷ ns) ms = ap (λ x. wire_nodes n ++ x) (all_append ns ms) ∙ sym (append_assoc (wire_nodes n) (all_wire_nodes (wires_in ns)) (all_wire_nodes (wires_in ms)))
 
 -- a node stands behind those below it
-node_last : (n : Wire) → nodes_of n ≡ nodes_of_all (children_in n) ++ n ∷ []
-unfolding nodes_of
+node_last : (n : Wire) → wire_nodes n ≡ all_wire_nodes (children_in n) ++ n ∷ []
+unfolding wire_nodes
 node_last (node id metadata children) = refl
 
 children_are : (t : WireTree) → children_in (tree_view t) ≡ trees_view (out-WireTree t).children.items
@@ -32,33 +32,33 @@ children_are t = ap children_in (tree_view-out t)
 
 -- the nodes of what is left once a node gave way to its children
 given_way : (left before after : List Wire) (t : WireTree) (i : ℕ) → before ≡ left ++ tree_view t ∷ [] → length (out-WireTree t).children.items ≤ i
-    → after ≡ left ++ map tree_view (take i (out-WireTree t).children.items) → nodes_of_all (wires_in before) ≡ nodes_of_all (wires_in after) ++ tree_view t ∷ []
-unfolding nodes_of
+    → after ≡ left ++ map tree_view (take i (out-WireTree t).children.items) → all_wire_nodes (wires_in before) ≡ all_wire_nodes (wires_in after) ++ tree_view t ∷ []
+unfolding wire_nodes
 given_way left before after t i was all is =
     let n = tree_view t in
-    let ns = nodes_of_all (wires_in left) in
+    let ns = all_wire_nodes (wires_in left) in
     let below = map tree_view (out-WireTree t).children.items in
-    ap (λ ds. nodes_of_all (wires_in ds)) was ∙ all_append left (n ∷ [])
-    ∙ ap (λ ms. ns ++ ms) (append-nil (nodes_of n) ∙ node_last n ∙ ap (λ c. nodes_of_all c ++ n ∷ []) (children_are t))
-    ∙ sym (append_assoc ns (nodes_of_all (wires_in below)) (n ∷ []))
+    ap (λ ds. all_wire_nodes (wires_in ds)) was ∙ all_append left (n ∷ [])
+    ∙ ap (λ ms. ns ++ ms) (append-nil (wire_nodes n) ∙ node_last n ∙ ap (λ c. all_wire_nodes c ++ n ∷ []) (children_are t))
+    ∙ sym (append_assoc ns (all_wire_nodes (wires_in below)) (n ∷ []))
     ∙ ap (λ ms. ms ++ n ∷ []) (sym (all_append left below))
-    ∙ ap (λ ds. nodes_of_all (wires_in ds) ++ n ∷ []) (sym (is ∙ ap (λ ts. left ++ map tree_view ts) (take_all i (out-WireTree t).children.items all)))
+    ∙ ap (λ ds. all_wire_nodes (wires_in ds) ++ n ∷ []) (sym (is ∙ ap (λ ts. left ++ map tree_view ts) (take_all i (out-WireTree t).children.items all)))
 
 -- fewer nodes are left
 pub fewer : (left before after : List Wire) (t : WireTree) (i : ℕ) → before ≡ left ++ tree_view t ∷ [] → length (out-WireTree t).children.items ≤ i
-    → after ≡ left ++ map tree_view (take i (out-WireTree t).children.items) → length (nodes_of_all (wires_in after)) < length (nodes_of_all (wires_in before))
+    → after ≡ left ++ map tree_view (take i (out-WireTree t).children.items) → length (all_wire_nodes (wires_in after)) < length (all_wire_nodes (wires_in before))
 fewer left before after t i was all is =
-    let more : length (nodes_of_all (wires_in before)) ≡ length (nodes_of_all (wires_in after) ++ tree_view t ∷ []) = ap length (given_way left before after t i was all is) in
-    omega (arith, more, length-append (nodes_of_all (wires_in after)) (tree_view t ∷ []))
+    let more : length (all_wire_nodes (wires_in before)) ≡ length (all_wire_nodes (wires_in after) ++ tree_view t ∷ []) = ap length (given_way left before after t i was all is) in
+    omega (arith, more, length-append (all_wire_nodes (wires_in after)) (tree_view t ∷ []))
 
 -- what was found grows by the node
 pub walked_on : (left before after found more : List Wire) (t : WireTree) (whole : Wire) (i : ℕ) → before ≡ left ++ tree_view t ∷ [] → length (out-WireTree t).children.items ≤ i
-    → after ≡ left ++ map tree_view (take i (out-WireTree t).children.items) → more ≡ found ++ tree_view t ∷ [] → nodes_of_all (wires_in before) ++ reverse found ≡ nodes_of whole
-    → nodes_of_all (wires_in after) ++ reverse more ≡ nodes_of whole
+    → after ≡ left ++ map tree_view (take i (out-WireTree t).children.items) → more ≡ found ++ tree_view t ∷ [] → all_wire_nodes (wires_in before) ++ reverse found ≡ wire_nodes whole
+    → all_wire_nodes (wires_in after) ++ reverse more ≡ wire_nodes whole
 walked_on left before after found more t whole i was all is grown known =
-    ap (λ ds. nodes_of_all (wires_in after) ++ reverse ds) grown
-    ∙ ap (λ ds. nodes_of_all (wires_in after) ++ ds) (reverse-append found (tree_view t ∷ []))
-    ∙ sym (append_assoc (nodes_of_all (wires_in after)) (tree_view t ∷ []) (reverse found))
+    ap (λ ds. all_wire_nodes (wires_in after) ++ reverse ds) grown
+    ∙ ap (λ ds. all_wire_nodes (wires_in after) ++ ds) (reverse-append found (tree_view t ∷ []))
+    ∙ sym (append_assoc (all_wire_nodes (wires_in after)) (tree_view t ∷ []) (reverse found))
     ∙ ap (λ ds. ds ++ reverse found) (sym (given_way left before after t i was all is))
     ∙ known
 
@@ -69,9 +69,9 @@ child_more left after more ts i t within at h k =
     k ∙ ap (λ ds. ds ++ tree_view t ∷ []) h ∙ append_assoc left (map tree_view (take i ts)) (tree_view t ∷ [])
     ∙ ap (λ ds. left ++ ds) (sym (map-append tree_view (take i ts) (t ∷ [])) ∙ ap (λ u. map tree_view (take i ts ++ u ∷ [])) at ∙ ap (map tree_view) (sym (take_more ts i t within)))
 
-pub alone : (n : Wire) → nodes_of_all (wires_in (n ∷ [])) ++ [] ≡ nodes_of n
-unfolding nodes_of
-alone n = append-nil (nodes_of n ++ []) ∙ append-nil (nodes_of n)
+pub alone : (n : Wire) → all_wire_nodes (wires_in (n ∷ [])) ++ [] ≡ wire_nodes n
+unfolding wire_nodes
+alone n = append-nil (wire_nodes n ++ []) ∙ append-nil (wire_nodes n)
 
 map-reverse : {A B : Type 0} (f : A → B) (xs : List A) → map f (reverse xs) ≡ reverse (map f xs)
 map-reverse f [] = refl
@@ -79,10 +79,10 @@ map-reverse f (x ∷ xs) = ap (map f) (reverse-append (x ∷ []) xs) ∙ map-app
 
 -- nothing is left, so what was found, turned round, is the whole
 pub all_found : {A : Type 0} (f : A → Wire) (left found turned : List A) (whole : Wire) → left ≡ [] → turned ≡ reverse found
-    → nodes_of_all (wires_in (map f left)) ++ reverse (map f found) ≡ nodes_of whole → map f turned ≡ nodes_of whole
-unfolding nodes_of
+    → all_wire_nodes (wires_in (map f left)) ++ reverse (map f found) ≡ wire_nodes whole → map f turned ≡ wire_nodes whole
+unfolding wire_nodes
 all_found f left found turned whole none is known =
-    ap (map f) is ∙ map-reverse f found ∙ ap (λ ds. nodes_of_all (wires_in (map f ds)) ++ reverse (map f found)) (sym none) ∙ known
+    ap (map f) is ∙ map-reverse f found ∙ ap (λ ds. all_wire_nodes (wires_in (map f ds)) ++ reverse (map f found)) (sym none) ∙ known
 
 -- ---- what a loop over the nodes makes
 
@@ -105,22 +105,22 @@ Builds [] made whole = made ≡ whole ∷ []
 Builds (n ∷ ns) made whole = (before : List Wire) × (made ≡ before ++ listed (children_in n)) × Builds ns (before ++ n ∷ []) whole
 
 mutual
-  unfolding nodes_of
+  unfolding wire_nodes
 
   -- the nodes of a tree make it, whatever is made before them and left behind them
-  builds : (n : Wire) (rest made : List Wire) (whole : Wire) → Builds rest (made ++ n ∷ []) whole → Builds (nodes_of n ++ rest) made whole
+  builds : (n : Wire) (rest made : List Wire) (whole : Wire) → Builds rest (made ++ n ∷ []) whole → Builds (wire_nodes n ++ rest) made whole
   builds (node id metadata ns) rest made whole h =
-      rw (append_assoc (nodes_of_all ns) (node id metadata ns ∷ []) rest) (builds_all ns (node id metadata ns ∷ rest) made whole (made, refl, h))
+      rw (append_assoc (all_wire_nodes ns) (node id metadata ns ∷ []) rest) (builds_all ns (node id metadata ns ∷ rest) made whole (made, refl, h))
 
-  builds_all : (ns : Wires) (rest made : List Wire) (whole : Wire) → Builds rest (made ++ listed ns) whole → Builds (nodes_of_all ns ++ rest) made whole
+  builds_all : (ns : Wires) (rest made : List Wire) (whole : Wire) → Builds rest (made ++ listed ns) whole → Builds (all_wire_nodes ns ++ rest) made whole
   builds_all no_wires rest made whole h = subst (λ m. Builds rest m whole) (append-nil made) h
   builds_all (first n ns) rest made whole h =
-      rw (append_assoc (nodes_of n) (nodes_of_all ns) rest)
-      (builds n (nodes_of_all ns ++ rest) made whole (builds_all ns rest (made ++ n ∷ []) whole (subst (λ m. Builds rest m whole) (sym (append_assoc made (n ∷ []) (listed ns))) h)))
+      rw (append_assoc (wire_nodes n) (all_wire_nodes ns) rest)
+      (builds n (all_wire_nodes ns ++ rest) made whole (builds_all ns rest (made ++ n ∷ []) whole (subst (λ m. Builds rest m whole) (sym (append_assoc made (n ∷ []) (listed ns))) h)))
 
 -- a tree's nodes, from the leaves up, make it of nothing
-built : (n : Wire) → Builds (nodes_of n) [] n
-built n = subst (λ ns. Builds ns [] n) (append-nil (nodes_of n)) (builds n [] [] n refl)
+built : (n : Wire) → Builds (wire_nodes n) [] n
+built n = subst (λ ns. Builds ns [] n) (append-nil (wire_nodes n)) (builds n [] [] n refl)
 
 -- where a list with a certain element is cut: after it, or before it
 cut : (p : List Wire) (x : Wire) (q r s : List Wire) → p ++ x ∷ q ≡ r ++ s
@@ -195,7 +195,7 @@ module _ (holds : ExprEncoding → Bool) where
     pub each : AreBuiltTo holds (wires_in made) es
     pub builds : Builds left made whole
 
-  pub none_made : (whole : Wire) (nodes : List Wire) (es : List Tree) → nodes ≡ nodes_of whole → es ≡ [] → Making nodes es whole
+  pub none_made : (whole : Wire) (nodes : List Wire) (es : List Tree) → nodes ≡ wire_nodes whole → es ≡ [] → Making nodes es whole
   none_made whole nodes es are none =
       record { made = []; each = subst (AreBuiltTo holds no_wires) (sym none) tt; builds = subst (λ ns. Builds ns [] whole) (sym are) (built whole) }
 

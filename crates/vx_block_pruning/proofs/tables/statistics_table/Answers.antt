@@ -1,7 +1,7 @@
 use Rattle.std.proofs.Common.{◌≡◌, subst, map, None, Ok}
 use Rattle.std.proofs.lemmas.Result.{IfOk-weaker}
 use Rattle.vx_zones.specs.ZoneViews.{stat_view}
-use Rattle.vx_column.specs.Answers.{Answers}
+use Rattle.vx_column.specs.Answers.{AnswersColumn}
 use Rattle.vx_column.specs.StructColumns.{struct_column}
 use Rattle.vx_block_pruning.specs.PruningTruths.{pruning_table}
 use Rattle.vx_block_pruning.proofs.ColumnLemmas.{made_is}
@@ -20,7 +20,7 @@ made-requires c =
     let count = c.args.count in
     let e = c.stats-stats.ensures in
     let columns = c.in_ok-columns.columns.items in
-    let told = subst (λ names. Answers c.struct_.result (struct_column names columns count None)) c.in_ok-clone.ensures.cases c.struct_.ensures in (
+    let told = subst (λ names. AnswersColumn c.struct_.result (struct_column names columns count None)) c.in_ok-clone.ensures.cases c.struct_.ensures in (
       pruning_table zones first count,
       table-told zones (map stat_view c.stats-stats.result.now) c.args.available.now c.args.names.now columns first count c.struct_.result (record { lawful = e.rules; fitting = e.fit })
           e.stats c.requires.available c.in_ok-columns.ensures c.requires.blocks told,
@@ -33,7 +33,7 @@ returns c =
     let count = c.args.count in
     let e = c.stats-stats.ensures in
     let columns = c.in_ok-columns.columns.items in
-    let told = subst (λ names. Answers c.struct_.result (struct_column names columns count None)) c.in_ok-clone.ensures.cases c.struct_.ensures in
+    let told = subst (λ names. AnswersColumn c.struct_.result (struct_column names columns count None)) c.in_ok-clone.ensures.cases c.struct_.ensures in
     let table =
     table-told zones (map stat_view c.stats-stats.result.now) c.args.available.now c.args.names.now columns first count c.struct_.result (record { lawful = e.rules; fitting = e.fit })
     e.stats c.requires.available c.in_ok-columns.ensures c.requires.blocks told in

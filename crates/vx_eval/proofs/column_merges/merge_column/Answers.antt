@@ -3,7 +3,7 @@ use Rattle.std.specs.List.{list_all}
 use Rattle.std.proofs.lemmas.Result.{err_from_is_err_and}
 use Rattle.vx_dtype.specs.StructTypes.{is_struct_ty}
 use Rattle.vx_dtype.specs.Types.{Bytes}
-use Rattle.vx_column.specs.Answers.{Answers}
+use Rattle.vx_column.specs.Answers.{AnswersColumn}
 use Rattle.vx_column.specs.StructColumns.{column_types, struct_column}
 use Rattle.vx_semantics.specs.Merging.{merged_names}
 use Rattle.vx_typing.specs.MergedFields.{name_of}
@@ -31,7 +31,7 @@ returns-in_err-whole_structs c t slots rows es len meant =
     ap (λ ks. list_all is_struct_ty (column_types ks)) (sym c.as_slice.ensures.value) ∙ sym c.all_structs.ensures ∙ c.if-not-all_structs.false in
     let p = err_from_is_err_and c.from_residual-in_err-whole_structs.result c.from_residual-in_err-whole_structs.ensures.1 in
     rw (p.1, p.2) (merges_all (map name_of ms) a.nullability cs ds a.len names found all t slots rows es len meant c.in_err-whole_structs.field-0.0
-    (subst (λ (ns : List Bytes). Answers (Err c.in_err-whole_structs.field-0.0) (struct_column ns ds a.len (all_valid a.nullability a.len))) own c.in_err-whole_structs.ensures))
+    (subst (λ (ns : List Bytes). AnswersColumn (Err c.in_err-whole_structs.field-0.0) (struct_column ns ds a.len (all_valid a.nullability a.len))) own c.in_err-whole_structs.ensures))
 
 pub returns : goal.returns
 returns c t slots rows es len meant =

@@ -1,6 +1,6 @@
 use Rattle.std.proofs.Common.{◌≡◌, ◌++◌, map, reverse, take, length}
 use Rattle.vx_wire_bytes.specs.WireViews.{wires_in, tree_view}
-use Rattle.vx_wire.specs.WireOrders.{nodes_of, nodes_of_all}
+use Rattle.vx_wire.specs.WireOrders.{wire_nodes, all_wire_nodes}
 use Rattle.vx_wire.proofs.tree_nodes.tree_nodes.Given as goal
 
 -- the first children are put behind what is left
@@ -10,7 +10,7 @@ invariant-loop-child l = map (λ t. tree_view t.now) l.left.items ≡ map (λ t.
 -- what is left to walk, and behind it what was found
 abbrev pub invariant-loop-node : goal.invariant-loop-node
 invariant-loop-node l =
-    nodes_of_all (wires_in (map (λ t. tree_view t.now) l.left.items)) ++ reverse (map (λ t. tree_view t.now) l.nodes.items) ≡ nodes_of (tree_view l.tree)
+    all_wire_nodes (wires_in (map (λ t. tree_view t.now) l.left.items)) ++ reverse (map (λ t. tree_view t.now) l.nodes.items) ≡ wire_nodes (tree_view l.tree)
 
 abbrev pub decreases-loop-node : goal.decreases-loop-node
-decreases-loop-node l = length (nodes_of_all (wires_in (map (λ t. tree_view t.now) l.left.items)))
+decreases-loop-node l = length (all_wire_nodes (wires_in (map (λ t. tree_view t.now) l.left.items)))
