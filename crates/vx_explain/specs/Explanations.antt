@@ -6,11 +6,11 @@ use Rattle.vx_dtype.specs.Types.{Bytes, Fields}
 use Rattle.vx_dtype.specs.Texts.{quoted_text}
 use Rattle.vx_expr.specs.Trees.{Tree}
 use Rattle.vx_expr.specs.CompactTexts.{compact_text}
-use Rattle.vx_semantics.specs.Tables.{Zones, ZoneStat, row_type, joined_name}
+use Rattle.vx_semantics.specs.Tables.{Zones, ZoneStat, row_type, joined_name, same_statistic}
 use Rattle.vx_semantics.specs.Typing.{Refusal, and_then}
 use Rattle.vx_zones.specs.ZoneViews.{statistic_paths}
 use Rattle.vx_display.specs.Spaced.{spaced}
-use Rattle.vx_passes.specs.PruningTables.{Pruning, pruning_over, same_question}
+use Rattle.vx_passes.specs.PruningTables.{Pruning, pruning_over}
 use Rattle.vx_passes.specs.Replacing.{root_replaced}
 use Rattle.vx_passes.specs.Splitting.{Split}
 use Rattle.vx_passes.specs.TypedSimplifying.{simplified_typed}
@@ -40,7 +40,7 @@ pruning_text (Some p) = compact_text p.tree
 abbrev pub required_names : List ZoneStat → Option Pruning → List Bytes
 required_names stats None = []
 required_names stats (Some p) =
-    map (λ z. quoted_text (joined_name z.path z.stat)) (filter (λ z. list_any (same_question (z.path, z.stat)) p.required) stats)
+    map (λ z. quoted_text (joined_name z.path z.stat)) (filter (λ z. list_any (same_statistic (z.path, z.stat)) p.required) stats)
 
 -- a line of a word and a text, before those that follow
 abbrev pub labelled : Bytes → Bytes → Bytes → Bytes

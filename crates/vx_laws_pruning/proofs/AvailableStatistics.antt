@@ -10,11 +10,11 @@ use Rattle.vx_dtype.specs.declared.Stat.TheVariants.{Min, Max, NaNCount, NullCou
 use Rattle.vx_dtype.specs.Equal.{names_eq}
 use Rattle.vx_dtype.specs.EqualLaws.{names_decides}
 use Rattle.vx_dtype.specs.Paths.{has_path, with_path}
-use Rattle.vx_semantics.specs.Tables.{Zones, ZoneStat, same_stat, joined_name}
+use Rattle.vx_semantics.specs.Tables.{Zones, ZoneStat, same_stat, joined_name, statistic_path}
 use Rattle.vx_semantics.specs.Pruning.{is_joined, is_statistic, available}
-use Rattle.vx_passes.specs.Catalogs.{statistic_path, available_paths}
+use Rattle.vx_passes.specs.Catalogs.{available_paths}
 use Rattle.vx_passes.specs.PruningTables.{available_statistics}
-use Rattle.vx_zones.specs.Zoning.{same_statistic, distinct_statistics}
+use Rattle.vx_zones.specs.Zoning.{distinct_statistics}
 use Rattle.vx_zones.specs.ZoneViews.{statistic_paths}
 use Rattle.vx_laws.proofs.EachNode.{all-map}
 use Rattle.vx_laws_pruning.proofs.Columns.{statistic_path-same}
@@ -28,11 +28,11 @@ not-true true h = let no : ⊥ = cc in absurd no
 not-true false h = refl
 
 -- a path that is new among some stays so behind another one
-still-new : (z : ZoneStat) (ps : List (List Bytes)) (zs : List ZoneStat) → list_any (same_statistic z) zs ≡ false → AllByRecursion (λ y. has_path (path_for y) ps ≡ false) zs
+still-new : (z : ZoneStat) (ps : List (List Bytes)) (zs : List ZoneStat) → list_any (is_statistic z.path z.stat) zs ≡ false → AllByRecursion (λ y. has_path (path_for y) ps ≡ false) zs
     → AllByRecursion (λ y. has_path (path_for y) (ps ++ path_for z ∷ []) ≡ false) zs
 still-new z ps [] h k = tt
 still-new z ps (y ∷ ys) h k =
-    let parts = or_parts (same_statistic z y) (list_any (same_statistic z) ys) h in
+    let parts = or_parts (is_statistic z.path z.stat y) (list_any (is_statistic z.path z.stat) ys) h in
     let other : names_eq (path_for z) (path_for y) ≡ false = statistic_path-same z.path z.stat y ∙ parts.0 in (
       list_any-append (λ q. names_eq q (path_for y)) ps (path_for z ∷ [])
           ∙ or_from (has_path (path_for y) ps) (names_eq (path_for z) (path_for y) || false) k.0 (or_from (names_eq (path_for z) (path_for y)) false other refl),
@@ -43,10 +43,10 @@ paths-behind : (ps : List (List Bytes)) (zs : List ZoneStat) → distinct_statis
     → fold (λ (qs : List (List Bytes)) (z : ZoneStat). with_path (path_for z) qs) ps zs ≡ ps ++ map path_for zs
 paths-behind ps [] d h = sym (append-nil ps)
 paths-behind ps (z ∷ zs) d h =
-    let parts = and_parts (not (list_any (same_statistic z) zs)) (distinct_statistics zs) d in
+    let parts = and_parts (not (list_any (is_statistic z.path z.stat) zs)) (distinct_statistics zs) d in
     let added : with_path (path_for z) ps ≡ ps ++ path_for z ∷ [] = ap (λ (b : Bool). cond b ps (ps ++ path_for z ∷ [])) h.0 in
     ap (λ (qs : List (List Bytes)). fold (λ (rs : List (List Bytes)) (y : ZoneStat). with_path (path_for y) rs) qs zs) added
-    ∙ (paths-behind (ps ++ path_for z ∷ []) zs parts.1 (still-new z ps zs (not-true (list_any (same_statistic z) zs) parts.0) h.1)
+    ∙ (paths-behind (ps ++ path_for z ∷ []) zs parts.1 (still-new z ps zs (not-true (list_any (is_statistic z.path z.stat) zs) parts.0) h.1)
     ∙ append_assoc ps (path_for z ∷ []) (map path_for zs))
 
 none-there : (zs : List ZoneStat) → AllByRecursion (λ y. has_path (path_for y) [] ≡ false) zs

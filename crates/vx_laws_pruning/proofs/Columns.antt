@@ -14,9 +14,9 @@ use Rattle.vx_dtype.specs.Equal.{names_eq}
 use Rattle.vx_dtype.specs.EqualLaws.{names_decides}
 use Rattle.vx_dtype.specs.Values.{Val, fault}
 use Rattle.vx_dtype.specs.Structs.{member_named, field_of}
-use Rattle.vx_semantics.specs.Tables.{Zones, ZoneStat, same_stat, joined_name}
+use Rattle.vx_semantics.specs.Tables.{Zones, ZoneStat, same_stat, joined_name, statistic_path, joined_path}
 use Rattle.vx_semantics.specs.Pruning.{is_joined, is_statistic, available}
-use Rattle.vx_passes.specs.Catalogs.{statistic_column, statistic_path, joined_path, statistics_among, available_paths}
+use Rattle.vx_passes.specs.Catalogs.{statistic_column, statistics_among, available_paths}
 use Rattle.vx_passes.specs.PruningTables.{available_statistics, value_or_null, statistics_members, pruning_row}
 use Rattle.vx_laws.proofs.Inverting.{bytes_eq-itself}
 use Rattle.vx_laws_scan.proofs.HonestRows.{same_stat-same}

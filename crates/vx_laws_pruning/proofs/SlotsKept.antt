@@ -16,7 +16,8 @@ use Rattle.vx_expr.specs.Trees.{Tree, literal, binary, not_of, is_null_of, betwe
 use Rattle.vx_semantics.specs.Meaning.{Slots}
 use Rattle.vx_semantics.specs.Slots.{held_fits, slots_fit}
 use Rattle.vx_semantics.specs.Paths.{path_of}
-use Rattle.vx_passes.specs.Catalogs.{Catalog, statistic_column, statistic_path, is_alone_among, statistics_among, available_paths}
+use Rattle.vx_passes.specs.Catalogs.{Catalog, statistic_column, is_alone_among, statistics_among, available_paths}
+use Rattle.vx_semantics.specs.Tables.{statistic_path}
 use Rattle.vx_passes.specs.Falsifying.{Question, Found, found_by, found_in, asked_for, count_of, is_zero_count, bound_of, compared_by, compared_where, bounds_falsified, are_numbers, behind_guard, comparison_falsified, where_comparison, outside, all_outside_after, one_value, and_of, or_of, joined_known, elements_falsified, list_falsified, contains_falsified, dynamic_falsified, falsified, negation_falsified}
 use Rattle.vx_passes.specs.PruningTables.{pruning_where}
 use Rattle.vx_laws_pruning.specs.PruningTypes.{PruningSlotsFit}

@@ -19,7 +19,8 @@ use Rattle.vx_dtype.specs.EqualLaws.{ty_decides}
 use Rattle.vx_dtype.proofs.DistinctLemmas.{not_found}
 use Rattle.vx_semantics.specs.Paths.{path_value}
 use Rattle.vx_semantics.specs.Tables.{ZoneStat, row_type, same_stat}
-use Rattle.vx_zones.specs.Zoning.{type_of_statistic, statistic_type, same_statistic, distinct_statistics, counts_blocks, values_have, has_its_type, scalars_fit, are_shallow, broken_rule}
+use Rattle.vx_semantics.specs.Pruning.{is_statistic}
+use Rattle.vx_zones.specs.Zoning.{type_of_statistic, statistic_type, distinct_statistics, counts_blocks, values_have, has_its_type, scalars_fit, are_shallow, broken_rule}
 use Rattle.vx_laws_scan.specs.Agreeing.{all_rows_fit}
 use Rattle.vx_laws_stats.specs.BuiltStatistics.{Leaf, leaves_below, least_of, greatest_of, values_at, null_count, built_type, raw_of, built_scalar, built_statistic, statistics_at}
 use Rattle.vx_laws_stats.specs.BuiltLaws.{BuiltStatisticsBreakNoRule, BuiltValuesFit}
@@ -47,13 +48,13 @@ each-leaf columns P [] f h = tt
 each-leaf columns P (l ∷ ls) f h = (f l h.0, each-leaf columns P ls f h.1)
 
 -- no two are of one path and one kind
-none-of : (blocks : List (List Val)) (z : ZoneStat) (ls : List Leaf) → has_path z.path ls ≡ false → list_any (same_statistic z) (flat_map (statistics_at blocks) ls) ≡ false
+none-of : (blocks : List (List Val)) (z : ZoneStat) (ls : List Leaf) → has_path z.path ls ≡ false → list_any (is_statistic z.path z.stat) (flat_map (statistics_at blocks) ls) ≡ false
 none-of blocks z [] h = refl
 none-of blocks z (l ∷ ls) h = by-test (names_eq z.path l.path) h (none-of blocks z ls)
   where
     by-test : (b : Bool) → (b || has_path z.path ls) ≡ false
-        → (has_path z.path ls ≡ false → list_any (same_statistic z) (flat_map (statistics_at blocks) ls) ≡ false)
-        → ((b && same_stat z.stat Min) || ((b && same_stat z.stat Max) || ((b && same_stat z.stat NullCount) || list_any (same_statistic z) (flat_map (statistics_at blocks) ls)))) ≡ false
+        → (has_path z.path ls ≡ false → list_any (is_statistic z.path z.stat) (flat_map (statistics_at blocks) ls) ≡ false)
+        → ((b && same_stat z.stat Min) || ((b && same_stat z.stat Max) || ((b && same_stat z.stat NullCount) || list_any (is_statistic z.path z.stat) (flat_map (statistics_at blocks) ls)))) ≡ false
     by-test true k r = let no : ⊥ = cc in absurd no
     by-test false k r = r k
 

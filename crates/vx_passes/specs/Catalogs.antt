@@ -1,13 +1,12 @@
 -- Catalogs: what stands for a statistic of a path, where there is something.
-use Rattle.std.specs.Prelude.{Bool, cond, ◌&&◌, nat_eq, List, [], ◌∷◌, ◌++◌, length, map, codes, Option, Some, None}
+use Rattle.std.specs.Prelude.{Bool, cond, ◌&&◌, nat_eq, List, length, map, Option, Some, None}
 use Rattle.std.specs.List.{filter, list_any}
 use Rattle.std.specs.Str.{bytes_eq}
 use Rattle.vx_dtype.specs.declared.Stat.{Stat}
-use Rattle.vx_dtype.specs.StatNames.{stat_name}
 use Rattle.vx_dtype.specs.Types.{Bytes}
 use Rattle.vx_dtype.specs.Equal.{names_eq}
 use Rattle.vx_expr.specs.Trees.{Tree, root, get_item}
-use Rattle.vx_semantics.specs.Tables.{Zones, joined_name}
+use Rattle.vx_semantics.specs.Tables.{Zones, statistic_path, joined_path, joined_name}
 
 -- a catalog: the expression that stands for a statistic of a path, if there is one
 abbrev pub Catalog : Type 0
@@ -20,16 +19,6 @@ statistic_column path stat = get_item (joined_name path stat) root
 -- the catalog that answers every statistic
 abbrev pub every_statistic : Catalog
 every_statistic path stat = Some (statistic_column path stat)
-
--- a statistic as a path: the path and, behind it, the statistic's name
-abbrev pub statistic_path : List Bytes → Stat → List Bytes
-statistic_path path stat = path ++ stat_name stat ∷ []
-
--- the names of a path with `_` between
-abbrev pub joined_path : List Bytes → Bytes
-joined_path [] = []
-joined_path (f ∷ []) = f
-joined_path (f ∷ g ∷ fs) = f ++ (codes "_" ++ joined_path (g ∷ fs))
 
 -- whether a statistic is a member of a set of paths, and no other member has its joined name
 abbrev pub is_alone_among : List (List Bytes) → List Bytes → Bool

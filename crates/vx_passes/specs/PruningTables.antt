@@ -4,23 +4,18 @@ use Rattle.std.specs.List.{filter, list_any}
 use Rattle.vx_dtype.specs.declared.Nullability.TheVariants.{Nullable}
 use Rattle.vx_dtype.specs.declared.PType.TheVariants.{U64}
 use Rattle.vx_dtype.specs.Types.{Bytes, Ty, int_ty, Fields, no_fields, field}
-use Rattle.vx_dtype.specs.Equal.{names_eq}
 use Rattle.vx_dtype.specs.Values.{Val, null_val, struct_val, Members, no_members, member, Typed, value_of}
 use Rattle.vx_expr.specs.Trees.{Tree}
-use Rattle.vx_semantics.specs.Tables.{Zones, ZoneStat, same_stat, joined_name}
+use Rattle.vx_semantics.specs.Tables.{Zones, ZoneStat, same_statistic, joined_name}
 use Rattle.vx_semantics.specs.Pruning.{available}
 use Rattle.vx_passes.specs.Catalogs.{Catalog, statistics_among}
 use Rattle.vx_passes.specs.Falsifying.{Question, falsified}
-
--- whether two questions are of one path and kind
-abbrev pub same_question : Question → Question → Bool
-same_question a b = names_eq a.0 b.0 && same_stat a.1 b.1
 
 -- the questions that a catalog answers, each once, in the order in which they were asked first
 abbrev pub answered_once : Catalog → List Question → List Question → List Question
 answered_once catalog seen [] = []
 answered_once catalog seen (q ∷ qs) =
-    cond (is_some (catalog q.0 q.1) && not (list_any (same_question q) seen)) (q ∷ answered_once catalog (q ∷ seen) qs) (answered_once catalog seen qs)
+    cond (is_some (catalog q.0 q.1) && not (list_any (same_statistic q) seen)) (q ∷ answered_once catalog (q ∷ seen) qs) (answered_once catalog seen qs)
 
 -- a pruning expression and the statistics that it needs
 pub record Pruning : Type 0 where

@@ -3,9 +3,7 @@ use Rattle.std.proofs.Common.{◌≡◌, ℕ, ◌+◌, ◌<◌, List, [], ◌∷
 use Rattle.std.proofs.Math.ListN.{get_or}
 use Rattle.std.proofs.lemmas.List.{map_more, length-map, length-take-le}
 use Rattle.vx_dtype.specs.Types.{Bytes}
-use Rattle.vx_dtype.specs.declared.Stat.{Stat}
-use Rattle.vx_semantics.specs.Tables.{joined_name}
-use Rattle.vx_passes.specs.Catalogs.{joined_path, statistic_path}
+use Rattle.vx_semantics.specs.Tables.{joined_path}
 use Rattle.vx_prune.specs.Separators.{separator_at}
 
 -- one more name at the end
@@ -16,12 +14,6 @@ joined_path-append (g ∷ h ∷ fs) f =
     ap (λ bs. g ++ (codes "_" ++ bs)) (joined_path-append (h ∷ fs) f)
     ∙ ap (λ bs. g ++ bs) (sym (append_assoc (codes "_") (joined_path (h ∷ fs)) (codes "_" ++ f)))
     ∙ sym (append_assoc g (codes "_" ++ joined_path (h ∷ fs)) (codes "_" ++ f))
-
--- the joined name of a statistic is that of the statistic as a path
-pub joined_statistic : (path : List Bytes) (stat : Stat) → joined_path (statistic_path path stat) ≡ joined_name path stat
-joined_statistic [] stat = refl
-joined_statistic (f ∷ []) stat = refl
-joined_statistic (f ∷ g ∷ fs) stat = ap (λ bs. f ++ (codes "_" ++ bs)) (joined_statistic (g ∷ fs) stat)
 
 -- the name at a place is joined to those before it
 pub joined_path-more : {X : Type 0} (see : X → Bytes) (xs : List X) (i : ℕ) (x : X) → i < length xs → x ≡ get_or xs i x

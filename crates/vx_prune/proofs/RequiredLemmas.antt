@@ -12,11 +12,11 @@ use Rattle.vx_dtype.specs.Types.{Bytes}
 use Rattle.vx_dtype.specs.Equal.{names_eq}
 use Rattle.vx_dtype.specs.Paths.{has_path}
 use Rattle.vx_dtype.specs.EqualLaws.{names_decides, names_eq_equiv}
-use Rattle.vx_semantics.specs.Tables.{same_stat}
+use Rattle.vx_semantics.specs.Tables.{same_stat, statistic_path, same_statistic}
 use Rattle.vx_dtype.specs.contracts.statistics.StatPartialEq.TheImpl as stat_eq
-use Rattle.vx_passes.specs.Catalogs.{Catalog, every_statistic, is_alone_among, statistic_column, statistic_path, statistics_among}
+use Rattle.vx_passes.specs.Catalogs.{Catalog, every_statistic, is_alone_among, statistic_column, statistics_among}
 use Rattle.vx_passes.specs.Falsifying.{Question}
-use Rattle.vx_passes.specs.PruningTables.{same_question, answered_once}
+use Rattle.vx_passes.specs.PruningTables.{answered_once}
 use Rattle.vx_prune.specs.declared.relations.Relation.{Relation}
 use Rattle.vx_prune.specs.Relations.{has_pair}
 use Rattle.vx_prune.specs.Required.{Requires}
@@ -37,15 +37,15 @@ second_true true b h = h
 second_true false b h = absurd cc
 
 -- questions that are the same are equal
-same_question_is : (p q : Question) → same_question p q ≡ true → p ≡ q
-same_question_is p q h =
+same_statistic_is : (p q : Question) → same_statistic p q ≡ true → p ≡ q
+same_statistic_is p q h =
     let paths = (names_decides p.0 q.0).0 (first_true (names_eq p.0 q.0) (same_stat p.1 q.1) h) in
     let stats = same_stat_is p.1 q.1 (second_true (names_eq p.0 q.0) (same_stat p.1 q.1) h) in
     λ i. (paths i, stats i)
 
 -- whether a question is among these
 abbrev pub is_among : Question → List Question → Bool
-is_among q qs = list_any (same_question q) qs
+is_among q qs = list_any (same_statistic q) qs
 
 -- whether a catalog answers a question
 abbrev pub has_answer : Catalog → Question → Bool
@@ -55,13 +55,13 @@ or_false : (b : Bool) → (b || false) ≡ b
 or_false true = refl
 or_false false = refl
 
-seen_by : (q x : Question) (seen : List Question) → is_among x seen ≡ true → (b : Bool) → same_question q x ≡ b → (is_among q seen || same_question q x) ≡ is_among q seen
-seen_by q x seen h true e = let there : is_among q seen ≡ true = ap (λ p. is_among p seen) (same_question_is q x e) ∙ h in ap (λ b. b || same_question q x) there ∙ sym there
+seen_by : (q x : Question) (seen : List Question) → is_among x seen ≡ true → (b : Bool) → same_statistic q x ≡ b → (is_among q seen || same_statistic q x) ≡ is_among q seen
+seen_by q x seen h true e = let there : is_among q seen ≡ true = ap (λ p. is_among p seen) (same_statistic_is q x e) ∙ h in ap (λ b. b || same_statistic q x) there ∙ sym there
 seen_by q x seen h false e = ap (λ b. is_among q seen || b) e ∙ or_false (is_among q seen)
 
 -- a question that was seen is not seen anew
-seen_again : (q x : Question) (seen : List Question) → is_among x seen ≡ true → (is_among q seen || same_question q x) ≡ is_among q seen
-seen_again q x seen h = seen_by q x seen h (same_question q x) refl
+seen_again : (q x : Question) (seen : List Question) → is_among x seen ≡ true → (is_among q seen || same_statistic q x) ≡ is_among q seen
+seen_again q x seen h = seen_by q x seen h (same_statistic q x) refl
 
 or_assoc : (a b c : Bool) → (a || (b || c)) ≡ ((a || b) || c)
 or_assoc true b c = refl
@@ -86,11 +86,11 @@ module _ (catalog : Catalog) (q : Question) where
         → (is_among q seen || is_among q (cond (b && not m) (x ∷ answered_once catalog (x ∷ seen) xs) (answered_once catalog seen xs)))
         ≡ (is_among q seen || is_among q (cond b (x ∷ all) all))
     by_answer true true m =
-        same ∙ ap (λ c. c || is_among q all) (sym (seen_again q x seen m)) ∙ sym (or_assoc (is_among q seen) (same_question q x) (is_among q all))
+        same ∙ ap (λ c. c || is_among q all) (sym (seen_again q x seen m)) ∙ sym (or_assoc (is_among q seen) (same_statistic q x) (is_among q all))
     by_answer true false m =
         let later = is_among q (answered_once catalog (x ∷ seen) xs) in
-        or_assoc (is_among q seen) (same_question q x) later ∙ or_swap (is_among q seen) (same_question q x) later ∙ more
-        ∙ or_swap (same_question q x) (is_among q seen) (is_among q all) ∙ sym (or_assoc (is_among q seen) (same_question q x) (is_among q all))
+        or_assoc (is_among q seen) (same_statistic q x) later ∙ or_swap (is_among q seen) (same_statistic q x) later ∙ more
+        ∙ or_swap (same_statistic q x) (is_among q seen) (is_among q all) ∙ sym (or_assoc (is_among q seen) (same_statistic q x) (is_among q all))
     by_answer false m e = same
 
   once : (seen asked : List Question) → SeenOr seen asked
@@ -160,9 +160,9 @@ module _ {S T : Type 0} where
       → ((q : Question) → has_pair names_eq same_stat old q.0 q.1 ≡ is_among q qs)
       → (q : Question) → has_pair names_eq same_stat new q.0 q.1 ≡ is_among q (qs ++ (path, stat) ∷ [])
   one_more_required old new path stat qs put was q =
-      let here : (names_eq path q.0 && same_stat stat q.1) ≡ same_question q (path, stat) = λ i. names_eq_equiv.symm path q.0 i && flipped stat q.1 i in
+      let here : (names_eq path q.0 && same_stat stat q.1) ≡ same_statistic q (path, stat) = λ i. names_eq_equiv.symm path q.0 i && flipped stat q.1 i in
       subst (λ same. has_pair names_eq same new q.0 q.1 ≡ (names_eq path q.0 && same stat q.1 || has_pair names_eq same old q.0 q.1)) same_kinds (put q.0 q.1)
-      ∙ (λ i. here i || was q i) ∙ behind (same_question q (path, stat)) (is_among q qs) ∙ sym (list_any-append (same_question q) qs ((path, stat) ∷ []))
+      ∙ (λ i. here i || was q i) ∙ behind (same_statistic q (path, stat)) (is_among q qs) ∙ sym (list_any-append (same_statistic q) qs ((path, stat) ∷ []))
 
 -- a catalog over a set of paths answers just what is available
 pub answers_available : (members : List (List Bytes)) (path : List Bytes) (stat : Stat) (b : Bool) → b ≡ is_alone_among members (statistic_path path stat)

@@ -5,9 +5,9 @@ use Rattle.vx_dtype.specs.declared.Stat.{Stat}
 use Rattle.vx_dtype.specs.Types.{Bytes}
 use Rattle.vx_dtype.specs.Equal.{names_eq}
 use Rattle.vx_expr.specs.Trees.{Tree}
-use Rattle.vx_semantics.specs.Tables.{same_stat}
+use Rattle.vx_semantics.specs.Tables.{same_stat, same_statistic}
 use Rattle.vx_passes.specs.Falsifying.{Question}
-use Rattle.vx_passes.specs.PruningTables.{Pruning, same_question}
+use Rattle.vx_passes.specs.PruningTables.{Pruning}
 use Rattle.vx_prune.specs.declared.relations.Relation.{Relation}
 use Rattle.vx_prune.specs.Relations.{has_pair, relation_map}
 
@@ -17,7 +17,7 @@ is_required required q = has_pair names_eq same_stat (relation_map required) q.0
 
 -- just these are required
 abbrev pub Requires : List Question → Relation (List Bytes) Stat → Type 0
-Requires questions required = (q : Question) → is_required required q ≡ list_any (same_question q) questions
+Requires questions required = (q : Question) → is_required required q ≡ list_any (same_statistic q) questions
 
 -- the answer is the pruning expression and what it requires, and none where there is none
 abbrev pub PrunesBy : Option Pruning → Option (Tree × Relation (List Bytes) Stat) → Type 0

@@ -2,7 +2,8 @@
 ghost use Rattle.std.specs.Prelude.{◌≡◌, [], ◌∷◌, ◌++◌, List, length, IfOk, OnErr};
 ghost use Rattle.std.specs.List.{filter};
 ghost use Rattle.std.specs.Str.{bytes_eq};
-ghost use Rattle.vx_passes.specs.Catalogs.{Catalog, every_statistic, is_alone_among, joined_path, statistic_column, statistic_path, statistics_among};
+ghost use Rattle.vx_passes.specs.Catalogs.{Catalog, every_statistic, is_alone_among, statistic_column, statistics_among};
+ghost use Rattle.vx_semantics.specs.Tables.{statistic_path, joined_path};
 ghost use Rattle.vx_passes.specs.Falsifying.{Question};
 ghost use Rattle.vx_passes.specs.PruningTables.{answered_once};
 ghost use Rattle.vx_prune.specs.CatalogViews.{available_members, scope_questions, tracked_questions};

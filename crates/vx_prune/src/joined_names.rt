@@ -2,8 +2,7 @@
 ghost use Rattle.std.specs.Prelude.{◌≡◌, IfOk};
 ghost use Rattle.std.specs.String.{string_bytes};
 ghost use Rattle.vx_dtype.specs.PathViews.{part_name};
-ghost use Rattle.vx_semantics.specs.Tables.{joined_name};
-ghost use Rattle.vx_passes.specs.Catalogs.{joined_path, statistic_path};
+ghost use Rattle.vx_semantics.specs.Tables.{joined_name, statistic_path, joined_path};
 ghost use Rattle.vx_prune.specs.Separators.{separator_at};
 
 use std::alloc::Global;

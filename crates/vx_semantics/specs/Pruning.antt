@@ -10,21 +10,20 @@ use Rattle.vx_dtype.specs.declared.Stat.{Stat}
 use Rattle.vx_dtype.specs.declared.Stat.TheVariants.{Min, Max, NullCount}
 use Rattle.vx_dtype.specs.Types.{Bytes}
 use Rattle.vx_dtype.specs.Values.{Val, null_val, int_val, list_val, Vals, no_vals, val, Typed, value_of}
-use Rattle.vx_dtype.specs.Equal.{names_eq}
 use Rattle.vx_dtype.specs.Order.{bound_operator, compares}
 use Rattle.vx_expr.specs.declared.Operator.{Operator}
 use Rattle.vx_expr.specs.Trees.{Tree, literal, binary, not_of, is_null_of, between, list_contains, dynamic}
 use Rattle.vx_expr.specs.Operators.{comparison_of, inverse_comparison}
 use Rattle.vx_semantics.specs.Meaning.{Slots, slot_value}
 use Rattle.vx_semantics.specs.Paths.{path_of}
-use Rattle.vx_semantics.specs.Tables.{ZoneStat, Zones, same_stat, joined_name}
+use Rattle.vx_semantics.specs.Tables.{ZoneStat, Zones, same_statistic, joined_name}
 
 -- whether a statistic has this joined name, and whether it is of this path and kind
 abbrev pub is_joined : Bytes → ZoneStat → Bool
 is_joined name z = bytes_eq name (joined_name z.path z.stat)
 
 abbrev pub is_statistic : List Bytes → Stat → ZoneStat → Bool
-is_statistic path stat z = names_eq path z.path && same_stat stat z.stat
+is_statistic path stat z = same_statistic (path, stat) (z.path, z.stat)
 
 -- the statistic of a path, where it stands in the zones and no other has its joined name
 abbrev pub available : Zones → List Bytes → Stat → Option ZoneStat

@@ -1,11 +1,12 @@
 -- Tables in blocks, and their statistics.
-use Rattle.std.specs.Prelude.{ℕ, suc, Bool, true, false, List, [], ◌∷◌, ◌++◌, codes}
+use Rattle.std.specs.Prelude.{ℕ, suc, Bool, true, false, ◌&&◌, List, [], ◌∷◌, ◌++◌, codes}
 use Rattle.vx_dtype.specs.declared.Nullability.TheVariants.{NonNullable}
 use Rattle.vx_dtype.specs.declared.Stat.{Stat}
 use Rattle.vx_dtype.specs.declared.Stat.TheVariants.{Min, Max, NaNCount, NullCount}
 use Rattle.vx_dtype.specs.StatNames.{stat_name}
 use Rattle.vx_dtype.specs.Types.{Bytes, Ty, struct_ty, Fields}
 use Rattle.vx_dtype.specs.Values.{Val, Typed}
+use Rattle.vx_dtype.specs.Equal.{names_eq}
 
 -- a table: its columns, and its rows in blocks; each row is a struct of the columns
 pub record Table : Type 0 where
@@ -41,7 +42,20 @@ same_stat NaNCount NaNCount = true
 same_stat NullCount NullCount = true
 same_stat _ _ = false
 
+-- whether two statistics are of one path and kind
+abbrev pub same_statistic : List Bytes × Stat → List Bytes × Stat → Bool
+same_statistic a b = names_eq a.0 b.0 && same_stat a.1 b.1
+
+-- a statistic as a path: the path and, behind it, the statistic's name
+abbrev pub statistic_path : List Bytes → Stat → List Bytes
+statistic_path path stat = path ++ stat_name stat ∷ []
+
+-- the names of a path with `_` between
+abbrev pub joined_path : List Bytes → Bytes
+joined_path [] = []
+joined_path (f ∷ []) = f
+joined_path (f ∷ g ∷ fs) = f ++ (codes "_" ++ joined_path (g ∷ fs))
+
 -- the joined name of a statistic of a path: the path's names and the statistic's, with `_` between
 abbrev pub joined_name : List Bytes → Stat → Bytes
-joined_name [] stat = stat_name stat
-joined_name (f ∷ fs) stat = f ++ (codes "_" ++ joined_name fs stat)
+joined_name path stat = joined_path (statistic_path path stat)

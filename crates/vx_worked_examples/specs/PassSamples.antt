@@ -13,7 +13,7 @@ use Rattle.vx_semantics.specs.Typing.{Refusal}
 use Rattle.vx_worked_examples.specs.Samples.{number, col}
 use Rattle.vx_passes.specs.Annotating.{Entry, column_annotation}
 use Rattle.vx_passes.specs.Splitting.{Split, split}
-use Rattle.vx_passes.specs.Catalogs.{statistic_path}
+use Rattle.vx_semantics.specs.Tables.{statistic_path}
 use Rattle.vx_passes.specs.Falsifying.{Question}
 use Rattle.vx_passes.specs.PruningTables.{Pruning, pruning_over}
 

@@ -9,12 +9,8 @@ use Rattle.vx_dtype.specs.contracts.statistics.StatPartialEq.TheImpl as stat_eq
 use Rattle.vx_dtype.specs.Equal.{names_eq}
 use Rattle.vx_dtype.specs.EqualLaws.{names_eq_equiv}
 use Rattle.vx_dtype.specs.Types.{Bytes}
-use Rattle.vx_semantics.specs.Tables.{ZoneStat, same_stat}
+use Rattle.vx_semantics.specs.Tables.{ZoneStat, same_stat, same_statistic}
 use Rattle.vx_zones.specs.Zoning.{distinct_statistics}
-
--- whether two paths beside kinds are the same
-abbrev pub same_key : List Bytes × Stat → List Bytes × Stat → Bool
-same_key k j = names_eq k.0 j.0 && same_stat k.1 j.1
 
 -- the same as the set of them tests
 abbrev pub key_eq : List Bytes × Stat → List Bytes × Stat → Bool
@@ -38,7 +34,7 @@ kinds NullCount Max = refl
 kinds NullCount NaNCount = refl
 kinds NullCount NullCount = refl
 
-key_eq-same : (k j : List Bytes × Stat) → key_eq k j ≡ same_key j k
+key_eq-same : (k j : List Bytes × Stat) → key_eq k j ≡ same_statistic j k
 key_eq-same k j = λ i. names_eq_equiv.symm k.0 j.0 i && kinds k.1 j.1 i
 
 -- the path and the kind of a statistic
@@ -47,7 +43,7 @@ key_of z = (z.path, z.stat)
 
 -- whether a statistic has this path and kind
 abbrev pub has_key : List Bytes × Stat → List ZoneStat → Bool
-has_key k zs = list_any (λ z. same_key k (key_of z)) zs
+has_key k zs = list_any (λ z. same_statistic k (key_of z)) zs
 
 and_false : (a : Bool) → (a && false) ≡ false
 and_false true = refl
@@ -88,4 +84,4 @@ module _ {X : Type 0} (see : X → ZoneStat) where
     -- a set of those behind it, with it, has the paths and kinds from its place on
     pub one_more : (k : List Bytes × Stat) (was now : Bool) → was ≡ has_key k (map see (drop left xs)) → now ≡ cond (key_eq (key_of (see x)) k) true was → now ≡ has_key k (map see (drop i xs))
     one_more k was now h e =
-        e ∙ ap (λ b. cond b true was) (key_eq-same (key_of (see x)) k) ∙ either (same_key k (key_of (see x))) was ∙ ap (λ b. same_key k (key_of (see x)) || b) h ∙ sym (ap (has_key k) from_here)
+        e ∙ ap (λ b. cond b true was) (key_eq-same (key_of (see x)) k) ∙ either (same_statistic k (key_of (see x))) was ∙ ap (λ b. same_statistic k (key_of (see x)) || b) h ∙ sym (ap (has_key k) from_here)

@@ -1,8 +1,7 @@
 -- How statistics are seen, and which paths stand for them.
-use Rattle.std.specs.Prelude.{◌≡◌, true, ℕ, ◌^◌, ◌<◌, List, [], ◌∷◌, ◌++◌, length, fold, None}
+use Rattle.std.specs.Prelude.{◌≡◌, true, ℕ, ◌^◌, ◌<◌, List, [], length, fold, None}
 use Rattle.vx_dtype.specs.Types.{Bytes, Ty}
 use Rattle.vx_dtype.specs.TypeRules.{fields_of}
-use Rattle.vx_dtype.specs.StatNames.{stat_name}
 use Rattle.vx_dtype.specs.Paths.{with_path}
 use Rattle.vx_semantics.specs.Tables as tables
 use Rattle.vx_zones.specs.Zoning.{broken_rule, values_fit}
@@ -22,10 +21,6 @@ AreZones t lengths stats =
     (t ≡ tables.row_type (fields_of t)) × (length lengths < 2 ^ 32) × (broken_rule (zones_with t lengths stats) ≡ None)
     × (values_fit (zones_with t lengths stats) ≡ true)
 
--- the path that stands for a statistic: its own with the statistic's name at the end
-abbrev pub statistic_path : tables.ZoneStat → List Bytes
-statistic_path z = z.path ++ stat_name z.stat ∷ []
-
 -- the paths that stand for statistics, in order, none twice
 abbrev pub statistic_paths : List tables.ZoneStat → List (List Bytes)
-statistic_paths stats = fold (λ paths z. with_path (statistic_path z) paths) [] stats
+statistic_paths stats = fold (λ paths z. with_path (tables.statistic_path z.path z.stat) paths) [] stats

@@ -10,8 +10,9 @@ use Rattle.vx_dtype.specs.Types.{Bytes, Ty, int_ty, struct_ty, Fields, no_fields
 use Rattle.vx_dtype.specs.TypeRules.{with_nullability, is_plain, field_type, no_name_twice, depth_of, most_deep}
 use Rattle.vx_dtype.specs.Values.{Typed}
 use Rattle.vx_dtype.specs.Fits.{fits}
-use Rattle.vx_dtype.specs.Equal.{ty_eq, names_eq}
-use Rattle.vx_semantics.specs.Tables.{ZoneStat, Zones, row_type, same_stat}
+use Rattle.vx_dtype.specs.Equal.{ty_eq}
+use Rattle.vx_semantics.specs.Tables.{ZoneStat, Zones, row_type}
+use Rattle.vx_semantics.specs.Pruning.{is_statistic}
 use Rattle.vx_zones.specs.declared.errors.ZoneError.{ZoneError}
 use Rattle.vx_zones.specs.declared.errors.ZoneError.TheVariants as errors
 
@@ -45,14 +46,10 @@ statistic_type NaNCount t = None
 abbrev pub type_of_statistic : Fields → ZoneStat → Option Ty
 type_of_statistic columns z = option_and_then (statistic_type z.stat) (leaf_type columns z.path)
 
--- whether two statistics are of one path and one kind
-abbrev pub same_statistic : ZoneStat → ZoneStat → Bool
-same_statistic a b = names_eq a.path b.path && same_stat a.stat b.stat
-
 -- whether no two statistics are of one path and one kind
 abbrev pub distinct_statistics : List ZoneStat → Bool
 distinct_statistics [] = true
-distinct_statistics (z ∷ zs) = not (list_any (same_statistic z) zs) && distinct_statistics zs
+distinct_statistics (z ∷ zs) = not (list_any (is_statistic z.path z.stat) zs) && distinct_statistics zs
 
 -- whether a statistic has one value per block
 abbrev pub counts_blocks : List ℕ → ZoneStat → Bool

@@ -1,9 +1,9 @@
 // The statistics of a table's blocks.
 ghost use Rattle.std.specs.Prelude.{◌≡◌, true, ◌^◌, ◌<◌, None, length, map, IfOk};
 ghost use Rattle.vx_dtype.specs.TypeViews.{type_view};
-ghost use Rattle.vx_semantics.specs.Tables.{row_type};
+ghost use Rattle.vx_semantics.specs.Tables.{row_type, statistic_path};
 ghost use Rattle.vx_zones.specs.Zoning.{broken_rule, values_fit};
-ghost use Rattle.vx_zones.specs.ZoneViews.{stat_view, statistic_path, statistic_paths};
+ghost use Rattle.vx_zones.specs.ZoneViews.{stat_view, statistic_paths};
 ghost use Rattle.vx_zones.specs.ZoneAnswers.{MakesZones};
 
 use crate::errors::ZoneError;
@@ -165,7 +165,7 @@ fn statistic_paths(alloc: Global, stats: &[ZoneStat]) -> Mem<FieldPathSet>
 
 /// The path that stands for a statistic: its own with the statistic's name at the end.
 fn statistic_path(alloc: Global, stat: &ZoneStat) -> Mem<FieldPath>
-    ensures { IfOk result (λ path. path ≡ statistic_path (stat_view stat.now)) }
+    ensures { IfOk result (λ path. path ≡ statistic_path stat.now.path stat.now.stat) }
 {
     stat.path
         .push(alloc, FieldName::new(alloc, stat.stat.name())?)

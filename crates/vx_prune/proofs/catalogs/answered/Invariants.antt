@@ -1,6 +1,7 @@
 use Rattle.std.proofs.Common.{◌≡◌}
 use Rattle.std.specs.List.{filter}
-use Rattle.vx_passes.specs.Catalogs.{is_alone_among, statistic_path}
+use Rattle.vx_passes.specs.Catalogs.{is_alone_among}
+use Rattle.vx_semantics.specs.Tables.{statistic_path}
 use Rattle.vx_prune.proofs.catalogs.answered.Given as goal
 
 -- the available statistics so far

@@ -2,7 +2,7 @@ use Rattle.std.proofs.Common.{◌≡◌, true, false, ◌&&◌, nat_eq, length, 
 use Rattle.std.specs.List.{list_any, filter}
 use Rattle.std.specs.Str.{bytes_eq}
 use Rattle.vx_dtype.specs.Equal.{names_eq}
-use Rattle.vx_passes.specs.Catalogs.{joined_path}
+use Rattle.vx_semantics.specs.Tables.{joined_path}
 use Rattle.vx_prune.proofs.RequiredLemmas.{has_path-flipped}
 use Rattle.vx_prune.proofs.catalogs.is_alone.Goals as goal
 

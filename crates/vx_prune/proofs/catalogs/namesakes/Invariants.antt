@@ -1,7 +1,7 @@
 use Rattle.std.proofs.Common.{◌≡◌, ◌≤◌, length, take}
 use Rattle.std.specs.List.{filter}
 use Rattle.std.specs.Str.{bytes_eq}
-use Rattle.vx_passes.specs.Catalogs.{joined_path}
+use Rattle.vx_semantics.specs.Tables.{joined_path}
 use Rattle.vx_prune.proofs.catalogs.namesakes.Given as goal
 
 -- how many there are so far, and no more than were tested

@@ -1,7 +1,7 @@
 use Rattle.std.proofs.Common.{◌≡◌, map, take}
 use Rattle.std.specs.String.{string_bytes}
 use Rattle.vx_dtype.specs.PathViews.{part_name}
-use Rattle.vx_passes.specs.Catalogs.{joined_path}
+use Rattle.vx_semantics.specs.Tables.{joined_path}
 use Rattle.vx_prune.proofs.joined_names.joined_path.Given as goal
 
 -- the names so far, joined
