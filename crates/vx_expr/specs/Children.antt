@@ -1,13 +1,11 @@
 -- A node with other children, and the parts of nodes that are looked up.
-use Rattle.std.specs.Prelude.{◌==◌, Bool, true, false, cond, List, [], ◌∷◌, length, Option, Some, None, option_map, position, codes}
-use Rattle.std.specs.Option.{option_and_then}
-use Rattle.std.specs.List.{slice_get}
+use Rattle.std.specs.Prelude.{◌==◌, Bool, true, false, cond, List, [], ◌∷◌, length, Option, Some, None, option_map, codes}
 use Rattle.std.specs.Str.{bytes_eq}
 use Rattle.vx_dtype.specs.declared.Nullability.{Nullability}
 use Rattle.vx_dtype.specs.Types.{Bytes}
 use Rattle.vx_dtype.specs.Values.{Typed}
 use Rattle.vx_expr.specs.Trees.{Tree, root, literal, get_item, binary, not_of, is_null_of, like, between}
-use Rattle.vx_expr.specs.Trees.{cast, list_contains, pack, merge, select, dynamic, trees_of, listed}
+use Rattle.vx_expr.specs.Trees.{cast, list_contains, pack, merge, select, dynamic, Trees, tree, trees_of, listed}
 use Rattle.vx_expr.specs.Packed.{Packed}
 
 -- the elements of a list of one, of two, of three, and none of another list
@@ -80,6 +78,11 @@ literal_of _ = None
 abbrev pub packed_of : List Bytes → List Tree → Nullability → Option Packed
 packed_of names values n = where_so (length names == length values) (record { names = names; values = values; nullability = n })
 
--- the value at the place of the first name that is this one
+-- the first value of this name in a pack of these names and values
+abbrev pub packed_value : Bytes → List Bytes → Trees → Option Tree
+packed_value f (g ∷ names) (tree e es) = cond (bytes_eq f g) (Some e) (packed_value f names es)
+packed_value f _ _ = None
+
+-- the value of a pack's first field of this name
 abbrev pub packed_field : Bytes → Packed → Option Tree
-packed_field f p = option_and_then (λ i. slice_get p.values i) (position (bytes_eq f) p.names)
+packed_field f p = packed_value f p.names (trees_of p.values)

@@ -10,7 +10,7 @@ use Rattle.vx_dtype.specs.TypeRules.{field_names, has_name}
 use Rattle.vx_dtype.specs.Values.{Typed}
 use Rattle.vx_expr.specs.declared.FieldSelection.{FieldSelection}
 use Rattle.vx_expr.specs.Selections.{names_where_known}
-use Rattle.vx_expr.specs.Children.{is_root_tree}
+use Rattle.vx_expr.specs.Children.{is_root_tree, packed_value}
 use Rattle.vx_expr.specs.Trees.{Tree, root, literal, get_item, binary, not_of, is_null_of, like, between, cast, list_contains, pack, merge, select, dynamic, Trees, no_trees, tree, trees_of}
 use Rattle.vx_semantics.specs.Typing.{Refusal, and_then}
 use Rattle.vx_semantics.specs.LooseTyping.{loosely_typed}
@@ -18,7 +18,7 @@ use Rattle.vx_semantics.specs.Merging.{merged_names, last_giver}
 use Rattle.vx_passes.specs.Rebuilding.{rebuilt, all_rebuilt}
 use Rattle.vx_passes.specs.Replacing.{changed_by, all_changed_by, column, packed_row, packed_where_root}
 use Rattle.vx_passes.specs.Ranges.{Reading, range_of, ranged}
-use Rattle.vx_passes.specs.Simplifying.{packed_value, known_field, field_of_pack, without_packed_fields, simplified}
+use Rattle.vx_passes.specs.Simplifying.{known_field, field_of_pack, without_packed_fields, simplified}
 use Rattle.vx_passes.specs.Selecting.{fields_pack, select_as_pack, select_removed, without_select}
 use Rattle.vx_passes.specs.Merging.{Giving, giving_names, giving_of, givings, given_field, givings_pack, merge_removed, without_merge}
 use Rattle.vx_passes.specs.TypedSimplifying.{simplified_typed}

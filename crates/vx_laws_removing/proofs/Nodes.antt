@@ -14,7 +14,8 @@ use Rattle.vx_semantics.specs.Typing.{Refusal, and_then}
 use Rattle.vx_semantics.specs.LooseTyping.{loosely_typed}
 use Rattle.vx_semantics.specs.Merging.{merged_names, last_giver}
 use Rattle.vx_passes.specs.Rebuilding.{rebuilt, all_rebuilt}
-use Rattle.vx_passes.specs.Simplifying.{packed_value, known_field, field_of_pack, without_packed_fields}
+use Rattle.vx_expr.specs.Children.{packed_value}
+use Rattle.vx_passes.specs.Simplifying.{known_field, field_of_pack, without_packed_fields}
 use Rattle.vx_passes.specs.Selecting.{fields_pack, select_as_pack, select_removed, without_select}
 use Rattle.vx_passes.specs.Merging.{Giving, giving_names, giving_of, givings, given_field, givings_pack, merge_removed, without_merge}
 use Rattle.vx_laws.proofs.Inverting.{and_then-ok, Ok-same}

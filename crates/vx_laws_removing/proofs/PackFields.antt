@@ -6,7 +6,8 @@ use Rattle.vx_expr.specs.Trees.{Tree, root, literal, get_item, binary, not_of, i
 use Rattle.vx_semantics.specs.Typing.{typed_of}
 use Rattle.vx_semantics.specs.Nodes.{nodes_of, nodes_of_all}
 use Rattle.vx_passes.specs.Rebuilding.{rebuilt}
-use Rattle.vx_passes.specs.Simplifying.{packed_value, known_field, field_of_pack, without_packed_fields}
+use Rattle.vx_expr.specs.Children.{packed_value}
+use Rattle.vx_passes.specs.Simplifying.{known_field, field_of_pack, without_packed_fields}
 use Rattle.vx_laws.proofs.Inverting.{Ok-same}
 use Rattle.vx_laws_simplifying.proofs.PackedFields.{without_packed_fields-kept}
 use Rattle.vx_laws_removing.proofs.Walked.{Typed, narrowed, typed-made}

@@ -5,7 +5,7 @@ use Rattle.std.proofs.lemmas.Bool.{and_parts}
 use Rattle.vx_dtype.specs.Types.{Bytes}
 use Rattle.vx_dtype.specs.TypeRules.{distinct_names, has_name}
 use Rattle.vx_expr.specs.Trees.{Tree, pack, Trees, no_trees, tree}
-use Rattle.vx_passes.specs.Simplifying.{packed_value}
+use Rattle.vx_expr.specs.Children.{packed_value}
 use Rattle.vx_laws.proofs.Inverting.{bytes_same, bytes_eq-itself}
 use Rattle.vx_laws_removing.proofs.Counted.{weight, size, sizes}
 

@@ -14,7 +14,8 @@ use Rattle.vx_expr.specs.Trees.{Tree, root, literal, get_item, binary, not_of, i
 use Rattle.vx_semantics.specs.Merging.{merged_names, last_giver}
 use Rattle.vx_semantics.specs.Typing.{Refusal, nullable_select, duplicate_field, type_mismatch, and_then, unless, item_type, pack_type, typed_of, all_typed}
 use Rattle.vx_passes.specs.Selecting.{fields_pack}
-use Rattle.vx_passes.specs.Simplifying.{packed_value, field_of_pack}
+use Rattle.vx_expr.specs.Children.{packed_value}
+use Rattle.vx_passes.specs.Simplifying.{field_of_pack}
 use Rattle.vx_passes.specs.Merging.{Giving, giving_names, givings_pack}
 use Rattle.vx_laws.proofs.Inverting.{and_then-ok, unless-ok, Ok-same}
 use Rattle.vx_laws.proofs.Preserving.{distinct_type-ok}

@@ -17,7 +17,8 @@ use Rattle.vx_semantics.specs.Meaning.{Slots, zip_members, mean, meanings}
 use Rattle.vx_semantics.specs.Slots.{slots_fit, all_slots_fit}
 use Rattle.vx_semantics.specs.Asked.{Asking, asks_node, asked, asked_in_pack}
 use Rattle.vx_passes.specs.Ranges.{ranged}
-use Rattle.vx_passes.specs.Simplifying.{packed_value, known_field, field_of_pack, without_packed_fields, simplified}
+use Rattle.vx_expr.specs.Children.{packed_value}
+use Rattle.vx_passes.specs.Simplifying.{known_field, field_of_pack, without_packed_fields, simplified}
 use Rattle.vx_laws.proofs.Inverting.{and_then-ok, Ok-same}
 use Rattle.vx_laws.proofs.Structs.{item_type-ok}
 use Rattle.vx_laws.proofs.Faultless.{pack_type-ok}

@@ -1,16 +1,9 @@
 -- Simplifying: a field taken straight from a pack is the pack's value of that name; then ranges are found in the whole.
-use Rattle.std.specs.Prelude.{List, ◌∷◌, Option, Some, None, cond, Result, Ok, Err}
-use Rattle.std.specs.Str.{bytes_eq}
-use Rattle.vx_dtype.specs.Types.{Bytes}
-use Rattle.vx_expr.specs.Trees.{Tree, get_item, pack, Trees, tree}
+use Rattle.std.specs.Prelude.{Option, Some, None, Result, Ok, Err}
+use Rattle.vx_expr.specs.Trees.{Tree, get_item, pack}
 use Rattle.vx_semantics.specs.Typing.{Refusal, unknown_field, and_then}
 use Rattle.vx_passes.specs.Rebuilding.{rebuilt}
 use Rattle.vx_passes.specs.Ranges.{ranged}
-
--- the first value of this name in a pack of these names and values
-abbrev pub packed_value : Bytes → List Bytes → Trees → Option Tree
-packed_value f (g ∷ names) (tree e es) = cond (bytes_eq f g) (Some e) (packed_value f names es)
-packed_value f _ _ = None
 
 -- the expression, or the refusal of an unknown field
 abbrev pub known_field : Option Tree → Result Tree Refusal

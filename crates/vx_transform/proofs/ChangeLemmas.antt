@@ -1,15 +1,12 @@
 -- A pass that never refuses, and fields of packs.
-use Rattle.std.proofs.Common.{◌≡◌, ℕ, zero, suc, ◌+◌, Bool, true, false, cond, List, [], ◌∷◌, length, Option, Some, None, Ok, Err, Result, refl, ap, sym, subst, ◌∙◌, true≢false, arith}
-use Rattle.std.specs.Prelude.{position, nat_lt, not, IfOk}
-use Rattle.std.specs.Option.{option_and_then}
-use Rattle.std.specs.List.{slice_get, position_or_len}
-use Rattle.std.specs.Str.{bytes_eq}
+use Rattle.std.proofs.Common.{◌≡◌, Bool, true, false, Option, None, Ok, Err, Result, refl, ap, sym, subst, ◌∙◌, true≢false}
+use Rattle.std.specs.Prelude.{IfOk}
 use Rattle.vx_dtype.specs.Types.{Bytes}
-use Rattle.vx_expr.specs.Trees.{Tree, root, literal, get_item, binary, not_of, is_null_of, like, between, cast, list_contains, pack, merge, select, dynamic, Trees, no_trees, tree, trees_of}
+use Rattle.vx_expr.specs.Trees.{Tree, root, literal, get_item, binary, not_of, is_null_of, like, between, cast, list_contains, pack, merge, select, dynamic, Trees, no_trees, tree}
 use Rattle.vx_semantics.specs.Typing.{Refusal, and_then}
 use Rattle.vx_passes.specs.Rebuilding.{rebuilt, all_rebuilt}
 use Rattle.vx_passes.specs.Replacing.{changed_by, all_changed_by}
-use Rattle.vx_passes.specs.Simplifying.{packed_value, known_field, field_of_pack}
+use Rattle.vx_passes.specs.Simplifying.{known_field, field_of_pack}
 use Rattle.vx_expr.specs.declared.errors.ExprError.{ExprError}
 use Rattle.vx_expr.specs.Answers.{AnswersBy}
 use Rattle.vx_expr.specs.Packed.{Packed, pack_tree}
@@ -97,43 +94,11 @@ never_refused told d (Err TypeMismatch) e h = absurd (not_both told d _ e h)
 
 -- ---- fields of packs
 
--- the place of the first of these at which a test passes, by whether it passes at the head
-head_or_later : (b c : Bool) (n : ℕ) (e : Tree) (es : List Tree) → cond b (Some e) (option_and_then (λ i. slice_get es i) (cond c (Some n) None))
-    ≡ option_and_then (λ i. slice_get (e ∷ es) i) (cond b (Some zero) (cond c (Some (suc n)) None))
-head_or_later true c n e es = refl
-head_or_later false true n e es = refl
-head_or_later false false n e es = refl
-
-below_behind : (n m : ℕ) (c : Bool) → nat_lt n m ≡ c → nat_lt (1 + n) (suc m) ≡ c
-below_behind n m true h = grind (arith, h)
-below_behind n m false h = grind (arith, h)
-
-place_by : (b : Bool) (n m : ℕ) → cond b (Some zero) (cond (nat_lt n m) (Some (suc n)) None)
-    ≡ cond (nat_lt (cond (not b) (1 + n) 0) (suc m)) (Some (cond (not b) (1 + n) 0)) None
-place_by true n m = let e : true ≡ nat_lt 0 (suc m) = grind arith in ap (λ c. cond c (Some zero) None) e
-place_by false n m =
-    let e : suc n ≡ 1 + n = omega arith in
-    ap (λ c. cond c (Some (suc n)) None) (sym (below_behind n m (nat_lt n m) refl)) ∙ ap (λ k. cond (nat_lt (1 + n) (suc m)) (Some k) None) e
-
-nothing_at : (o : Option ℕ) → None ≡ option_and_then (λ i. slice_get {X = Tree} [] i) o
-nothing_at None = refl
-nothing_at (Some i) = refl
-
--- the first value of a name is the one at the name's first place
-pub packed_value_at : (f : Bytes) (names : List Bytes) (es : List Tree) → packed_value f names (trees_of es) ≡ option_and_then (λ i. slice_get es i) (position (bytes_eq f) names)
-packed_value_at f [] es = refl
-packed_value_at f (g ∷ names) [] = nothing_at (position (bytes_eq f) (g ∷ names))
-packed_value_at f (g ∷ names) (e ∷ es) =
-    let n = position_or_len (bytes_eq f) names in
-    ap (λ o. cond (bytes_eq f g) (Some e) o) (packed_value_at f names es)
-    ∙ head_or_later (bytes_eq f g) (nat_lt n (length names)) n e es
-    ∙ ap (λ o. option_and_then (λ i. slice_get (e ∷ es) i) o) (place_by (bytes_eq f g) n (length names))
-
 -- a field that is taken straight from a pack
 pub field_taken : (e child : Tree) (f : Bytes) (p : Packed) (o : Option Tree) → get_item f child ≡ e → pack_tree p ≡ child → packed_field f p ≡ o
     → field_of_pack e ≡ known_field o
 field_taken e child f p o is_item is_pack known =
-    ap field_of_pack (sym is_item ∙ ap (get_item f) (sym is_pack)) ∙ ap known_field (packed_value_at f p.names p.values ∙ known)
+    ap field_of_pack (sym is_item ∙ ap (get_item f) (sym is_pack)) ∙ ap known_field known
 
 -- a name that no field of a pack has
 pub no_field : (o : Option Tree) (e : ExprError) → e ≡ ExprError.UnknownField → AnswersBy (λ d. d) ExprError.UnknownField o (Err e) → o ≡ None

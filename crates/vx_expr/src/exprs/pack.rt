@@ -109,6 +109,7 @@ impl PackExpr {
     /// The value of the first field of this name.
     ///
     /// Refuses with UnknownField exactly where no field has the name.
+    #[tactic(auto, using(crate::proofs::PackedFields::packed_value_at))]
     pub fn field(&self, name: &FieldName) -> Result<ExprRef, ExprError>
         ensures { Answers UnknownField (packed_field name.now self.now) result }
     {
