@@ -31,10 +31,14 @@ unfoldable mutual
   nodes_of_all no_trees = []
   nodes_of_all (tree e es) = nodes_of e ++ nodes_of_all es
 
+-- whether some node of an expression passes a test
+abbrev pub some_node : (Tree → Bool) → Tree → Bool
+some_node test e = list_any test (nodes_of e)
+
 -- whether a node itself breaks at one of these rows by this cause
 abbrev pub breaks_at_some : Cause → Ty → Slots → List Val → Tree → Bool
 breaks_at_some c t slots rows n = list_any (λ row. breaks_by c t slots row n) rows
 
 -- whether some node of an expression, asked or not, breaks at one of these rows by this cause
 abbrev pub some_node_breaks : Cause → Ty → Slots → List Val → Tree → Bool
-some_node_breaks c t slots rows e = list_any (breaks_at_some c t slots rows) (nodes_of e)
+some_node_breaks c t slots rows e = some_node (breaks_at_some c t slots rows) e
