@@ -16,9 +16,7 @@ use crate::columns::ColumnRef;
 use crate::errors::ColumnError;
 use std::alloc::Global;
 use std::rc::Rc;
-use vx_dtype::{
-    DType, ElementType, Mem, NoMemory, Nullability, PType, Scalar, ScalarValue, Text,
-};
+use vx_dtype::{DType, ElementType, Mem, NoMemory, Nullability, PType, Scalar, ScalarValue, Text};
 use vx_numbers::Numbers;
 use vx_words::Truths;
 

@@ -4,9 +4,7 @@ use crate::rows::{list_in, number_of, text_in};
 use serde_json::Value;
 use std::alloc::Global;
 use vx_column::ColumnRef;
-use vx_dtype::{
-    DType, FieldName, FieldNames, Mem, Nullability, PType, Scalar, ScalarValue, Text,
-};
+use vx_dtype::{DType, FieldName, FieldNames, Mem, Nullability, PType, Scalar, ScalarValue, Text};
 use vx_expr::LiteralExpr;
 use vx_text::read_query;
 

@@ -5,9 +5,7 @@ ghost use Rattle.vx_tokens.specs.Tokens.{is_digit, is_inner, is_of, is_number, r
 ghost use Rattle.vx_tokens.specs.Tokens.{word_token, word_behind, name_behind, text_behind};
 ghost use Rattle.vx_tokens.specs.Tokens.{suffix_of, number_of, number_within, number_behind, sign_at, marked_at, token_at, tokens_of};
 
-use crate::characters::{
-    is_blank, is_digit, is_first, is_inner, keyword_of, one_sign, two_signs,
-};
+use crate::characters::{is_blank, is_digit, is_first, is_inner, keyword_of, one_sign, two_signs};
 use crate::tokens::Token;
 use std::alloc::Global;
 use vx_dtype::{Mem, PType, Text};
