@@ -15,5 +15,5 @@ pub use memory_source::MemorySource;
 pub use reading::{InputError, read_up_to};
 pub use sinks::{Sink, WriteFailed};
 pub use sources::{ReadFailed, Source};
-pub use standard::{StdinSource, StdoutSink};
+pub use standard::{ReaderSource, StdinSource, StdoutSink, WriterSink};
 pub use writing::write_whole;

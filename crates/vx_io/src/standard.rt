@@ -1,75 +1,97 @@
-// Standard input and output as the ends of a program: the trusted edge.
-ghost use Rattle.std.specs.Prelude.{◌≡◌, ◌≤◌, length, None, IfSome};
+// Readers and writers of the standard library as the ends of a program, standard input and output among them: the trusted edge.
+ghost use Rattle.std.specs.Prelude.{◌≡◌, ◌<◌, ◌≤◌, length, take, None, IfOk, IfSome};
+ghost use Rattle.std.specs.Io.KnownBytes.{Appends, ReadConsumes};
+ghost use Rattle.vx_io.specs.Ends.{HasCause, ReadsFrom, WritesTo};
 
 use crate::sinks::{Sink, WriteFailed};
 use crate::sources::{ReadFailed, Source};
 use std::fmt;
 use std::io::{Read, Stdin, Stdout, Write};
 
-/// Standard input as a source. It tells no bytes, and counts its errors.
+/// A reader as a source. It tells no bytes, and counts its errors. It takes what its reader gives, once for each read.
 #[derive(Drop)]
-pub struct StdinSource {
-    stdin: Stdin,
+pub struct ReaderSource<R: Read + Drop> {
+    reader: R,
     faults: u64,
 }
 
-/// Standard output as a sink. It tells no bytes, and counts its errors. Each write is flushed; a write that takes
-/// nothing and a flush that fails are errors too.
+/// Standard input as a source.
+pub type StdinSource = ReaderSource<Stdin>;
+
+/// A writer as a sink. It tells no bytes, and counts its errors. Each write is flushed; a write that takes nothing and a
+/// flush that fails are errors too.
 #[derive(Drop)]
-pub struct StdoutSink {
-    stdout: Stdout,
+pub struct WriterSink<W: Write + Drop> {
+    writer: W,
     faults: u64,
 }
+
+/// Standard output as a sink.
+pub type StdoutSink = WriterSink<Stdout>;
 
 /// Without the end itself, which has no text.
-impl fmt::Debug for StdinSource {
-    fn fmt<W: fmt::Write>(&self, f: &mut fmt::Formatter<W>) -> fmt::Result {
-        f.debug_struct("StdinSource")
+impl<R: Read + Drop> fmt::Debug for ReaderSource<R> {
+    fn fmt<F: fmt::Write>(&self, f: &mut fmt::Formatter<F>) -> fmt::Result {
+        f.debug_struct("ReaderSource")
             .field("faults", &self.faults)
             .finish_non_exhaustive()
     }
 }
 
 /// Without the end itself, which has no text.
-impl fmt::Debug for StdoutSink {
-    fn fmt<W: fmt::Write>(&self, f: &mut fmt::Formatter<W>) -> fmt::Result {
-        f.debug_struct("StdoutSink")
+impl<W: Write + Drop> fmt::Debug for WriterSink<W> {
+    fn fmt<F: fmt::Write>(&self, f: &mut fmt::Formatter<F>) -> fmt::Result {
+        f.debug_struct("WriterSink")
             .field("faults", &self.faults)
             .finish_non_exhaustive()
     }
 }
 
-impl StdinSource {
-    /// The standard input that this is, without faults so far.
-    pub fn new(stdin: Stdin) -> StdinSource {
-        StdinSource { stdin, faults: 0 }
+impl<R: Read + Drop> ReaderSource<R> {
+    /// The reader as a source, without faults so far.
+    pub fn new(reader: R) -> ReaderSource<R>
+        ensures reader { result.reader ≡ reader }
+        ensures faults { result.faults ≡ 0 }
+    {
+        ReaderSource { reader, faults: 0 }
     }
 }
 
-impl StdoutSink {
-    /// The standard output that this is, without faults so far.
-    pub fn new(stdout: Stdout) -> StdoutSink {
-        StdoutSink { stdout, faults: 0 }
+impl<W: Write + Drop> WriterSink<W> {
+    /// The writer as a sink, without faults so far.
+    pub fn new(writer: W) -> WriterSink<W>
+        ensures writer { result.writer ≡ writer }
+        ensures faults { result.faults ≡ 0 }
+    {
+        WriterSink { writer, faults: 0 }
     }
 
     // How many bytes were written and flushed, if no error came.
+    #[tactic(auto, using(crate::proofs::Known::appends_kept))]
     fn write_and_flush(&mut self, piece: &[u8]) -> Option<usize>
         ensures bound { IfSome result (λ n. n ≤ length piece.now) }
         ensures same { self.new.faults ≡ self.old.faults }
+        ensures writer { IfSome result (λ n. Appends (W.contents self.old.writer) (W.contents self.new.writer) (take n piece.now)) }
     {
-        let n = self.stdout.write(piece).ok()?;
-        self.stdout.flush().ok()?;
+        let n = self.writer.write(piece).ok()?;
+        self.writer.flush().ok()?;
         Some(n)
     }
 }
 
-impl Source for StdinSource {
+impl<R: Read + Drop> Source for ReaderSource<R> {
     ghost left = { λ _. None };
 
     ghost faults = { λ s. s.faults };
 
-    fn read(&mut self, into: &mut [u8]) -> Result<usize, ReadFailed> {
-        match self.stdin.read(into) {
+    fn read(&mut self, into: &mut [u8]) -> Result<usize, ReadFailed>
+        ensures bound { IfOk result (λ n. n ≤ length into.old) }
+        ensures bytes { ReadsFrom None None into.new result }
+        ensures cause { HasCause self.old.faults self.new.faults result }
+        ensures quiet { IfOk result (λ _. self.new.faults ≡ self.old.faults) }
+        ensures reader { ReadConsumes (R.remaining self.old.reader) (R.remaining self.new.reader) result into.new }
+    {
+        match self.reader.read(into) {
             Ok(n) => Ok(n),
             Err(_) => {
                 self.faults = self.faults.saturating_add(1);
@@ -79,12 +101,19 @@ impl Source for StdinSource {
     }
 }
 
-impl Sink for StdoutSink {
+impl<W: Write + Drop> Sink for WriterSink<W> {
     ghost written = { λ _. None };
 
     ghost faults = { λ s. s.faults };
 
-    fn write(&mut self, piece: &[u8]) -> Result<usize, WriteFailed> {
+    #[tactic(auto, using(crate::proofs::Known::appends_nothing))]
+    fn write(&mut self, piece: &[u8]) -> Result<usize, WriteFailed>
+        ensures bound { IfOk result (λ n. n ≤ length piece.now) }
+        ensures moves { IfOk result (λ n. 0 < length piece.now → 0 < n) }
+        ensures bytes { WritesTo None None piece.now result }
+        ensures cause { HasCause self.old.faults self.new.faults result }
+        ensures writer { IfOk result (λ n. Appends (W.contents self.old.writer) (W.contents self.new.writer) (take n piece.now)) }
+    {
         if piece.is_empty() {
             return Ok(0);
         }
