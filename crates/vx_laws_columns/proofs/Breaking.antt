@@ -9,6 +9,7 @@ use Rattle.vx_expr.specs.Trees.{Tree, pack, Trees, trees_of, listed}
 use Rattle.vx_semantics.specs.Typing.{typed_of}
 use Rattle.vx_semantics.specs.Meaning.{Slots, zip_members, mean, meanings}
 use Rattle.vx_semantics.specs.Breaks.{Cause, by_sum, by_cast, breaks_by}
+use Rattle.vx_semantics.specs.Nodes.{some_node}
 use Rattle.vx_semantics.specs.Tables.{row_type}
 use Rattle.vx_passes.specs.Annotating.{Entry}
 use Rattle.vx_passes.specs.TypedSimplifying.{simplified_typed}
@@ -19,7 +20,6 @@ use Rattle.vx_laws_simplifying.specs.Asking.{breaks_along}
 use Rattle.vx_laws_simplifying.proofs.Observing.{breaking, breaking-observes, breaking-along, or-comm, or-false}
 use Rattle.vx_laws.proofs.AnySlots.{fits-but_nulls, mean-but_nulls}
 use Rattle.vx_laws_removing.proofs.Composed.{simplified_typed-kept}
-use Rattle.vx_laws_parts.specs.Preserved.{some_node}
 use Rattle.vx_laws_parts.proofs.Outcomes.{preserved_breaks}
 use Rattle.vx_laws_parts.specs.Taking.{packed_shares}
 use Rattle.vx_laws_parts.specs.Recombining.{partitions_row}

@@ -10,13 +10,14 @@ use Rattle.vx_expr.specs.Children.{is_root_tree}
 use Rattle.vx_expr.specs.Trees.{Tree, root, get_item, children_of}
 use Rattle.vx_semantics.specs.Meaning.{Slots}
 use Rattle.vx_semantics.specs.Breaks.{Cause, by_sum, by_cast, breaks_by}
+use Rattle.vx_semantics.specs.Nodes.{nodes_of, some_node}
 use Rattle.vx_passes.specs.Annotating.{Entry, entry_of}
 use Rattle.vx_passes.specs.Splitting.{Share, Taken, parts_count, with_part, part_name, taken_from}
 use Rattle.vx_laws.proofs.Inverting.{bytes_same}
 use Rattle.vx_laws.proofs.EachNode.{by_children, nodes-below}
 use Rattle.vx_laws_simplifying.proofs.Observing.{or-assoc, or-comm, or-false}
 use Rattle.vx_laws_removing.specs.Simplest.{nodes_below, is_simple}
-use Rattle.vx_laws_parts.specs.Preserved.{rowless, some_node}
+use Rattle.vx_laws_parts.specs.Preserved.{rowless}
 use Rattle.vx_laws_parts.proofs.Shown.{is_of_row, is_pack}
 use Rattle.vx_laws_parts.proofs.PutBack.{SharesStand, taken-goes}
 use Rattle.vx_laws_parts.proofs.SharesHold.{shares_after, shares_with, shares-by_children}
@@ -141,7 +142,7 @@ module _ (t v : Ty) (slots : Slots) (row made : Val) (cause : Cause) (m : List (
       by-test false r = ap (λ (b : Bool). list_any whole_breaks x.parts || b) r ∙ swap-any (list_any whole_breaks x.parts) (whole_breaks e) (some_part_breaks xs)
 
   access-quiet : (f g : Bytes) → left_breaks (get_item f (get_item g root)) ≡ false
-  unfolding some_node
+  unfolding nodes_of
   access-quiet f g = by-cause cause
     where
       by-cause : (c : Cause) → some_node (breaks_by c v slots made) (get_item f (get_item g root)) ≡ false

@@ -1,21 +1,18 @@
 -- Each node of the parts of an expression split by its columns is asked, so the nodes break where the asked ones do.
 use Rattle.std.proofs.Common.{◌≡◌, refl, ap, sym, ◌∙◌, Bool, true, ◌||◌, List, [], ◌∷◌}
-use Rattle.std.specs.List.{flat_map, AllByRecursion, list_any}
+use Rattle.std.specs.List.{AllByRecursion, list_any}
 use Rattle.std.proofs.lemmas.List.Elements.{All-from_recursion}
-use Rattle.std.proofs.lemmas.List.Folds.{list_any-append}
 use Rattle.vx_dtype.specs.Types.{Bytes, Ty, Fields}
 use Rattle.vx_dtype.specs.TypeRules.{no_name_twice}
 use Rattle.vx_dtype.specs.Values.{Val}
-use Rattle.vx_expr.specs.Trees.{Tree, children_of}
+use Rattle.vx_expr.specs.Trees.{Tree}
 use Rattle.vx_semantics.specs.Meaning.{Slots}
-use Rattle.vx_semantics.specs.Breaks.{Cause, breaks_by}
-use Rattle.vx_semantics.specs.Nodes.{nodes_of}
+use Rattle.vx_semantics.specs.Breaks.{Cause}
 use Rattle.vx_semantics.specs.Tables.{row_type}
 use Rattle.vx_passes.specs.Splitting.{Partition, partitions_type}
-use Rattle.vx_laws.proofs.EachNode.{by_children, nodes-by_children, IsTyped, all-map}
+use Rattle.vx_laws.proofs.EachNode.{IsTyped, all-map}
 use Rattle.vx_laws_simplifying.specs.Asking.{breaks_along}
 use Rattle.vx_laws_removing.proofs.Settled.{simplified_simple}
-use Rattle.vx_laws_parts.specs.Preserved.{some_node}
 use Rattle.vx_laws_parts.proofs.Rowless.{simplified_typed-rowless}
 use Rattle.vx_laws_parts.specs.Recombining.{partitions_row}
 use Rattle.vx_laws_columns.specs.Evaluable.{node_breaks_at, NodesBreakAsAsked, NodesStandAlone, PartitionNodesStandAlone}
@@ -23,33 +20,15 @@ use Rattle.vx_laws_columns.proofs.Rows.{IsRowless}
 use Rattle.vx_laws_columns.proofs.Entries.{columns_map, columns-known}
 use Rattle.vx_laws_columns.proofs.AskedColumns.{IsSimple}
 use Rattle.vx_laws_columns.proofs.Partitions.{own_name, taken_by_columns, IsOfColumn}
-use Rattle.vx_laws_columns.proofs.Remade.{some-by_children}
 use Rattle.vx_laws_columns.proofs.SameBreaks.{each-asked}
 use Rattle.vx_laws_columns.proofs.ByColumn.{ready, is-split, touches, stands-alone}
 use Rattle.vx_laws_columns.proofs.LeftOver.{stays-simple}
 use Rattle.vx_laws_columns.proofs.Breaking.{partitions_break_asked}
 use Rattle.vx_laws_columns.proofs.RootType.{root_is_typed}
 
-module _ (test : Tree → Bool) where
-  abbrev InList : Tree → Type 0
-  InList e = list_any test (nodes_of e) ≡ some_node test e
-
-  any-below : (cs : List Tree) → AllByRecursion InList cs → list_any test (flat_map nodes_of cs) ≡ list_any (some_node test) cs
-  any-below [] h = refl
-  any-below (c ∷ cs) h =
-      list_any-append test (nodes_of c) (flat_map nodes_of cs)
-      ∙ (ap (λ (b : Bool). b || list_any test (flat_map nodes_of cs)) h.0 ∙ ap (λ (b : Bool). some_node test c || b) (any-below cs h.1))
-
-  -- some node of an expression is one in the list of its nodes
-  pub some-listed : (e : Tree) → list_any test (nodes_of e) ≡ some_node test e
-  some-listed =
-      by_children InList
-      (λ e below.
-      ap (list_any test) (nodes-by_children e) ∙ (ap (λ (b : Bool). test e || b) (any-below (children_of e) below) ∙ sym (some-by_children test e)))
-
 -- of a typed expression of simple nodes the nodes break where the asked ones do
 nodes-asked : (cause : Cause) (t : Ty) (slots : Slots) (row : Val) (e : Tree) → IsTyped t e → IsSimple e → IsRowless e → node_breaks_at cause t slots row e ≡ breaks_along cause t slots row e []
-nodes-asked cause t slots row e h s r = some-listed (breaks_by cause t slots row) e ∙ sym (each-asked t slots row cause e h s r)
+nodes-asked cause t slots row e h s r = sym (each-asked t slots row cause e h s r)
 
 part-nodes : (cause : Cause) (t : Ty) (slots : Slots) (row : Val) (p : Partition Bytes) → IsOfColumn t p → node_breaks_at cause t slots row p.expression ≡ breaks_along cause t slots row p.expression []
 part-nodes cause t slots row p k = let c = touches t p k in nodes-asked cause t slots row p.expression (p.ty, k.typed) c.simple c.rowless

@@ -1,7 +1,8 @@
 -- A node over other children: whether it breaks, and whether it stays simple.
 use Rattle.std.proofs.Common.{◌≡◌, refl, ap, sym, ◌∙◌, Bool, true, false, not, ◌&&◌, ◌||◌, List, [], ◌∷◌}
-use Rattle.std.specs.List.{AllByRecursion, list_any}
+use Rattle.std.specs.List.{flat_map, AllByRecursion, list_any}
 use Rattle.std.proofs.lemmas.Bool.{and_from, or_right}
+use Rattle.std.proofs.lemmas.List.Folds.{list_any-append}
 use Rattle.vx_dtype.specs.Types.{Bytes, Ty}
 use Rattle.vx_dtype.specs.Values.{Val}
 use Rattle.vx_dtype.specs.Casts.{cast3}
@@ -10,44 +11,23 @@ use Rattle.vx_expr.specs.Children.{is_root_tree}
 use Rattle.vx_expr.specs.Trees.{Tree, root, literal, get_item, binary, not_of, is_null_of, like, between, cast, list_contains, pack, merge, select, dynamic, Trees, no_trees, tree, listed, children_of}
 use Rattle.vx_semantics.specs.Meaning.{Slots, binary3, mean}
 use Rattle.vx_semantics.specs.Breaks.{Cause, by_sum, by_cast, is_fault, cause_where, is_cause, breaks_by}
+use Rattle.vx_semantics.specs.Nodes.{nodes_of, some_node}
 use Rattle.vx_passes.specs.Annotating.{Entry, entry_of}
 use Rattle.vx_passes.specs.Splitting.{Share, Taken, parts_count, part_access, part_or_below, over_one, over_two, over_three, over_list, taken_from, all_taken_from}
-use Rattle.vx_laws_simplifying.proofs.Observing.{or-false}
+use Rattle.vx_laws.proofs.EachNode.{nodes-by_children}
 use Rattle.vx_laws_removing.specs.Simplest.{nodes_below, nodes_in, all_nodes, is_simple}
-use Rattle.vx_laws_parts.specs.Preserved.{rowless, all_rowless, some_node, some_node_in}
+use Rattle.vx_laws_parts.specs.Preserved.{rowless, all_rowless}
 use Rattle.vx_laws_parts.proofs.Shown.{is_pack, simple-item}
 use Rattle.vx_laws_columns.proofs.Rows.{IsRowless}
 use Rattle.vx_laws_columns.proofs.AskedColumns.{IsSimple}
 
-listed-some : (test : Tree → Bool) (es : Trees) → some_node_in test es ≡ list_any (some_node test) (listed es)
-unfolding some_node
-listed-some test no_trees = refl
-listed-some test (tree e es) = ap (λ (b : Bool). some_node test e || b) (listed-some test es)
-
-one-some : (test : Tree → Bool) (n e : Tree) → (test n || some_node test e) ≡ (test n || (some_node test e || false))
-one-some test n e = ap (λ (b : Bool). test n || b) (sym (or-false (some_node test e)))
-
-two-some : (test : Tree → Bool) (n d e : Tree) → (test n || (some_node test d || some_node test e)) ≡ (test n || (some_node test d || (some_node test e || false)))
-two-some test n d e = ap (λ (b : Bool). test n || (some_node test d || b)) (sym (or-false (some_node test e)))
+any-below : (test : Tree → Bool) (es : List Tree) → list_any test (flat_map nodes_of es) ≡ list_any (some_node test) es
+any-below test [] = refl
+any-below test (e ∷ es) = list_any-append test (nodes_of e) (flat_map nodes_of es) ∙ ap (λ (b : Bool). some_node test e || b) (any-below test es)
 
 -- some node of an expression is the expression or one of its children's
 pub some-by_children : (test : Tree → Bool) (e : Tree) → some_node test e ≡ (test e || list_any (some_node test) (children_of e))
-unfolding some_node
-some-by_children test root = sym (or-false (test root))
-some-by_children test (literal s) = sym (or-false (test (literal s)))
-some-by_children test (get_item f e) = one-some test (get_item f e) e
-some-by_children test (binary l op r) = two-some test (binary l op r) l r
-some-by_children test (not_of e) = one-some test (not_of e) e
-some-by_children test (is_null_of e) = one-some test (is_null_of e) e
-some-by_children test (like e p negated fold_case) = two-some test (like e p negated fold_case) e p
-some-by_children test (between e lower upper options) =
-    ap (λ (b : Bool). test (between e lower upper options) || (some_node test e || (some_node test lower || b))) (sym (or-false (some_node test upper)))
-some-by_children test (cast e t) = one-some test (cast e t) e
-some-by_children test (list_contains l v) = two-some test (list_contains l v) l v
-some-by_children test (pack names es n) = ap (λ (b : Bool). test (pack names es n) || b) (listed-some test es)
-some-by_children test (merge es n) = ap (λ (b : Bool). test (merge es n) || b) (listed-some test es)
-some-by_children test (select s e) = one-some test (select s e) e
-some-by_children test (dynamic e op k t default) = one-some test (dynamic e op k t default) e
+some-by_children test e = ap (list_any test) (nodes-by_children e) ∙ ap (λ (b : Bool). test e || b) (any-below test (children_of e))
 
 all-simple : (es : Trees) → AllByRecursion IsSimple (listed es) → nodes_in is_simple es ≡ true
 unfolding nodes_below

@@ -6,10 +6,10 @@ use Rattle.vx_dtype.specs.Values.{Val}
 use Rattle.vx_expr.specs.Trees.{Tree, root, get_item, binary, cast, children_of}
 use Rattle.vx_semantics.specs.Meaning.{Slots}
 use Rattle.vx_semantics.specs.Breaks.{Cause, breaks_by}
+use Rattle.vx_semantics.specs.Nodes.{nodes_of, some_node}
 use Rattle.vx_laws.proofs.EachNode.{by_children, IsTyped}
 use Rattle.vx_laws_simplifying.specs.Asking.{breaks_along}
 use Rattle.vx_laws_simplifying.proofs.Observing.{breaking, breaking-along}
-use Rattle.vx_laws_parts.specs.Preserved.{some_node}
 use Rattle.vx_laws_parts.proofs.Shown.{shown, breaking-shows}
 use Rattle.vx_laws_columns.proofs.Rows.{columns_in, Form, is_row, is_column, is_other, form, columns-by_children, IsRowless, children-rowless, row-not-rowless}
 use Rattle.vx_laws_columns.proofs.AskedColumns.{IsSimple}
@@ -46,7 +46,7 @@ module _ (t u : Ty) (slots : Slots) (row made : Val) (cause : Cause) where
       ap (λ (b : Bool). b || list_any (some_node there) cs) (g.0 h.0 p.0) ∙ ap (λ (b : Bool). some_node here c || b) (any-agrees cs g.1 h.1 p.1)
 
   column-agrees : (f : Bytes) → some_node there (get_item f root) ≡ some_node here (get_item f root)
-  unfolding some_node
+  unfolding nodes_of
   column-agrees f = refl
 
   -- some node breaks there exactly where one does here

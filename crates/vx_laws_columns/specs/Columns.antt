@@ -12,12 +12,12 @@ use Rattle.vx_semantics.specs.Typing.{Refusal, typed_of, names_in}
 use Rattle.vx_semantics.specs.Meaning.{Slots, mean}
 use Rattle.vx_semantics.specs.Breaks.{Cause, breaks_by}
 use Rattle.vx_semantics.specs.Asked.{asked, column_in, asked_columns}
-use Rattle.vx_semantics.specs.Nodes.{nodes_of}
+use Rattle.vx_semantics.specs.Nodes.{nodes_of, some_node}
 use Rattle.vx_semantics.specs.Tables.{row_type}
 use Rattle.vx_passes.specs.Annotating.{annotated, column_annotation}
 use Rattle.vx_passes.specs.Splitting.{Partition, Split, split, partitions_type}
 use Rattle.vx_laws_simplifying.specs.Asking.{breaks_along}
-use Rattle.vx_laws_parts.specs.Preserved.{rowless, some_node, Simplifies}
+use Rattle.vx_laws_parts.specs.Preserved.{rowless, Simplifies}
 use Rattle.vx_laws_parts.specs.Taking.{row_in_parts}
 use Rattle.vx_laws_parts.specs.Recombining.{partitions_row}
 

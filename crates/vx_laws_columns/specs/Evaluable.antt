@@ -12,7 +12,7 @@ use Rattle.vx_semantics.specs.Meaning.{Slots}
 use Rattle.vx_semantics.specs.Slots.{slots_fit}
 use Rattle.vx_semantics.specs.Breaks.{Cause, breaks_by}
 use Rattle.vx_semantics.specs.Asked.{asked_nodes}
-use Rattle.vx_semantics.specs.Nodes.{nodes_of}
+use Rattle.vx_semantics.specs.Nodes.{some_node}
 use Rattle.vx_semantics.specs.Tables.{row_type}
 use Rattle.vx_passes.specs.Splitting.{Partition, Split, partitions_type}
 use Rattle.vx_laws_simplifying.specs.Narrowing.{narrows}
@@ -27,7 +27,7 @@ RootIsTyped =
 
 -- whether a node of an expression, asked or not, breaks by a cause at a row
 abbrev pub node_breaks_at : Cause → Ty → Slots → Val → Tree → Bool
-node_breaks_at cause t slots row e = list_any (breaks_by cause t slots row) (nodes_of e)
+node_breaks_at cause t slots row e = some_node (breaks_by cause t slots row) e
 
 -- whether a node of a partition breaks by a cause at a row, or one of the root at what the partitions mean there
 abbrev pub split_nodes_break : Cause → Ty → Slots → Val → Split Bytes → Bool

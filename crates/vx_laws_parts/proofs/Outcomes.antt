@@ -6,6 +6,7 @@ use Rattle.vx_expr.specs.Trees.{Tree}
 use Rattle.vx_semantics.specs.Meaning.{Slots}
 use Rattle.vx_semantics.specs.Breaks.{by_sum, breaks_by}
 use Rattle.vx_semantics.specs.Asked.{Asking}
+use Rattle.vx_semantics.specs.Nodes.{some_node}
 use Rattle.vx_semantics.specs.Tables.{row_type}
 use Rattle.vx_passes.specs.Replacing.{root_replaced}
 use Rattle.vx_passes.specs.TypedSimplifying.{simplified_typed}
@@ -16,7 +17,7 @@ use Rattle.vx_laws_simplifying.proofs.Kept.{Kept}
 use Rattle.vx_laws.proofs.AnySlots.{FitsButNulls, fits-but_nulls}
 use Rattle.vx_laws_simplifying.proofs.Passes.{some_row, some_row-fits}
 use Rattle.vx_laws_removing.proofs.Settled.{simplified_simple}
-use Rattle.vx_laws_parts.specs.Preserved.{some_node, is_column_node, Simplifies, PreservesType, PreservedIsRowless, PreservesColumns, PreservesAskedColumns, PreservesMeaning, PreservesBreaks}
+use Rattle.vx_laws_parts.specs.Preserved.{is_column_node, Simplifies, PreservesType, PreservedIsRowless, PreservesColumns, PreservesAskedColumns, PreservesMeaning, PreservesBreaks}
 use Rattle.vx_laws_parts.proofs.RootKept.{preserved-kept}
 use Rattle.vx_laws_parts.proofs.Rowless.{root_replaced-rowless, simplified_typed-rowless}
 use Rattle.vx_laws_parts.proofs.Shown.{Shows, breaking-shows, is_column-shows, shown}

@@ -3,6 +3,7 @@ use Rattle.std.proofs.Common.{◌≡◌, refl, ap, sym, ◌∙◌, Bool, true, f
 use Rattle.std.specs.Prelude.{nat_eq, length}
 use Rattle.std.specs.List.{list_any}
 use Rattle.std.proofs.lemmas.Bool.{and_parts, eqb-true}
+use Rattle.std.proofs.lemmas.List.Folds.{list_any-append}
 use Rattle.vx_dtype.specs.declared.Nullability.{Nullability}
 use Rattle.vx_dtype.specs.declared.Nullability.TheVariants.{NonNullable}
 use Rattle.vx_dtype.specs.Types.{Bytes, Ty, bool_ty, struct_ty}
@@ -14,10 +15,11 @@ use Rattle.vx_semantics.specs.Typing.{Refusal, duplicate_field, type_mismatch, a
 use Rattle.vx_semantics.specs.Meaning.{Slots}
 use Rattle.vx_semantics.specs.Breaks.{Cause, by_sum, by_cast, breaks_by}
 use Rattle.vx_semantics.specs.Asked.{Asking, asks_node, asks_column, asked, asked_in_pack}
+use Rattle.vx_semantics.specs.Nodes.{nodes_of, nodes_of_all, some_node}
 use Rattle.vx_laws.proofs.Inverting.{and_then-ok, unless-ok, Ok-same}
-use Rattle.vx_laws_simplifying.proofs.Observing.{seen, seen-both, or-false, breaking, is_column}
+use Rattle.vx_laws_simplifying.proofs.Observing.{seen, or-false, breaking, is_column}
 use Rattle.vx_laws_removing.specs.Simplest.{nodes_below, nodes_in, all_nodes, is_simple}
-use Rattle.vx_laws_parts.specs.Preserved.{rowless, all_rowless, some_node, some_node_in, is_column_node}
+use Rattle.vx_laws_parts.specs.Preserved.{rowless, all_rowless, is_column_node}
 
 -- whether a node is the row or a field of it
 abbrev pub is_of_row : Tree → Bool
@@ -63,49 +65,50 @@ pack-even names n us u h =
     eqb-true (length names) (length us) (unless-ok (nat_eq (length names) (length us)) type_mismatch made u a.gave).holds
 
 module _ (t : Ty) (test : Asking → Bool) (node : Tree → Bool) (s : Shows test node) where
-  node-shown : (n : Tree) (asks : List Asking) (b : Bool) → is_of_row n ≡ false → list_any test asks ≡ b → list_any test (asks_node n ∷ asks) ≡ (node n || b)
-  node-shown n asks b h k = ap (λ (x : Bool). x || list_any test asks) (sym (s.other n h)) ∙ ap (λ (x : Bool). node n || x) k
+  node-shown : (n : Tree) (asks : List Asking) (ns : List Tree) → is_of_row n ≡ false → list_any test asks ≡ list_any node ns → list_any test (asks_node n ∷ asks) ≡ list_any node (n ∷ ns)
+  node-shown n asks ns h k = ap (λ (x : Bool). x || list_any test asks) (sym (s.other n h)) ∙ ap (λ (x : Bool). node n || x) k
 
-  both-shown : (xs ys : List Asking) (a b : Bool) → list_any test xs ≡ a → list_any test ys ≡ b → list_any test (xs ++ ys) ≡ (a || b)
-  both-shown xs ys a b h k = seen-both test xs ys ∙ (ap (λ (x : Bool). x || list_any test ys) h ∙ ap (λ (x : Bool). a || x) k)
+  both-shown : (xs ys : List Asking) (ms ns : List Tree) → list_any test xs ≡ list_any node ms → list_any test ys ≡ list_any node ns → list_any test (xs ++ ys) ≡ list_any node (ms ++ ns)
+  both-shown xs ys ms ns h k =
+      list_any-append test xs ys ∙ (ap (λ (x : Bool). x || list_any test ys) h ∙ (ap (λ (x : Bool). list_any node ms || x) k ∙ sym (list_any-append node ms ns)))
 
-  field-shown : (f : Bytes) → (test (asks_node (get_item f root)) || (test (asks_column f) || false)) ≡ (node (get_item f root) || node root)
+  field-shown : (f : Bytes) → (test (asks_node (get_item f root)) || (test (asks_column f) || false)) ≡ (node (get_item f root) || (node root || false))
   field-shown f =
       ap (λ (x : Bool). test (asks_node (get_item f root)) || x) (or-false (test (asks_column f)))
-      ∙ sym (ap (λ (x : Bool). node (get_item f root) || x) s.row ∙ (or-false (node (get_item f root)) ∙ s.field f))
+      ∙ sym (ap (λ (x : Bool). node (get_item f root) || (x || false)) s.row ∙ (or-false (node (get_item f root)) ∙ s.field f))
 
   mutual
-    unfolding asked typed_of nodes_below rowless some_node
+    unfolding asked typed_of nodes_below rowless nodes_of
 
     pub shown : (x : Tree) (u : Ty) → typed_of t x ≡ Ok u → all_nodes is_simple x ≡ true → rowless x ≡ true → (path : List Bytes) → (is_pack x ≡ true → path ≡ []) → seen test t x path ≡ some_node node x
     shown root u h g r path e = let no : ⊥ = cc in absurd no
-    shown (literal c) u h g r path e = node-shown (literal c) [] false refl refl ∙ or-false (node (literal c))
+    shown (literal c) u h g r path e = node-shown (literal c) [] [] refl refl
     shown (get_item f root) u h g r path e = field-shown f
     shown (get_item f x) u h g r path e =
         let p = and_parts (is_simple (get_item f x)) (all_nodes is_simple x) g in
         let a = and_then-ok (typed_of t x) (item_type f) u h in
-        node-shown (get_item f x) (asked t x (f ∷ path)) (some_node node x) refl
+        node-shown (get_item f x) (asked t x (f ∷ path)) (nodes_of x) refl
         (shown x a.given a.was p.1 r (f ∷ path) (never-pack x (f ∷ path) (simple-item f x p.0)))
     shown (binary l op q) u h g r path e =
         let p = and_parts (all_nodes is_simple l) (all_nodes is_simple q) g in
         let w = and_parts (rowless l) (rowless q) r in
         let a = and_then-ok (typed_of t l) (λ z. and_then (typed_of t q) (binary_type op z)) u h in
         let b = and_then-ok (typed_of t q) (binary_type op a.given) u a.gave in
-        node-shown (binary l op q) (asked t l [] ++ asked t q []) (some_node node l || some_node node q) refl
-        (both-shown (asked t l []) (asked t q []) (some_node node l) (some_node node q) (shown l a.given a.was p.0 w.0 [] (λ i. refl)) (shown q b.given b.was p.1 w.1 [] (λ i. refl)))
+        node-shown (binary l op q) (asked t l [] ++ asked t q []) (nodes_of l ++ nodes_of q) refl
+        (both-shown (asked t l []) (asked t q []) (nodes_of l) (nodes_of q) (shown l a.given a.was p.0 w.0 [] (λ i. refl)) (shown q b.given b.was p.1 w.1 [] (λ i. refl)))
     shown (not_of x) u h g r path e =
         let a = and_then-ok (typed_of t x) not_type u h in
-        node-shown (not_of x) (asked t x []) (some_node node x) refl (shown x a.given a.was g r [] (λ i. refl))
+        node-shown (not_of x) (asked t x []) (nodes_of x) refl (shown x a.given a.was g r [] (λ i. refl))
     shown (is_null_of x) u h g r path e =
         let a = and_then-ok (typed_of t x) (λ z. Ok (bool_ty NonNullable)) u h in
-        node-shown (is_null_of x) (asked t x []) (some_node node x) refl (shown x a.given a.was g r [] (λ i. refl))
+        node-shown (is_null_of x) (asked t x []) (nodes_of x) refl (shown x a.given a.was g r [] (λ i. refl))
     shown (like l q negated fold_case) u h g r path e =
         let p = and_parts (all_nodes is_simple l) (all_nodes is_simple q) g in
         let w = and_parts (rowless l) (rowless q) r in
         let a = and_then-ok (typed_of t l) (λ z. and_then (typed_of t q) (like_type z)) u h in
         let b = and_then-ok (typed_of t q) (like_type a.given) u a.gave in
-        node-shown (like l q negated fold_case) (asked t l [] ++ asked t q []) (some_node node l || some_node node q) refl
-        (both-shown (asked t l []) (asked t q []) (some_node node l) (some_node node q) (shown l a.given a.was p.0 w.0 [] (λ i. refl)) (shown q b.given b.was p.1 w.1 [] (λ i. refl)))
+        node-shown (like l q negated fold_case) (asked t l [] ++ asked t q []) (nodes_of l ++ nodes_of q) refl
+        (both-shown (asked t l []) (asked t q []) (nodes_of l) (nodes_of q) (shown l a.given a.was p.0 w.0 [] (λ i. refl)) (shown q b.given b.was p.1 w.1 [] (λ i. refl)))
     shown (between x l q options) u h g r path e =
         let p = and_parts (all_nodes is_simple x) (all_nodes is_simple l && all_nodes is_simple q) g in
         let m = and_parts (all_nodes is_simple l) (all_nodes is_simple q) p.1 in
@@ -114,31 +117,31 @@ module _ (t : Ty) (test : Asking → Bool) (node : Tree → Bool) (s : Shows tes
         let a = and_then-ok (typed_of t x) (λ y. and_then (typed_of t l) (λ z. and_then (typed_of t q) (between_type y z))) u h in
         let b = and_then-ok (typed_of t l) (λ z. and_then (typed_of t q) (between_type a.given z)) u a.gave in
         let c = and_then-ok (typed_of t q) (between_type a.given b.given) u b.gave in
-        node-shown (between x l q options) (asked t x [] ++ (asked t l [] ++ asked t q [])) (some_node node x || (some_node node l || some_node node q)) refl
-        (both-shown (asked t x []) (asked t l [] ++ asked t q []) (some_node node x) (some_node node l || some_node node q) (shown x a.given a.was p.0 w.0 [] (λ i. refl))
-        (both-shown (asked t l []) (asked t q []) (some_node node l) (some_node node q) (shown l b.given b.was m.0 v.0 [] (λ i. refl)) (shown q c.given c.was m.1 v.1 [] (λ i. refl))))
+        node-shown (between x l q options) (asked t x [] ++ (asked t l [] ++ asked t q [])) (nodes_of x ++ (nodes_of l ++ nodes_of q)) refl
+        (both-shown (asked t x []) (asked t l [] ++ asked t q []) (nodes_of x) (nodes_of l ++ nodes_of q) (shown x a.given a.was p.0 w.0 [] (λ i. refl))
+        (both-shown (asked t l []) (asked t q []) (nodes_of l) (nodes_of q) (shown l b.given b.was m.0 v.0 [] (λ i. refl)) (shown q c.given c.was m.1 v.1 [] (λ i. refl))))
     shown (cast x target) u h g r path e =
         let a = and_then-ok (typed_of t x) (cast_type target) u h in
-        node-shown (cast x target) (asked t x []) (some_node node x) refl (shown x a.given a.was g r [] (λ i. refl))
+        node-shown (cast x target) (asked t x []) (nodes_of x) refl (shown x a.given a.was g r [] (λ i. refl))
     shown (list_contains l q) u h g r path e =
         let p = and_parts (all_nodes is_simple l) (all_nodes is_simple q) g in
         let w = and_parts (rowless l) (rowless q) r in
         let a = and_then-ok (typed_of t l) (λ z. and_then (typed_of t q) (contains_type z)) u h in
         let b = and_then-ok (typed_of t q) (contains_type a.given) u a.gave in
-        node-shown (list_contains l q) (asked t l [] ++ asked t q []) (some_node node l || some_node node q) refl
-        (both-shown (asked t l []) (asked t q []) (some_node node l) (some_node node q) (shown l a.given a.was p.0 w.0 [] (λ i. refl)) (shown q b.given b.was p.1 w.1 [] (λ i. refl)))
+        node-shown (list_contains l q) (asked t l [] ++ asked t q []) (nodes_of l ++ nodes_of q) refl
+        (both-shown (asked t l []) (asked t q []) (nodes_of l) (nodes_of q) (shown l a.given a.was p.0 w.0 [] (λ i. refl)) (shown q b.given b.was p.1 w.1 [] (λ i. refl)))
     shown (pack names es n) u h g r path e =
         let a = and_then-ok (all_typed t es) (pack_type names n) u h in
         subst (λ (z : List Bytes). seen test t (pack names es n) z ≡ some_node node (pack names es n)) (sym (e refl))
-        (node-shown (pack names es n) (asked_in_pack t names es []) (some_node_in node es) refl (all_shown names es a.given a.was (pack-even names n a.given u a.gave) g r))
+        (node-shown (pack names es n) (asked_in_pack t names es []) (nodes_of_all es) refl (all_shown names es a.given a.was (pack-even names n a.given u a.gave) g r))
     shown (merge es n) u h g r path e = let no : ⊥ = cc in absurd no
     shown (select c x) u h g r path e = let no : ⊥ = cc in absurd no
     shown (dynamic x op k slot default) u h g r path e =
         let a = and_then-ok (typed_of t x) (dynamic_type slot) u h in
-        node-shown (dynamic x op k slot default) (asked t x []) (some_node node x) refl (shown x a.given a.was g r [] (λ i. refl))
+        node-shown (dynamic x op k slot default) (asked t x []) (nodes_of x) refl (shown x a.given a.was g r [] (λ i. refl))
 
     all_shown : (names : List Bytes) (es : Trees) (us : List Ty) → all_typed t es ≡ Ok us → length names ≡ length us → nodes_in is_simple es ≡ true → all_rowless es ≡ true
-        → list_any test (asked_in_pack t names es []) ≡ some_node_in node es
+        → list_any test (asked_in_pack t names es []) ≡ list_any node (nodes_of_all es)
     all_shown [] no_trees us h k g r = refl
     all_shown (f ∷ names) no_trees us h k g r = refl
     all_shown [] (tree d ds) us h k g r =
@@ -155,5 +158,5 @@ module _ (t : Ty) (test : Asking → Bool) (node : Tree → Bool) (s : Shows tes
         let same : a.given ∷ b.given ≡ us = Ok-same (Ok us) (a.given ∷ b.given) us (sym b.gave) refl in
         let more : suc (length b.given) ≡ length us = ap length same in
         let even : length names ≡ length b.given = omega arith in
-        both-shown (asked t d []) (asked_in_pack t names ds []) (some_node node d) (some_node_in node ds) (shown d a.given a.was p.0 w.0 [] (λ i. refl))
+        both-shown (asked t d []) (asked_in_pack t names ds []) (nodes_of d) (nodes_of_all ds) (shown d a.given a.was p.0 w.0 [] (λ i. refl))
         (all_shown names ds b.given b.was even p.1 w.1)

@@ -11,6 +11,7 @@ use Rattle.vx_semantics.specs.Typing.{typed_of}
 use Rattle.vx_semantics.specs.Meaning.{Slots, mean}
 use Rattle.vx_semantics.specs.Breaks.{Cause, breaks_by}
 use Rattle.vx_semantics.specs.Asked.{asked_columns}
+use Rattle.vx_semantics.specs.Nodes.{some_node}
 use Rattle.vx_semantics.specs.Tables.{row_type}
 use Rattle.vx_passes.specs.Replacing.{root_replaced}
 use Rattle.vx_passes.specs.TypedSimplifying.{simplified_typed}
@@ -39,30 +40,6 @@ unfoldable mutual
   pub all_rowless : Trees → Bool
   all_rowless no_trees = true
   all_rowless (tree e es) = rowless e && all_rowless es
-
-unfoldable mutual
-  -- whether some node of an expression passes a test
-  pub some_node : (Tree → Bool) → Tree → Bool
-  some_node test root = test root
-  some_node test (literal s) = test (literal s)
-  some_node test (get_item f e) = test (get_item f e) || some_node test e
-  some_node test (binary l op r) = test (binary l op r) || (some_node test l || some_node test r)
-  some_node test (not_of e) = test (not_of e) || some_node test e
-  some_node test (is_null_of e) = test (is_null_of e) || some_node test e
-  some_node test (like e p negated fold_case) = test (like e p negated fold_case) || (some_node test e || some_node test p)
-  some_node test (between e lower upper options) =
-      test (between e lower upper options) || (some_node test e || (some_node test lower || some_node test upper))
-  some_node test (cast e t) = test (cast e t) || some_node test e
-  some_node test (list_contains l v) = test (list_contains l v) || (some_node test l || some_node test v)
-  some_node test (pack names es n) = test (pack names es n) || some_node_in test es
-  some_node test (merge es n) = test (merge es n) || some_node_in test es
-  some_node test (select s e) = test (select s e) || some_node test e
-  some_node test (dynamic e op k t default) = test (dynamic e op k t default) || some_node test e
-
-  -- the same of a list of expressions
-  pub some_node_in : (Tree → Bool) → Trees → Bool
-  some_node_in test no_trees = false
-  some_node_in test (tree e es) = some_node test e || some_node_in test es
 
 -- whether a node is this field of the row
 abbrev pub is_column_node : Bytes → Tree → Bool
