@@ -1,5 +1,7 @@
 // Structs of named values.
-ghost use Rattle.std.specs.Prelude.{◌≡◌, ◌<◌, length, map, option_map, Some, IfOk, Decides, fold};
+ghost use Rattle.std.specs.Prelude.{◌≡◌, ◌<◌, length, map, option_map, Some, IfOk, Decides, fold, position};
+ghost use Rattle.std.specs.Option.{option_and_then};
+ghost use Rattle.std.specs.Str.{bytes_eq};
 ghost use Rattle.std.specs.List.{slice_get};
 ghost use Rattle.vx_expr.specs.Trees.{children_of};
 ghost use Rattle.vx_expr.specs.Packed.{Packed, pack_tree};
@@ -109,9 +111,15 @@ impl PackExpr {
     /// The value of the first field of this name.
     ///
     /// Refuses with UnknownField exactly where no field has the name.
-    #[tactic(auto, using(crate::proofs::PackedFields::packed_value_at))]
     pub fn field(&self, name: &FieldName) -> Result<ExprRef, ExprError>
         ensures { Answers UnknownField (packed_field name.now self.now) result }
+    {
+        self.value_named(name)
+    }
+
+    /// The same, by the place where the name stands first.
+    fn value_named(&self, name: &FieldName) -> Result<ExprRef, ExprError>
+        ensures { Answers UnknownField (option_and_then (λ i. slice_get self.now.values i) (position (bytes_eq name.now) self.now.names)) result }
     {
         let Some(i) = self.names.position(name) else {
             return Err(ExprError::UnknownField);
