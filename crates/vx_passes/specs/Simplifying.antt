@@ -1,5 +1,6 @@
 -- Simplifying: a field taken straight from a pack is the pack's value of that name; then ranges are found in the whole.
 use Rattle.std.specs.Prelude.{Option, Some, None, Result, Ok, Err}
+use Rattle.vx_expr.specs.Children.{packed_value}
 use Rattle.vx_expr.specs.Trees.{Tree, get_item, pack}
 use Rattle.vx_semantics.specs.Typing.{Refusal, unknown_field, and_then}
 use Rattle.vx_passes.specs.Rebuilding.{rebuilt}
