@@ -9,8 +9,8 @@ use Rattle.vx_column.specs.Cells.{cell_rows, AreMaskedOf, ArePartsOf}
 use Rattle.vx_column.proofs.MaskedParts.{masked_field, masked_fields}
 use Rattle.vx_column.proofs.columns.ColumnRef.field_at.Goals as goal
 
-pub part_at-requires-in-Masked : goal.part_at-requires-in-Masked
-part_at-requires-in-Masked c =
+pub part_at-requires : goal.part_at-requires
+part_at-requires c =
     let parts : AreMaskedOf c.args.self.now.ty c.in-Masked.column.value c.in-Masked.nulls.value = subst (ArePartsOf c.args.self.now.ty) c.in-Masked.is c.cells.ensures.parts in
     let within = masked_fields c.args.self.now.ty c.in-Masked.column.value c.in-Masked.nulls.value parts in
     rw c.column_in.ensures (ap (λ fs. position (bytes_eq c.args.name.now) (field_names fs)) (sym within) ∙ c.requires)
