@@ -6,7 +6,7 @@ use Rattle.vx_dtype.specs.Types.{Ty}
 use Rattle.vx_dtype.specs.Equal.{ty_eq}
 use Rattle.vx_dtype.specs.Values.{Typed}
 use Rattle.vx_zones.specs.Zoning.{values_have}
-use Rattle.vx_zones.specs.Leaves.{nullable}
+use Rattle.vx_zones.specs.LeafTypes.{nullable}
 
 pub values_by : (o : Option Ty) (t : Ty) (values : List Typed) → Some t ≡ option_map nullable o → list_all (λ s. ty_eq s.ty t) values ≡ values_have values o
 values_by None t values h = absurd cc

@@ -1,19 +1,22 @@
 -- For the checker: no public clause cites this.
 -- The plain fields of a table by their paths, as a walk over the columns' types puts them into a map, and the rules on statistics by such a map.
-use Rattle.std.specs.Prelude.{◌≡◌, ℕ, not, cond, List, [], ◌∷◌, ◌++◌, Option, Some, None, option_map, is_some}
+use Rattle.std.specs.Prelude.{◌≡◌, ℕ, Bool, true, false, not, cond, List, [], ◌∷◌, ◌++◌, Option, Some, None, is_some}
 use Rattle.std.specs.List.{list_all}
 use Rattle.std.specs.Option.{option_or, option_and_then}
-use Rattle.std.specs.HashMap.{HashMap, get}
+use Rattle.std.specs.HashMap.{HashMap}
+use Rattle.std.specs.Str.{bytes_eq}
 use Rattle.vx_dtype.specs.declared.DType.{DType}
-use Rattle.vx_dtype.specs.declared.Nullability.TheVariants.{Nullable}
 use Rattle.vx_dtype.specs.Equal.{names_eq}
-use Rattle.vx_dtype.specs.TypeViews.{type_view}
 use Rattle.vx_dtype.specs.Types.{Bytes, Ty, bool_ty, int_ty, text_ty, list_ty, struct_ty, Fields, no_fields, field}
-use Rattle.vx_dtype.specs.TypeRules.{with_nullability}
 use Rattle.vx_semantics.specs.Tables.{ZoneStat}
 use Rattle.vx_zones.specs.declared.errors.ZoneError.{ZoneError}
 use Rattle.vx_zones.specs.declared.errors.ZoneError.TheVariants as errors
-use Rattle.vx_zones.specs.Zoning.{leaf_type, statistic_type, distinct_statistics, counts_blocks, values_have}
+use Rattle.vx_zones.specs.LeafTypes.{leaf_in}
+use Rattle.vx_zones.specs.Zoning.{statistic_type, distinct_statistics, counts_blocks, values_have}
+
+-- names, with one more
+abbrev pub with_name : Bytes → (Bytes → Bool) → Bytes → Bool
+with_name f seen g = cond (bytes_eq f g) true (seen g)
 
 abbrev mutual
   -- the plain type at a path, of a field of this path and type and of those below it
@@ -22,32 +25,20 @@ abbrev mutual
   leaf_at path (int_ty p n) q = cond (names_eq path q) (Some (int_ty p n)) None
   leaf_at path (text_ty n) q = cond (names_eq path q) (Some (text_ty n)) None
   leaf_at path (list_ty e n) q = None
-  leaf_at path (struct_ty fs n) q = leaf_below path fs q
+  leaf_at path (struct_ty fs n) q = leaf_below path (λ g. false) fs q
 
-  -- the same of these fields of the struct at a path
-  pub leaf_below : List Bytes → Fields → List Bytes → Option Ty
-  leaf_below path no_fields q = None
-  leaf_below path (field f t fs) q = option_or (leaf_at (path ++ f ∷ []) t q) (leaf_below path fs q)
-
--- the type that a map has at a path
-abbrev pub leaf_in : {S : Type 0} → HashMap (List Bytes) DType S → List Bytes → Option Ty
-leaf_in leaves q = option_map type_view (get names_eq leaves q)
+  -- the same of these fields of the struct at a path, but for fields of names that were seen before: a path leads through the first field of a name
+  pub leaf_below : List Bytes → (Bytes → Bool) → Fields → List Bytes → Option Ty
+  leaf_below path seen no_fields q = None
+  leaf_below path seen (field f t fs) q = option_or (leaf_below path (with_name f seen) fs q) (cond (seen f) None (leaf_at (path ++ f ∷ []) t q))
 
 -- a map has at each path what is found there, and else what it had
 abbrev pub Adds : {S : Type 0} → (List Bytes → Option Ty) → HashMap (List Bytes) DType S → HashMap (List Bytes) DType S → Type 0
 Adds found old new = (q : List Bytes) → leaf_in new q ≡ option_or (found q) (leaf_in old q)
 
--- a map has the plain type of each path of a table
-abbrev pub HasLeaves : {S : Type 0} → Fields → HashMap (List Bytes) DType S → Type 0
-HasLeaves columns leaves = (q : List Bytes) → leaf_in leaves q ≡ leaf_type columns q
-
 -- the type of a statistic, by the plain types that paths lead to
 abbrev pub type_by : (List Bytes → Option Ty) → ZoneStat → Option Ty
 type_by types z = option_and_then (statistic_type z.stat) (types z.path)
-
--- a type, made nullable
-abbrev pub nullable : Ty → Ty
-nullable t = with_nullability t Nullable
 
 -- the first rule that lengths and statistics break, by the plain types that paths lead to
 abbrev pub broken_statistic : (List Bytes → Option Ty) → List ℕ → List ZoneStat → Option ZoneError

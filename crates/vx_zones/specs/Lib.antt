@@ -2,4 +2,5 @@ pub mod Zoning
 pub mod ZoneViews
 pub mod ZoneCodes
 pub mod ZoneAnswers
+pub mod LeafTypes
 pub mod Leaves

@@ -1,20 +1,20 @@
 // The plain types that paths of a table lead to, in a map by path: so that a statistic's path costs one look-up, however
 // many columns there are.
-ghost use Rattle.std.specs.Prelude.{◌≡◌, true, cond, Some, None, IfOk, OnOk};
+ghost use Rattle.std.specs.Prelude.{◌≡◌, false, cond, Some, None, IfOk, OnOk, option_map};
+ghost use Rattle.std.specs.Option.{option_and_then};
 ghost use Rattle.vx_dtype.specs.Equal.{names_eq};
-ghost use Rattle.vx_dtype.specs.TypeRules.{no_name_twice};
 ghost use Rattle.vx_dtype.specs.TypeViews.{type_view};
-ghost use Rattle.vx_semantics.specs.Tables.{row_type};
-ghost use Rattle.vx_zones.specs.Leaves.{leaf_at, leaf_below, Adds, HasLeaves};
+ghost use Rattle.vx_zones.specs.Zoning.{statistic_type};
+ghost use Rattle.vx_zones.specs.LeafTypes.{leaf_in, HasLeaves, nullable};
+ghost use Rattle.vx_zones.specs.Leaves.{leaf_at, leaf_below, Adds};
 
 use std::alloc::Global;
-use std::collections::HashMap;
-use vx_dtype::{DType, FieldPath, Mem, StructFields};
+use std::collections::{BTreeSet, HashMap};
+use vx_dtype::{DType, FieldPath, Mem, Nullability, PType, Stat, StructFields};
 
-/// The plain type of each path that leads through fields of structs to one. Other paths lead to no field, or to a list
-/// or a struct.
-pub(crate) fn leaves(alloc: Global, columns: &StructFields) -> Mem<HashMap<FieldPath, DType>>
-    requires { no_name_twice (row_type columns.now) ≡ true }
+/// The plain type of each path that leads through fields of structs to one, each time through the first field of a name.
+/// Other paths lead to no field, or to a list or a struct.
+pub fn leaf_types(alloc: Global, columns: &StructFields) -> Mem<HashMap<FieldPath, DType>>
     ensures { IfOk result (HasLeaves columns.now) }
 {
     let mut leaves = HashMap::new(alloc);
@@ -22,7 +22,29 @@ pub(crate) fn leaves(alloc: Global, columns: &StructFields) -> Mem<HashMap<Field
     Ok(leaves)
 }
 
-/// Adds the plain fields of a struct at this path, from the last to the first.
+/// The type of a statistic's values, by the plain type that its path leads to: the statistic's, made nullable. None where the
+/// path leads to no plain type, or the statistic counts what is no number.
+pub fn type_of_values(
+    leaves: &HashMap<FieldPath, DType>,
+    path: &FieldPath,
+    stat: Stat,
+) -> Mem<Option<DType>>
+    ensures { IfOk result (λ dtype. option_map type_view dtype
+        ≡ option_map nullable (option_and_then (statistic_type stat) (leaf_in leaves.now path.now))) }
+{
+    match leaves.get(path) {
+        Some(leaf) => match stat {
+            Stat::Min => Ok(Some(leaf.with_nullability(Nullability::Nullable)?)),
+            Stat::Max => Ok(Some(leaf.with_nullability(Nullability::Nullable)?)),
+            Stat::NullCount => Ok(Some(DType::Primitive(PType::U64, Nullability::Nullable))),
+            Stat::NaNCount => Ok(None),
+        },
+        None => Ok(None),
+    }
+}
+
+/// Adds the plain fields of a struct at this path. Of fields of one name only the first is looked at, since a path leads through
+/// that one.
 #[cycle(add)]
 fn add_below(
     alloc: Global,
@@ -30,17 +52,19 @@ fn add_below(
     fields: &StructFields,
     leaves: &mut HashMap<FieldPath, DType>,
 ) -> Mem<()>
-    ensures { OnOk result (Adds (leaf_below path.now fields.now) leaves.old leaves.new) }
+    ensures { OnOk result (Adds (leaf_below path.now (λ g. false) fields.now) leaves.old leaves.new) }
 {
-    let mut left = fields.nfields();
-    while left > 0 {
-        left -= 1;
-        let Some(name) = fields.field_name(left) else {
+    let mut seen = BTreeSet::new(alloc);
+    for i in 0..fields.nfields() {
+        let Some(name) = fields.field_name(i) else {
             unreachable!();
         };
-        let Some(dtype) = fields.field_by_index(left) else {
+        let Some(dtype) = fields.field_by_index(i) else {
             unreachable!();
         };
+        if !seen.insert(name.clone()?)? {
+            continue;
+        }
         add_at(alloc, path.push(alloc, name.clone()?)?, dtype, leaves)?;
     }
     Ok(())

@@ -7,4 +7,5 @@ mod zone_rules;
 mod zones;
 
 pub use errors::ZoneError;
+pub use leaves::{leaf_types, type_of_values};
 pub use zones::{Scalars, ZoneMap, ZoneStat};

@@ -1,19 +1,20 @@
 // The rules that make columns, lengths and statistics zones.
-ghost use Rattle.std.specs.Prelude.{◌≡◌, true, false, None, length, map, is_some, option_map, IfOk};
+ghost use Rattle.std.specs.Prelude.{◌≡◌, true, false, None, length, map, is_some, IfOk};
 ghost use Rattle.std.specs.List.{list_all};
 ghost use Rattle.vx_dtype.specs.Equal.{ty_eq};
 ghost use Rattle.vx_dtype.specs.TypeViews.{type_view};
 ghost use Rattle.vx_dtype.specs.Fits.{fits};
 ghost use Rattle.vx_zones.specs.Zoning.{broken_rule, are_shallow, distinct_statistics, counts_blocks, values_have, scalars_fit};
-ghost use Rattle.vx_zones.specs.Leaves.{leaf_in, type_by, broken_statistic, nullable};
+ghost use Rattle.vx_zones.specs.LeafTypes.{leaf_in};
+ghost use Rattle.vx_zones.specs.Leaves.{type_by, broken_statistic};
 ghost use Rattle.vx_zones.specs.ZoneViews.{stat_view};
 
 use crate::errors::ZoneError;
-use crate::leaves::leaves;
+use crate::leaves::{leaf_types, type_of_values};
 use crate::zones::ZoneStat;
 use std::alloc::Global;
 use std::collections::{HashMap, HashSet};
-use vx_dtype::{DType, FieldPath, MOST_DEEP, Mem, Nullability, PType, Scalar, Stat, StructFields};
+use vx_dtype::{DType, FieldPath, MOST_DEEP, Mem, Scalar, Stat, StructFields};
 
 /// The first rule that columns, lengths and statistics break, and None where they are zones.
 #[tactic(auto, unfolding(crate::specs::Zoning::broken_rule, vx_dtype::specs::TypeRules::no_name_twice))]
@@ -32,7 +33,7 @@ pub(crate) fn broken_rule(
     if !are_shallow(columns) {
         return Ok(Some(ZoneError::DeepType));
     }
-    let leaves = leaves(alloc, columns)?;
+    let leaves = leaf_types(alloc, columns)?;
     broken_statistic(alloc, &leaves, lengths, stats)
 }
 
@@ -145,24 +146,9 @@ fn has_its_type(leaves: &HashMap<FieldPath, DType>, stat: &ZoneStat) -> Mem<bool
     ensures have { IfOk result (λ b. b ≡ values_have (stat_view stat.now).values (type_by (leaf_in leaves.now) (stat_view stat.now))) }
     ensures fit { IfOk result (λ b. b ≡ true → scalars_fit (stat_view stat.now).values ≡ true) }
 {
-    match type_of_values(leaves, stat)? {
+    match type_of_values(leaves, &stat.path, stat.stat)? {
         Some(dtype) => Ok(all_have(stat.values.as_slice(), &dtype)),
         None => Ok(false),
-    }
-}
-
-/// The type of a statistic's values: the statistic's, made nullable.
-fn type_of_values(leaves: &HashMap<FieldPath, DType>, stat: &ZoneStat) -> Mem<Option<DType>>
-    ensures { IfOk result (λ dtype. option_map type_view dtype ≡ option_map nullable (type_by (leaf_in leaves.now) (stat_view stat.now))) }
-{
-    match leaves.get(&stat.path) {
-        Some(leaf) => match stat.stat {
-            Stat::Min => Ok(Some(leaf.with_nullability(Nullability::Nullable)?)),
-            Stat::Max => Ok(Some(leaf.with_nullability(Nullability::Nullable)?)),
-            Stat::NullCount => Ok(Some(DType::Primitive(PType::U64, Nullability::Nullable))),
-            Stat::NaNCount => Ok(None),
-        },
-        None => Ok(None),
     }
 }
 

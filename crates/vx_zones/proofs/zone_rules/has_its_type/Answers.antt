@@ -2,7 +2,8 @@ use Rattle.std.proofs.Common.{ap, sym, ◌∙◌, option_map}
 use Rattle.std.specs.List.{list_all}
 use Rattle.vx_dtype.specs.Equal.{ty_eq}
 use Rattle.vx_dtype.specs.TypeViews.{type_view}
-use Rattle.vx_zones.specs.Leaves.{leaf_in, type_by}
+use Rattle.vx_zones.specs.LeafTypes.{leaf_in}
+use Rattle.vx_zones.specs.Leaves.{type_by}
 use Rattle.vx_zones.specs.ZoneViews.{stat_view}
 use Rattle.vx_zones.proofs.ValueLemmas.{values_by}
 use Rattle.vx_zones.proofs.zone_rules.has_its_type.Goals as goal

@@ -2,7 +2,8 @@ use Rattle.std.proofs.Common.{◌≡◌, map, drop}
 use Rattle.std.specs.List.{list_all}
 use Rattle.vx_zones.specs.ZoneViews.{stat_view}
 use Rattle.vx_zones.specs.Zoning.{values_have, scalars_fit}
-use Rattle.vx_zones.specs.Leaves.{leaf_in, type_by}
+use Rattle.vx_zones.specs.LeafTypes.{leaf_in}
+use Rattle.vx_zones.specs.Leaves.{type_by}
 use Rattle.vx_zones.proofs.zone_rules.have_their_types.Given as goal
 
 -- what is left to test

@@ -1,7 +1,8 @@
 use Rattle.std.proofs.Common.{◌≡◌, map, drop, is_some}
 use Rattle.std.specs.List.{list_all}
 use Rattle.vx_zones.specs.ZoneViews.{stat_view}
-use Rattle.vx_zones.specs.Leaves.{leaf_in, type_by}
+use Rattle.vx_zones.specs.LeafTypes.{leaf_in}
+use Rattle.vx_zones.specs.Leaves.{type_by}
 use Rattle.vx_zones.proofs.zone_rules.lead_to_fields.Given as goal
 
 -- what is left to test
