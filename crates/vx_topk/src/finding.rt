@@ -1,15 +1,12 @@
 // The first rows of a table by a key, found block by block.
-ghost use Rattle.std.specs.Prelude.{◌≡◌, ◌<◌, ℕ, true, false, length, [], ◌∷◌, List, map, IfOk, nat_eq};
+ghost use Rattle.std.specs.Prelude.{◌≡◌, ◌<◌, true, false, length, List, IfOk, nat_eq};
 ghost use Rattle.vx_dtype.specs.Types.{Ty};
 ghost use Rattle.vx_dtype.specs.TypeViews.{type_view};
-ghost use Rattle.vx_column.specs.Columns.{seen_rows, values_fit};
+ghost use Rattle.vx_column.specs.Columns.{values_fit};
 ghost use Rattle.vx_expr.specs.Trees.{Tree};
-ghost use Rattle.vx_semantics.specs.Slots.{slots_fit};
-ghost use Rattle.vx_laws_topk.specs.TopRows.{Keyed, TopAsk, bound_before, bound_slots, bounded_filter, top_skips};
-ghost use Rattle.vx_laws_topk.specs.TopPhases.{keyed_projection};
+ghost use Rattle.vx_laws_topk.specs.TopRows.{Keyed, TopAsk};
 ghost use Rattle.vx_scan.specs.Stores.{IsSameStore};
 ghost use Rattle.vx_scan.specs.Opening.{IsPreparedScan};
-ghost use Rattle.vx_scan.specs.BlockRuns.{RunsBlock};
 ghost use Rattle.vx_topk.specs.FirstRows.{HoldFirst, IsAskedBy, AsksTheSame, start_of};
 ghost use Rattle.vx_topk.specs.Ready.{IsReady};
 ghost use Rattle.vx_topk.specs.RuledRuns.{AreRuledBehind};

@@ -1,9 +1,8 @@
 // What is made ready before the first block.
-ghost use Rattle.std.specs.Prelude.{◌≡◌, ℕ, true, false, map, None, [], ◌∷◌, IfOk, option_map, codes};
+ghost use Rattle.std.specs.Prelude.{◌≡◌, ℕ, None, [], ◌∷◌, IfOk, option_map};
 ghost use Rattle.vx_dtype.specs.Types.{Ty};
-ghost use Rattle.vx_dtype.specs.TypeRules.{is_plain, field_type, fields_of};
+ghost use Rattle.vx_dtype.specs.TypeRules.{field_type, fields_of};
 ghost use Rattle.vx_dtype.specs.TypeViews.{type_view};
-ghost use Rattle.vx_expr.specs.Trees.{Tree};
 ghost use Rattle.vx_laws_topk.specs.TopRows.{TopAsk, bounded_filter, key_operator};
 ghost use Rattle.vx_laws_topk.specs.TopPhases.{keyed_projection};
 ghost use Rattle.vx_scan.specs.Opening.{IsPreparedScan};

@@ -1,5 +1,5 @@
 // What a pruning rule says of a run of blocks, held for the blocks that come.
-ghost use Rattle.std.specs.Prelude.{◌≡◌, ◌+◌, ◌*◌, ◌<◌, min, max, ℕ, Bool, true, length, map, IfOk, IfSome};
+ghost use Rattle.std.specs.Prelude.{◌≡◌, ◌*◌, ◌<◌, min, max, ℕ, Bool, true, length, IfOk, IfSome};
 ghost use Rattle.vx_expr.specs.Trees.{Tree};
 ghost use Rattle.vx_semantics.specs.Pruning.{rules_out};
 ghost use Rattle.vx_semantics.specs.Slots.{slots_fit};
