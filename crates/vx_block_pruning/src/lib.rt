@@ -2,7 +2,6 @@
 #![tactic(auto)]
 
 mod joined_names;
-mod made_columns;
 mod rules;
 mod ruling;
 mod statistics;

@@ -9,9 +9,8 @@ ghost use Rattle.vx_passes.specs.PruningTables.{first_type};
 ghost use Rattle.vx_zones.specs.ZoneViews.{stat_view};
 ghost use Rattle.vx_block_pruning.specs.StatisticColumns.{column_of, HasRunOf};
 
-use crate::made_columns::made;
 use std::alloc::Global;
-use vx_column::ColumnRef;
+use vx_column::{ColumnRef, made};
 use vx_dtype::{DType, Mem, Nullability, PType, Scalar, ScalarValue};
 use vx_zones::ZoneStat;
 

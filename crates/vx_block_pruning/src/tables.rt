@@ -10,11 +10,10 @@ ghost use Rattle.vx_block_pruning.specs.StatisticColumns.{column_of, HasRunOf};
 ghost use Rattle.vx_block_pruning.specs.PruningTruths.{pruning_table};
 
 use crate::joined_names::{is_alone, joined_name};
-use crate::made_columns::made;
 use crate::statistics::column_of;
 use std::alloc::Global;
 use std::collections::HashMap;
-use vx_column::ColumnRef;
+use vx_column::{ColumnRef, made};
 use vx_dtype::{FieldName, FieldNames, Mem};
 use vx_zones::{ZoneMap, ZoneStat};
 

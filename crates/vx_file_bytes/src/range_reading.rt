@@ -1,15 +1,14 @@
 // The values of a column of a block, read of its range.
-ghost use Rattle.std.specs.Prelude.{◌≡◌, true, Ok, IfOk, IfSome, option_map};
+ghost use Rattle.std.specs.Prelude.{◌≡◌, true, IfOk, IfSome, option_map};
 ghost use Rattle.vx_dtype.specs.TypeRules.{no_name_twice};
 ghost use Rattle.vx_dtype.specs.TypeViews.{type_view};
-ghost use Rattle.vx_column.specs.Answers.{AnswersColumn};
-ghost use Rattle.vx_column.specs.Columns.{Column as ColumnData, column, values_fit, seen_rows};
+ghost use Rattle.vx_column.specs.Columns.{column, values_fit, seen_rows};
 ghost use Rattle.vx_laws_file.specs.HeldTables.{values_at, range_values};
 
 use crate::fronts::value_front;
 use std::alloc::Global;
-use vx_column::{ColumnError, ColumnRef};
-use vx_dtype::{DType, Mem, NoMemory, ScalarValue};
+use vx_column::{ColumnRef, made};
+use vx_dtype::{DType, Mem, ScalarValue};
 
 /// So many values of a type at the front of bytes, and the bytes after them.
 fn values_front<'a>(
@@ -32,23 +31,6 @@ fn values_front<'a>(
         rest = after;
     }
     Ok(Some((values, rest)))
-}
-
-/// The column that was made, where nothing but want of memory can be in the way.
-fn made(answer: Result<ColumnRef, ColumnError>) -> Mem<ColumnRef>
-    requires { (told : ColumnData) × AnswersColumn answer (Ok told) }
-    ensures { IfOk result (λ c. answer ≡ Ok c) }
-{
-    match answer {
-        Ok(column) => Ok(column),
-        Err(ColumnError::NoMemory) => Err(NoMemory),
-        Err(ColumnError::WrongLength) => unreachable!(),
-        Err(ColumnError::WrongValue) => unreachable!(),
-        Err(ColumnError::DuplicateField) => unreachable!(),
-        Err(ColumnError::UnknownField) => unreachable!(),
-        Err(ColumnError::Overflow) => unreachable!(),
-        Err(ColumnError::BadCast) => unreachable!(),
-    }
 }
 
 /// The column of these values of a type.
