@@ -9,10 +9,10 @@ use Rattle.vx_dtype.specs.TypeRules.{field_names}
 use Rattle.vx_dtype.specs.Values.{Typed}
 use Rattle.vx_semantics.specs.Tables.{ZoneStat}
 use Rattle.vx_wire_bytes.specs.Reading.{◌>>=◌, number_at, text_at}
-use Rattle.vx_zones.specs.Leaves.{nullable}
-use Rattle.vx_zones.specs.Zoning.{leaf_type, statistic_type}
+use Rattle.vx_zones.specs.LeafTypes.{nullable}
+use Rattle.vx_zones.specs.Zoning.{statistic_type}
 use Rattle.vx_laws_file.specs.FileForms.{most_rows, Header}
-use Rattle.vx_laws_file.specs.HeaderReading.{items_with, counted_with, columns_at, stat_at, scalar_at, statistic_of, scalars_with, statistic_at, lengths_at, range_lengths_at, header_with, header_at}
+use Rattle.vx_laws_file.specs.HeaderReading.{items_with, counted_with, columns_at, stat_at, scalar_at, statistic_of, scalars_with, statistic_by, statistic_at, lengths_at, range_lengths_at, header_with, header_at}
 
 -- ---- items behind their number
 
@@ -42,40 +42,40 @@ lengths_there bytes ns rest b e few =
 
 -- ---- one statistic
 
-kind_then : Fields → List ℕ → List Bytes → Option (Stat × Bytes) → Option (ZoneStat × Bytes)
-kind_then columns lengths names o = o >>= λ s. scalars_with names s.0 (option_and_then (statistic_type s.0) (leaf_type columns names)) (length lengths) s.1
+kind_then : (List Bytes → Option Ty) → List ℕ → List Bytes → Option (Stat × Bytes) → Option (ZoneStat × Bytes)
+kind_then types lengths names o = o >>= λ s. scalars_with names s.0 (option_and_then (statistic_type s.0) (types names)) (length lengths) s.1
 
-path_then : Fields → List ℕ → Option (List Bytes × Bytes) → Option (ZoneStat × Bytes)
-path_then columns lengths o = o >>= λ p. kind_then columns lengths p.0 (stat_at p.1)
+path_then : (List Bytes → Option Ty) → List ℕ → Option (List Bytes × Bytes) → Option (ZoneStat × Bytes)
+path_then types lengths o = o >>= λ p. kind_then types lengths p.0 (stat_at p.1)
 
-path_first : (columns : Fields) (lengths : List ℕ) (bytes : Bytes) → path_then columns lengths (counted_with text_at bytes) ≡ statistic_at columns lengths bytes
-unfolding statistic_at path_then kind_then
-path_first columns lengths bytes = refl
+path_first : (types : List Bytes → Option Ty) (lengths : List ℕ) (bytes : Bytes) → path_then types lengths (counted_with text_at bytes) ≡ statistic_by types lengths bytes
+unfolding statistic_by path_then kind_then
+path_first types lengths bytes = refl
 
-pub no_path : (columns : Fields) (lengths : List ℕ) (bytes : Bytes) → None ≡ counted_with text_at bytes → None ≡ statistic_at columns lengths bytes
+pub no_path : (types : List Bytes → Option Ty) (lengths : List ℕ) (bytes : Bytes) → None ≡ counted_with text_at bytes → None ≡ statistic_by types lengths bytes
 unfolding path_then
-no_path columns lengths bytes e = ap (path_then columns lengths) e ∙ path_first columns lengths bytes
+no_path types lengths bytes e = ap (path_then types lengths) e ∙ path_first types lengths bytes
 
-kind_next : (columns : Fields) (lengths : List ℕ) (bytes : Bytes) (names : List Bytes) (rest : Bytes) → Some (names, rest) ≡ counted_with text_at bytes
-    → kind_then columns lengths names (stat_at rest) ≡ statistic_at columns lengths bytes
+kind_next : (types : List Bytes → Option Ty) (lengths : List ℕ) (bytes : Bytes) (names : List Bytes) (rest : Bytes) → Some (names, rest) ≡ counted_with text_at bytes
+    → kind_then types lengths names (stat_at rest) ≡ statistic_by types lengths bytes
 unfolding path_then
-kind_next columns lengths bytes names rest e = ap (path_then columns lengths) e ∙ path_first columns lengths bytes
+kind_next types lengths bytes names rest e = ap (path_then types lengths) e ∙ path_first types lengths bytes
 
-pub no_kind : (columns : Fields) (lengths : List ℕ) (bytes : Bytes) (names : List Bytes) (rest : Bytes) → Some (names, rest) ≡ counted_with text_at bytes → None ≡ stat_at rest
-    → None ≡ statistic_at columns lengths bytes
+pub no_kind : (types : List Bytes → Option Ty) (lengths : List ℕ) (bytes : Bytes) (names : List Bytes) (rest : Bytes) → Some (names, rest) ≡ counted_with text_at bytes → None ≡ stat_at rest
+    → None ≡ statistic_by types lengths bytes
 unfolding kind_then
-no_kind columns lengths bytes names rest e h = ap (kind_then columns lengths names) h ∙ kind_next columns lengths bytes names rest e
+no_kind types lengths bytes names rest e h = ap (kind_then types lengths names) h ∙ kind_next types lengths bytes names rest e
 
 -- the path and the kind of a statistic stand at the front, before its values
-pub record IsBegun (columns : Fields) (lengths : List ℕ) (bytes : Bytes) (names : List Bytes) (stat : Stat) (after : Bytes) : Type 0 where
+pub record IsBegun (types : List Bytes → Option Ty) (lengths : List ℕ) (bytes : Bytes) (names : List Bytes) (stat : Stat) (after : Bytes) : Type 0 where
   pub between : Bytes
   pub path : Some (names, between) ≡ counted_with text_at bytes
   pub kind : Some (stat, after) ≡ stat_at between
 
-values_next : (columns : Fields) (lengths : List ℕ) (bytes : Bytes) (names : List Bytes) (stat : Stat) (after : Bytes) → IsBegun columns lengths bytes names stat after
-    → scalars_with names stat (option_and_then (statistic_type stat) (leaf_type columns names)) (length lengths) after ≡ statistic_at columns lengths bytes
+values_next : (types : List Bytes → Option Ty) (lengths : List ℕ) (bytes : Bytes) (names : List Bytes) (stat : Stat) (after : Bytes) → IsBegun types lengths bytes names stat after
+    → scalars_with names stat (option_and_then (statistic_type stat) (types names)) (length lengths) after ≡ statistic_by types lengths bytes
 unfolding kind_then
-values_next columns lengths bytes names stat after h = ap (kind_then columns lengths names) h.kind ∙ kind_next columns lengths bytes names h.between h.path
+values_next types lengths bytes names stat after h = ap (kind_then types lengths names) h.kind ∙ kind_next types lengths bytes names h.between h.path
 
 untyped : (names : List Bytes) (stat : Stat) (o : Option Ty) (k : ℕ) (bytes : Bytes) → None ≡ option_map nullable o → None ≡ scalars_with names stat o k bytes
 unfolding scalars_with
@@ -96,22 +96,22 @@ all_values names stat None t k bytes vs rest e h = absurd cc
 all_values names stat (Some u) t k bytes vs rest e h =
     ap (λ o. o >>= λ ws. Some (statistic_of names stat ws.0, ws.1)) (h ∙ ap (λ w. items_with (scalar_at w) k bytes) (same_Some t (nullable u) e))
 
-pub no_leaf : (columns : Fields) (lengths : List ℕ) (bytes : Bytes) (names : List Bytes) (stat : Stat) (after : Bytes) → IsBegun columns lengths bytes names stat after
-    → None ≡ option_map nullable (option_and_then (statistic_type stat) (leaf_type columns names)) → None ≡ statistic_at columns lengths bytes
-no_leaf columns lengths bytes names stat after h e =
-    untyped names stat (option_and_then (statistic_type stat) (leaf_type columns names)) (length lengths) after e ∙ values_next columns lengths bytes names stat after h
+pub no_leaf : (types : List Bytes → Option Ty) (lengths : List ℕ) (bytes : Bytes) (names : List Bytes) (stat : Stat) (after : Bytes) → IsBegun types lengths bytes names stat after
+    → None ≡ option_map nullable (option_and_then (statistic_type stat) (types names)) → None ≡ statistic_by types lengths bytes
+no_leaf types lengths bytes names stat after h e =
+    untyped names stat (option_and_then (statistic_type stat) (types names)) (length lengths) after e ∙ values_next types lengths bytes names stat after h
 
-pub no_scalars : (columns : Fields) (lengths : List ℕ) (bytes : Bytes) (names : List Bytes) (stat : Stat) (after : Bytes) (t : Ty) → IsBegun columns lengths bytes names stat after
-    → Some t ≡ option_map nullable (option_and_then (statistic_type stat) (leaf_type columns names)) → None ≡ items_with (scalar_at t) (length lengths) after
-    → None ≡ statistic_at columns lengths bytes
-no_scalars columns lengths bytes names stat after t h e none =
-    no_values names stat (option_and_then (statistic_type stat) (leaf_type columns names)) t (length lengths) after e none ∙ values_next columns lengths bytes names stat after h
+pub no_scalars : (types : List Bytes → Option Ty) (lengths : List ℕ) (bytes : Bytes) (names : List Bytes) (stat : Stat) (after : Bytes) (t : Ty) → IsBegun types lengths bytes names stat after
+    → Some t ≡ option_map nullable (option_and_then (statistic_type stat) (types names)) → None ≡ items_with (scalar_at t) (length lengths) after
+    → None ≡ statistic_by types lengths bytes
+no_scalars types lengths bytes names stat after t h e none =
+    no_values names stat (option_and_then (statistic_type stat) (types names)) t (length lengths) after e none ∙ values_next types lengths bytes names stat after h
 
-pub statistic_whole : (columns : Fields) (lengths : List ℕ) (bytes : Bytes) (names : List Bytes) (stat : Stat) (after : Bytes) (t : Ty) (vs : List Typed) (rest : Bytes)
-    → IsBegun columns lengths bytes names stat after → Some t ≡ option_map nullable (option_and_then (statistic_type stat) (leaf_type columns names))
-    → Some (vs, rest) ≡ items_with (scalar_at t) (length lengths) after → Some (statistic_of names stat vs, rest) ≡ statistic_at columns lengths bytes
-statistic_whole columns lengths bytes names stat after t vs rest h e all =
-    all_values names stat (option_and_then (statistic_type stat) (leaf_type columns names)) t (length lengths) after vs rest e all ∙ values_next columns lengths bytes names stat after h
+pub statistic_whole : (types : List Bytes → Option Ty) (lengths : List ℕ) (bytes : Bytes) (names : List Bytes) (stat : Stat) (after : Bytes) (t : Ty) (vs : List Typed) (rest : Bytes)
+    → IsBegun types lengths bytes names stat after → Some t ≡ option_map nullable (option_and_then (statistic_type stat) (types names))
+    → Some (vs, rest) ≡ items_with (scalar_at t) (length lengths) after → Some (statistic_of names stat vs, rest) ≡ statistic_by types lengths bytes
+statistic_whole types lengths bytes names stat after t vs rest h e all =
+    all_values names stat (option_and_then (statistic_type stat) (types names)) t (length lengths) after vs rest e all ∙ values_next types lengths bytes names stat after h
 
 -- ---- a header
 

@@ -1,32 +1,32 @@
 // The statistics of a table, read of a header.
 ghost use Rattle.std.specs.Prelude.{◌≡◌, true, map, IfOk, option_map};
-ghost use Rattle.std.specs.Option.{option_and_then};
 ghost use Rattle.vx_dtype.specs.Fits.{fits};
 ghost use Rattle.vx_dtype.specs.RawViews.{raw_view};
 ghost use Rattle.vx_dtype.specs.ScalarAnswers.{typed};
 ghost use Rattle.vx_dtype.specs.TypeViews.{type_view};
 ghost use Rattle.vx_wire_bytes.specs.Reading.{text_at};
-ghost use Rattle.vx_zones.specs.Leaves.{nullable};
-ghost use Rattle.vx_zones.specs.Zoning.{type_at, plain_only, leaf_type, statistic_type};
+ghost use Rattle.vx_zones.specs.LeafTypes.{leaf_in};
 ghost use Rattle.vx_zones.specs.ZoneViews.{stat_view};
-ghost use Rattle.vx_laws_file.specs.HeaderReading.{items_with, counted_with, stat_numbered, stat_at, scalar_at, statistic_of, statistic_at};
+ghost use Rattle.vx_laws_file.specs.HeaderReading.{items_with, counted_with, stat_numbered, stat_at, scalar_at, statistic_by, statistic_at};
 
 use crate::fronts::{names_front, number_front, value_front};
 use std::alloc::Global;
-use vx_dtype::{
-    DType, FieldName, FieldPath, Mem, Nullability, PType, Scalar, ScalarValue, Stat, StructFields,
-};
-use vx_zones::{Scalars, ZoneStat};
+use std::collections::HashMap;
+use vx_dtype::{DType, FieldPath, Mem, Scalar, ScalarValue, Stat, StructFields};
+use vx_zones::{Scalars, ZoneStat, leaf_types, type_of_values};
 
-/// The names at the front, with their number before them.
+/// The path at the front: its names, with their number before them.
 #[tactic(auto, unfolding(vx_laws_file::specs::HeaderReading::counted_with))]
-fn path_names_front(alloc: Global, bytes: &[u8]) -> Mem<Option<(Vec<FieldName>, &[u8])>>
-    ensures { IfOk result (λ found. option_map (λ x. (x.0.items, x.1.now)) found ≡ counted_with text_at bytes.now) }
+fn path_front(alloc: Global, bytes: &[u8]) -> Mem<Option<(FieldPath, &[u8])>>
+    ensures { IfOk result (λ found. option_map (λ x. (x.0, x.1.now)) found ≡ counted_with text_at bytes.now) }
 {
     let Some((number, rest)) = number_front(bytes) else {
         return Ok(None);
     };
-    names_front(alloc, number, rest)
+    let Some((names, rest)) = names_front(alloc, number, rest)? else {
+        return Ok(None);
+    };
+    Ok(Some((FieldPath::from_names(alloc, names)?, rest)))
 }
 
 /// The kind of statistic of a byte.
@@ -53,51 +53,6 @@ fn stat_front(bytes: &[u8]) -> Option<(Stat, &[u8])>
             let stat = stat_numbered(*byte)?;
             Some((stat, rest))
         }
-    }
-}
-
-/// The type that names lead to, from a type on through fields of structs.
-fn type_at<'a>(names: &[FieldName], dtype: &'a DType) -> Option<&'a DType>
-    ensures { option_map (λ found. type_view found.now) result ≡ type_at names.now (type_view dtype.now) }
-{
-    let Some((first, rest)) = names.split_first() else {
-        return Some(dtype);
-    };
-    match dtype {
-        DType::Struct(fields, _) => match fields.field(first) {
-            Some(dtype) => type_at(rest, dtype),
-            None => None,
-        },
-        _ => None,
-    }
-}
-
-/// The type that a statistic's values have whose path leads to this type, where that is plain: the statistic's, made nullable.
-fn type_of_values(stat: Stat, dtype: &DType) -> Mem<Option<DType>>
-    ensures { IfOk result (λ found. option_map type_view found
-        ≡ option_map nullable (option_and_then (statistic_type stat) (plain_only (type_view dtype.now)))) }
-{
-    match dtype {
-        DType::List(_, _) => Ok(None),
-        DType::Struct(_, _) => Ok(None),
-        _ => match stat {
-            Stat::Min => Ok(Some(dtype.with_nullability(Nullability::Nullable)?)),
-            Stat::Max => Ok(Some(dtype.with_nullability(Nullability::Nullable)?)),
-            Stat::NullCount => Ok(Some(DType::Primitive(PType::U64, Nullability::Nullable))),
-            Stat::NaNCount => Ok(None),
-        },
-    }
-}
-
-/// The type that the values of a statistic have, where these names lead to a plain field of the table: the statistic's, made nullable.
-fn type_of_statistic(columns: &StructFields, names: &[FieldName], stat: Stat) -> Mem<Option<DType>>
-    ensures { IfOk result (λ found. option_map type_view found
-        ≡ option_map nullable (option_and_then (statistic_type stat) (leaf_type columns.now names.now))) }
-{
-    let rows = DType::Struct(columns.clone()?, Nullability::NonNullable);
-    match type_at(names, &rows) {
-        Some(dtype) => type_of_values(stat, dtype),
-        None => Ok(None),
     }
 }
 
@@ -130,75 +85,47 @@ fn scalars_front<'a>(
     Ok(Some((scalars, rest)))
 }
 
-/// The path of these names. A path takes the square of its length to be made.
-fn path_of(alloc: Global, names: &[FieldName]) -> Mem<FieldPath>
-    ensures { IfOk result (λ path. path ≡ names.now) }
-{
-    let mut path = FieldPath::root(alloc);
-    for name in names {
-        path = path.push(alloc, name.clone()?)?;
-    }
-    Ok(path)
-}
-
-/// The statistic of a path of these names.
-fn statistic_of(
-    alloc: Global,
-    names: &[FieldName],
-    stat: Stat,
-    values: Vec<Scalar>,
-) -> Mem<ZoneStat>
-    ensures { IfOk result (λ made. stat_view made ≡ statistic_of names.now stat values.items) }
-{
-    Ok(ZoneStat {
-        path: path_of(alloc, names)?,
-        stat,
-        values: Scalars::new(values),
-    })
-}
-
-/// The statistic at the front, of a table with these columns and these lengths of blocks. Its path is made only where it leads to a plain field, and so
-/// is no longer than a type is deep.
-#[tactic(auto, unfolding(vx_laws_file::specs::HeaderReading::statistic_at, vx_laws_file::specs::HeaderReading::scalars_with))]
+/// The statistic at the front, of a table whose paths lead to these plain types and with these lengths of blocks.
+#[tactic(auto, unfolding(vx_laws_file::specs::HeaderReading::statistic_by, vx_laws_file::specs::HeaderReading::scalars_with))]
 fn statistic_front<'a>(
     alloc: Global,
-    columns: &StructFields,
+    leaves: &HashMap<FieldPath, DType>,
     lengths: &[u32],
     bytes: &'a [u8],
 ) -> Mem<Option<(ZoneStat, &'a [u8])>>
-    ensures { IfOk result (λ found. option_map (λ x. (stat_view x.0, x.1.now)) found ≡ statistic_at columns.now lengths.now bytes.now) }
+    ensures { IfOk result (λ found. option_map (λ x. (stat_view x.0, x.1.now)) found ≡ statistic_by (leaf_in leaves.now) lengths.now bytes.now) }
 {
-    let Some((names, rest)) = path_names_front(alloc, bytes)? else {
+    let Some((path, rest)) = path_front(alloc, bytes)? else {
         return Ok(None);
     };
     let Some((stat, rest)) = stat_front(rest) else {
         return Ok(None);
     };
-    let parts = names.as_slice();
-    let Some(dtype) = type_of_statistic(columns, parts, stat)? else {
+    let Some(dtype) = type_of_values(leaves, &path, stat)? else {
         return Ok(None);
     };
     let Some((values, rest)) = scalars_front(alloc, &dtype, lengths.len(), rest)? else {
         return Ok(None);
     };
-    Ok(Some((statistic_of(alloc, parts, stat, values)?, rest)))
+    let values = Scalars::new(values);
+    Ok(Some((ZoneStat { path, stat, values }, rest)))
 }
 
 /// So many statistics at the front.
 fn some_statistics<'a>(
     alloc: Global,
-    columns: &StructFields,
+    leaves: &HashMap<FieldPath, DType>,
     lengths: &[u32],
     number: u32,
     bytes: &'a [u8],
 ) -> Mem<Option<(Vec<ZoneStat>, &'a [u8])>>
     ensures { IfOk result (λ found. option_map (λ x. (map stat_view x.0.items, x.1.now)) found
-        ≡ items_with (statistic_at columns.now lengths.now) number bytes.now) }
+        ≡ items_with (statistic_by (leaf_in leaves.now) lengths.now) number bytes.now) }
 {
     let mut rest = bytes;
     let mut stats: Vec<ZoneStat> = Vec::new(alloc);
     for _ in 0..number {
-        let Some((stat, after)) = statistic_front(alloc, columns, lengths, rest)? else {
+        let Some((stat, after)) = statistic_front(alloc, leaves, lengths, rest)? else {
             return Ok(None);
         };
         stats.push(stat)?;
@@ -207,7 +134,8 @@ fn some_statistics<'a>(
     Ok(Some((stats, rest)))
 }
 
-/// The statistics at the front, with their number before them, of a table with these columns and these lengths of blocks.
+/// The statistics at the front, with their number before them, of a table with these columns and these lengths of blocks. One walk over
+/// the columns' types notes where paths lead, so that a statistic's path costs one look-up, however many columns there are.
 #[tactic(auto, unfolding(vx_laws_file::specs::HeaderReading::counted_with))]
 pub(crate) fn statistics_front<'a>(
     alloc: Global,
@@ -221,5 +149,6 @@ pub(crate) fn statistics_front<'a>(
     let Some((number, rest)) = number_front(bytes) else {
         return Ok(None);
     };
-    some_statistics(alloc, columns, lengths, number, rest)
+    let leaves = leaf_types(alloc, columns)?;
+    some_statistics(alloc, &leaves, lengths, number, rest)
 }

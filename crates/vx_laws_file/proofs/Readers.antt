@@ -28,7 +28,7 @@ use Rattle.vx_wire_bytes.proofs.TypeLemmas.{type_takes, type_again, fields_again
 use Rattle.vx_wire_bytes.proofs.PlaceFields.{bytes_from}
 use Rattle.vx_wire_bytes.proofs.ValueLemmas.{value_takes, value_again}
 use Rattle.vx_laws_file.specs.FileForms.{most_rows, counted_bytes, AreCounted, stat_byte, scalar_bytes, statistic_bytes, IsStatistic, lengths_bytes, AreRangeLengths}
-use Rattle.vx_laws_file.specs.HeaderReading.{items_with, counted_with, columns_at, stat_numbered, stat_at, scalar_at, statistic_of, scalars_with, statistic_at, lengths_at, range_lengths_at}
+use Rattle.vx_laws_file.specs.HeaderReading.{items_with, counted_with, columns_at, stat_numbered, stat_at, scalar_at, statistic_of, scalars_with, statistic_by, statistic_at, lengths_at, range_lengths_at}
 use Rattle.vx_laws_file.proofs.Lists.{each_so, each_both}
 use Rattle.vx_laws_file.proofs.Headers.{IsScalarOf, shallow_below, has_type}
 
@@ -224,7 +224,7 @@ scalar_reader : (u : Ty) → IsReader scalar_bytes (IsScalarOf u) (scalar_at u)
 scalar_reader u = record { again = scalar_again u; takes = scalar_takes u }
 
 statistic_again : (columns : Fields) (lengths : List ℕ) (z : ZoneStat) (rest : Bytes) → IsStatistic columns lengths z → statistic_at columns lengths (statistic_bytes z ++ rest) ≡ Some (z, rest)
-unfolding statistic_at scalars_with
+unfolding statistic_by scalars_with
 statistic_again columns lengths z rest p =
     let values = flat_map scalar_bytes z.values in
     let t = has_type z.values (type_of_statistic columns z) p.typed in
@@ -270,7 +270,7 @@ scalars_take columns lengths path stat (Some t) bytes x is p here e =
 
 statistic_takes : (columns : Fields) (lengths : List ℕ) (bytes : Bytes) (x : ZoneStat × Bytes) → IsBytes bytes → statistic_at columns lengths bytes ≡ Some x
     → Takes bytes (statistic_bytes x.0) x.1 × IsStatistic columns lengths x.0
-unfolding statistic_at
+unfolding statistic_by
 statistic_takes columns lengths bytes x here e =
     let a = bind_some (counted_with text_at bytes)
     (λ path. stat_at path.1 >>= λ stat. scalars_with path.0 stat.0 (option_and_then (statistic_type stat.0) (leaf_type columns path.0)) (length lengths) stat.1) x e in

@@ -57,11 +57,15 @@ scalars_with path stat None k bytes = None
 scalars_with path stat (Some t) k bytes =
     items_with (scalar_at (with_nullability t Nullable)) k bytes >>= λ vs. Some (statistic_of path stat vs.0, vs.1)
 
--- a statistic of a table with these columns and these lengths of blocks
-unfoldable pub statistic_at : Fields → List ℕ → Bytes → Option (ZoneStat × Bytes)
-statistic_at columns lengths bytes =
+-- a statistic of a table in which paths lead to these plain types, with these lengths of blocks
+unfoldable pub statistic_by : (List Bytes → Option Ty) → List ℕ → Bytes → Option (ZoneStat × Bytes)
+statistic_by types lengths bytes =
     counted_with text_at bytes >>= λ path. stat_at path.1
-    >>= λ stat. scalars_with path.0 stat.0 (option_and_then (statistic_type stat.0) (leaf_type columns path.0)) (length lengths) stat.1
+    >>= λ stat. scalars_with path.0 stat.0 (option_and_then (statistic_type stat.0) (types path.0)) (length lengths) stat.1
+
+-- the same of a table with these columns
+abbrev pub statistic_at : Fields → List ℕ → Bytes → Option (ZoneStat × Bytes)
+statistic_at columns lengths = statistic_by (leaf_type columns) lengths
 
 -- the lengths of blocks that have no more rows together than a file may have
 unfoldable pub lengths_at : Bytes → Option (List ℕ × Bytes)
