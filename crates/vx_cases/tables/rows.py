@@ -11,9 +11,10 @@ import os
 import subprocess
 import sys
 
+import block_files
 import generated
 import tops
-from wire import ROOT, TRUE, binary, cast, contains, item, like, lit, merge, negated, node, pack, request, select, struct
+from wire import INTEGERS, ROOT, TRUE, binary, cast, contains, item, like, lit, merge, negated, node, pack, request, select, struct
 
 CRATES = os.path.dirname(os.path.dirname(os.path.dirname(os.path.abspath(__file__))))
 PROGRAM = os.path.join(CRATES, "vx", "out", "vx")
@@ -378,6 +379,58 @@ TOPS = [
                     ["asc", "x", "+1"], ["asc", "x", ""], ["asc", "x", "x"], ["asc", "x", "1", "1"], ["ascending", "x", "1"], ["built", "x", "1"]]),
 ]
 
+# block files: of tables whose bytes are written out, and of others by block_files.py
+FIRST = bytes_of(ABOVE_TEN)
+FIRST_FILE = "5658424c4b303031" "0e" "0400" "01" "0178" "010006" "02" "02" "01" "00" "0a" "05" "0101000000" "010c000000" "0114000000"
+BARE = {**request([], [], TRUE, X), "blocks": [{"rows": 3, "values": []}]}
+BARE_FILE = "5658424c4b303031" "06" "0400" "00" "01" "03" "00"
+UNBLOCKED_FILE = "5658424c4b303031" "0a" "0400" "01" "0178" "010006" "00" "00"
+EMPTY_FILE = "5658424c4b303031" "0c" "0400" "01" "0178" "010006" "01" "00" "00" "00"
+# the least x is 1 and then not known, and of nulls there are none and then two
+COUNTED = request([("x", "i8?")], [[[1]], [[None, None]]], TRUE, X, [(["x"], "min", [1, None]), (["x"], "null_count", [0, 2])])
+COUNTED_FILE = ("5658424c4b303031" "2b" "0400" "01" "0178" "010104" "02" "01" "02" "02" "01" "0178" "00" "0101" "00"
+                "01" "0178" "02" "010000000000000000" "010200000000000000" "02" "02" "0101" "0000")
+KINDS = [("b", "bool?"), *((t, t + "?") for t in INTEGERS), ("s", "utf8?"), ("l", {"list": "i16?", "nullable": True}),
+         ("r", struct(True, a="utf8", b={"list": struct(c="bool?"), "nullable": False}))]
+KINDS_CELLS = [
+    [[True, None], *([[low, None] for low in (0, 0, 0, 0, -128, -32768, -2**31, -2**63)]), ["", None], [[], None], [{"a": "", "b": []}, None]],
+    [[False], *([[high] for high in (255, 65535, 2**32 - 1, 2**64 - 1, 127, 32767, 2**31 - 1, 2**63 - 1)]), ["é" * 100], [[1, None, -1]],
+     [{"a": "\n", "b": [{"c": None}, {"c": True}]}]],
+    [[] for _ in range(12)],
+]
+MANY = request(KINDS, KINDS_CELLS, TRUE, ROOT, [(["b"], "min", [True, False, None]), (["s"], "max", ["", None, None]), (["r", "a"], "null_count", [1, 0, 0]),
+                                               (["r", "a"], "min", [None, "\n", None]), (["u64"], "max", [0, 2**64 - 1, None])])
+LATER = request(X32, [[list(range(200))], [[7] * 3_300]], TRUE, X)
+DEEP = {**FIRST, "columns": [{"name": "x", "type": lists(64, "i64")}]}
+FILES = [
+    ("a small table as a file", ["file"], FIRST, FIRST_FILE, 0),
+    ("a file of a filter of numbers", ["file"], bytes_of(X), FIRST_FILE, 0),
+    ("a file of texts that spell no expressions", ["file"], request(X32, TWO, b"\0", b""), FIRST_FILE, 0),
+    ("a file without columns", ["file"], BARE, BARE_FILE, 0),
+    ("a file without blocks", ["file"], request(X32, [], TRUE, X), UNBLOCKED_FILE, 0),
+    ("a file of a block without rows", ["file"], request(X32, [[[]]], TRUE, X), EMPTY_FILE, 0),
+    ("a file of statistics that aren't known", ["file"], COUNTED, COUNTED_FILE, 0),
+    *(("the file of %s" % name, ["file"], asked, block_files.answer(asked), 0)
+      for name, asked in [("a catalog", realistic()), ("all types", MANY), ("ranges of many bytes", LATER), ("lying statistics", LYING),
+                          ("ties", TIED), ("nulls", NULLS), ("texts", TEXTS), ("keys", KEYED), ("a wide table", wide(300)),
+                          ("generated rows", GENERATED_TABLE)]),
+    *(("no file of %s" % name, ["file"], asked, "error: " + told, 3)
+      for name, asked, told in [
+          ("a cut request", b"{", "BadJson"), ("a list", b"[]", "BadRequest top"), ("16,777,217 spaces", b" " * LONG, "InputTooLong"),
+          ("no columns' list", {**FIRST, "columns": 7}, "BadRequest columns"), ("no blocks' list", {**FIRST, "blocks": 7}, "BadRequest blocks"),
+          ("no statistics' list", {**FIRST, "stats": 7}, "BadRequest stats"), ("no filter", {**FIRST, "filter": 7}, "BadRequest filter"),
+          ("no projection", {**FIRST, "projection": 7}, "BadRequest projection"), ("half a byte of filter", {**FIRST, "filter": "0"}, "BadHex filter"),
+          ("half a byte of projection", {**TWICE, "projection": "0"}, "BadHex projection"), ("one name twice", TWICE, "BadTable DuplicateName"),
+          ("a type of depth 65", DEEP, "BadTable DeepType"),
+          ("a statistic of no column", request(X32, TWO, X, X, [(["z"], "min", [0, 0])]), "BadTable BadStatPath"),
+          ("one statistic twice", request(X32, TWO, X, X, [(["x"], "min", [0, 0])] * 2), "BadTable DuplicateStat"),
+          ("a statistic of one block", request(X32, TWO, X, X, [(["x"], "min", [0])]), "BadTable WrongStatCount"),
+          ("a statistic of texts", request(X32, TWO, X, X, [(["x"], "min", [0, ""])]), "BadTable WrongStatType"),
+          ("a block without its column", {**FIRST, "blocks": [{"rows": 1, "values": []}]}, "BadTable WrongLength"),
+          ("a text among numbers", request(X32, [[[1, "2"]]], X, X), "BadTable WrongValue")]),
+    *(("a file by %s" % " ".join(words), words, FIRST, "error: Usage", 2) for words in [["files"], ["file", "file"], ["file", "x", "1"], ["built", "file"]]),
+]
+
 
 def rows():
     """All rows: a name, arguments, what is taken, the answer and the exit status."""
@@ -385,6 +438,7 @@ def rows():
         yield name, ["scan"], asked, told, status
     yield from WORDS
     yield from TOPS
+    yield from FILES
 
 
 def main():

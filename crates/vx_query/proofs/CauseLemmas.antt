@@ -1,5 +1,5 @@
 -- What the status of a run whose arguments read a request tells.
-use Rattle.std.proofs.Common.{◌≡◌, ◌∙◌, sym, ap, refl, subst, ℕ, ◌+◌, ◌≤◌, Bool, true, false, ◌||◌, cond, List, [], ◌∷◌, nat_le, map, length, take, Option, Some, None, Result, Ok, Err, arith, true≢false}
+use Rattle.std.proofs.Common.{◌≡◌, ◌∙◌, sym, ap, refl, subst, ℕ, ◌+◌, ◌≤◌, Bool, true, false, ◌||◌, cond, List, [], ◌∷◌, nat_le, map, length, take, codes, Option, Some, None, Result, Ok, Err, arith, true≢false}
 use Rattle.std.specs.List.{list_any}
 use Rattle.std.proofs.lemmas.Bool.{leb-true}
 use Rattle.std.proofs.lemmas.List.{take_all}
@@ -22,16 +22,16 @@ use Rattle.vx_request.specs.declared.errors.RequestError.{RequestError}
 use Rattle.vx_request.specs.declared.errors.RequestError.TheVariants.{InputTooLong}
 use Rattle.vx_query.specs.Reports.{report_text}
 use Rattle.vx_query.specs.Refusals.{request_refusal_name, scan_refusal_name, key_refusal_name, break_name, refusal_line}
-use Rattle.vx_query.specs.Running.{End, Form, Statistics, HoldsScan, HoldsRefused, scan_by, scan_table, scan_reads, scan_phases, scan_breaks, scan_breaks_by, scan_report, scanned_store, broken_store, scan_form, explain_form, top_form, reads_request, asked_statistics, asked_top, HoldsNoKey, HasNoKey, IsTaken, IsRun}
+use Rattle.vx_query.specs.Running.{End, Form, Statistics, HoldsScan, HoldsRefused, scan_by, scan_table, scan_reads, scan_phases, scan_breaks, scan_breaks_by, scan_report, scanned_store, broken_store, scan_form, explain_form, top_form, reads_request, uses_expressions, asked_statistics, asked_top, HoldsNoKey, HasNoKey, IsTaken, IsRun}
 use Rattle.vx_query.specs.TopWords.{AskedTop, KeyRefusal}
 use Rattle.vx_query.specs.Exclusions.{IsSameScan}
 use Rattle.vx_query.specs.WireLaws.{WireLaws}
 use Rattle.vx_query.specs.Causes.{HasRisen, IsReported, IsUnasked, IsUnscanned, IsStopped, IsExplained, HasBroken, TellsScan, told_breaks, told_breaks_by, whole_report}
 use Rattle.vx_query.specs.Exactly.{Tells, RunsWell, EndsWith, taken_of}
 use Rattle.vx_query.proofs.RefusalLemmas.{one_err, not_err, one_scan, one_held_refusal, held_unrefused}
-use Rattle.vx_query.proofs.LineLemmas.{one_request, one_scan_error, one_cause, no_key_name, told_name}
+use Rattle.vx_query.proofs.LineLemmas.{one_request, one_scan_error, one_cause, no_key_name, no_long_name, told_name}
 use Rattle.vx_query.proofs.FormLemmas.{broken_reads}
-use Rattle.vx_query.proofs.RequestEnds.{not_none, RequestEnd, cut_off, without_memory, not_read, no_request, no_scan, breaks, reports, explains, no_key, top_stops, tops, request_end}
+use Rattle.vx_query.proofs.RequestEnds.{not_none, RequestEnd, cut_off, without_memory, not_read, no_request, no_scan, breaks, reports, explains, no_key, top_stops, tops, no_file, files, uses_reads, uses_no_file, request_end}
 
 -- whether a form is that of scans, where there is one
 abbrev is_scan : Option Form → Bool
@@ -61,7 +61,7 @@ reported chosen i i' o o' used run = by (request_end (Some (scan_form chosen)) i
     by (without_memory s held) = absurd (omega (arith, s))
     by (not_read s risen held) = absurd (omega (arith, s))
     by (no_request input e s taken why written held) = absurd (omega (arith, s))
-    by (no_scan input e s taken why free written held) = absurd (omega (arith, s))
+    by (no_scan input e s asks taken why free written held) = absurd (omega (arith, s))
     by (breaks own cause input a f p s scans taken asks broken written held) = absurd (omega (arith, s))
     by (reports own input a f p s scans taken asks unbroken written held) =
         let told : IsReported own i i' o o' used = record {
@@ -80,6 +80,8 @@ reported chosen i i' o o' used run = by (request_end (Some (scan_form chosen)) i
     by (no_key top input r s is taken why written held) = absurd (omega (arith, s))
     by (top_stops cause input a ask s is taken asks broken written held) = absurd (omega (arith, s))
     by (tops input a ask s is taken asks unbroken written held) = absurd (no_top (Some (scan_form chosen)) _ refl is)
+    by (no_file input s is taken why written held) = absurd (omega (arith, s))
+    by (files input a s is taken holds written held) = absurd (uses_no_file (Some (scan_form chosen)) refl is)
 
 -- the explanation that it means
 pub was_explained : (i i' o o' : End) (used : Option StoreSeen) → IsRun (Some explain_form) i i' o o' used 0 → IsExplained i i' o o' used
@@ -90,7 +92,7 @@ was_explained i i' o o' used run = by (request_end (Some explain_form) i i' o o'
     by (without_memory s held) = absurd (omega (arith, s))
     by (not_read s risen held) = absurd (omega (arith, s))
     by (no_request input e s taken why written held) = absurd (omega (arith, s))
-    by (no_scan input e s taken why free written held) = absurd (omega (arith, s))
+    by (no_scan input e s asks taken why free written held) = absurd (omega (arith, s))
     by (breaks own cause input a f p s scans taken asks broken written held) = absurd (omega (arith, s))
     by (reports own input a f p s scans taken asks unbroken written held) = absurd (no_explain own (sym scans))
     by (explains input a f p s other taken asks written held) =
@@ -98,11 +100,13 @@ was_explained i i' o o' used run = by (request_end (Some explain_form) i i' o o'
     by (no_key top input r s is taken why written held) = absurd (omega (arith, s))
     by (top_stops cause input a ask s is taken asks broken written held) = absurd (omega (arith, s))
     by (tops input a ask s is taken asks unbroken written held) = absurd (no_top (Some explain_form) _ refl is)
+    by (no_file input s is taken why written held) = absurd (omega (arith, s))
+    by (files input a s is taken holds written held) = absurd (uses_no_file (Some explain_form) refl is)
 
 -- an input that is no request
-pub unasked : (form : Option Form) (i i' o o' : End) (used : Option StoreSeen) → reads_request form ≡ true → IsRun form i i' o o' used 3
+pub unasked : (form : Option Form) (i i' o o' : End) (used : Option StoreSeen) → uses_expressions form ≡ true → IsRun form i i' o o' used 3
     → IsUnasked i i' o o' used
-unasked form i i' o o' used reads run = by (request_end form i i' o o' used 3 reads run)
+unasked form i i' o o' used uses run = by (request_end form i i' o o' used 3 (uses_reads form uses) run)
   where
     by : RequestEnd form i i' o o' used 3 → IsUnasked i i' o o' used
     by (cut_off s risen) = absurd (omega (arith, s))
@@ -110,13 +114,15 @@ unasked form i i' o o' used reads run = by (request_end form i i' o o' used 3 re
     by (not_read s risen held) = absurd (omega (arith, s))
     by (no_request input e s taken why written held) =
         record { input = input; refusal = e; taken = taken; cause = why; written = written; unheld = held }
-    by (no_scan input e s taken why free written held) = absurd (omega (arith, s))
+    by (no_scan input e s asks taken why free written held) = absurd (omega (arith, s))
     by (breaks own cause input a f p s scans taken asks broken written held) = absurd (omega (arith, s))
     by (reports own input a f p s scans taken asks unbroken written held) = absurd (omega (arith, s))
     by (explains input a f p s other taken asks written held) = absurd (omega (arith, s))
     by (no_key top input r s is taken why written held) = absurd (omega (arith, s))
     by (top_stops cause input a ask s is taken asks broken written held) = absurd (omega (arith, s))
     by (tops input a ask s is taken asks unbroken written held) = absurd (omega (arith, s))
+    by (no_file input s is taken why written held) = absurd (uses_no_file form uses is)
+    by (files input a s is taken holds written held) = absurd (omega (arith, s))
 
 -- a scan whose expressions are refused
 pub unspelled : (form : Option Form) (i i' o o' : End) (used : Option StoreSeen) → reads_request form ≡ true → asked_top form ≡ None
@@ -128,7 +134,7 @@ unspelled form i i' o o' used reads none run = by (request_end form i i' o o' us
     by (without_memory s held) = absurd (omega (arith, s))
     by (not_read s risen held) = absurd (omega (arith, s))
     by (no_request input e s taken why written held) = absurd (omega (arith, s))
-    by (no_scan input e s taken why free written held) =
+    by (no_scan input e s asks taken why free written held) =
         record { input = input; refusal = e; taken = taken; cause = why; written = written; unheld = held }
     by (breaks own cause input a f p s scans taken asks broken written held) = absurd (omega (arith, s))
     by (reports own input a f p s scans taken asks unbroken written held) = absurd (omega (arith, s))
@@ -136,6 +142,8 @@ unspelled form i i' o o' used reads none run = by (request_end form i i' o o' us
     by (no_key top input r s is taken why written held) = absurd (no_top form top none is)
     by (top_stops cause input a ask s is taken asks broken written held) = absurd (omega (arith, s))
     by (tops input a ask s is taken asks unbroken written held) = absurd (omega (arith, s))
+    by (no_file input s is taken why written held) = absurd (omega (arith, s))
+    by (files input a s is taken holds written held) = absurd (omega (arith, s))
 
 -- a scan that broke
 pub stopped : (form : Option Form) (i i' o o' : End) (used : Option StoreSeen) → asked_top form ≡ None
@@ -147,7 +155,7 @@ stopped form i i' o o' used none run = by (request_end form i i' o o' used 5 (br
     by (without_memory s held) = absurd (omega (arith, s))
     by (not_read s risen held) = absurd (omega (arith, s))
     by (no_request input e s taken why written held) = absurd (omega (arith, s))
-    by (no_scan input e s taken why free written held) = absurd (omega (arith, s))
+    by (no_scan input e s asks taken why free written held) = absurd (omega (arith, s))
     by (breaks own cause input a f p s scans taken asks broken written held) = record {
       cause = cause;
       broken = record {
@@ -162,18 +170,34 @@ stopped form i i' o o' used none run = by (request_end form i i' o o' used 5 (br
     by (no_key top input r s is taken why written held) = absurd (omega (arith, s))
     by (top_stops cause input a ask s is taken asks broken written held) = absurd (no_top form _ none is)
     by (tops input a ask s is taken asks unbroken written held) = absurd (omega (arith, s))
+    by (no_file input s is taken why written held) = absurd (omega (arith, s))
+    by (files input a s is taken holds written held) = absurd (omega (arith, s))
 
 -- ---- what a line tells
 
 -- a run that tells a refusal of its request
 pub told_request : (e : RequestError) (form : Option Form) (i i' o o' : End) (used : Option StoreSeen) → reads_request form ≡ true
     → Tells form i i' o o' used 3 (refusal_line (request_refusal_name e)) → (input : Bytes) × IsTaken i i' input × (request_of input ≡ Err e)
-told_request e form i i' o o' used reads tells =
-    let found = unasked form i i' o o' used reads tells.run in
-    let same : found.refusal ≡ e =
-    one_request found.refusal e
-    (told_name o.bytes o'.bytes tells.before (request_refusal_name e) (request_refusal_name found.refusal) tells.stood tells.written found.written) in
-    (found.input, found.taken, found.cause ∙ ap Err same)
+told_request e form i i' o o' used reads tells = by (request_end form i i' o o' used 3 reads tells.run)
+  where
+    by : RequestEnd form i i' o o' used 3 → (input : Bytes) × IsTaken i i' input × (request_of input ≡ Err e)
+    by (cut_off s risen) = absurd (omega (arith, s))
+    by (without_memory s held) = absurd (omega (arith, s))
+    by (not_read s risen held) = absurd (omega (arith, s))
+    by (no_request input g s taken why written held) =
+        let same : g ≡ e =
+        one_request g e (told_name o.bytes o'.bytes tells.before (request_refusal_name e) (request_refusal_name g) tells.stood tells.written written) in
+        (input, taken, why ∙ ap Err same)
+    by (no_scan input g s asks taken why free written held) = absurd (omega (arith, s))
+    by (breaks own cause input a f p s scans taken asks broken written held) = absurd (omega (arith, s))
+    by (reports own input a f p s scans taken asks unbroken written held) = absurd (omega (arith, s))
+    by (explains input a f p s other taken asks written held) = absurd (omega (arith, s))
+    by (no_key top input r s is taken why written held) = absurd (omega (arith, s))
+    by (top_stops cause input a ask s is taken asks broken written held) = absurd (omega (arith, s))
+    by (tops input a ask s is taken asks unbroken written held) = absurd (omega (arith, s))
+    by (no_file input s is taken why written held) =
+        absurd (no_long_name e (sym (told_name o.bytes o'.bytes tells.before (request_refusal_name e) (codes "TooLong") tells.stood tells.written written)))
+    by (files input a s is taken holds written held) = absurd (omega (arith, s))
 
 -- one that tells a refusal of its expressions: the key isn't refused then
 pub told_expressions : (e : ScanError) (form : Option Form) (i i' o o' : End) (used : Option StoreSeen) → reads_request form ≡ true
@@ -186,7 +210,7 @@ told_expressions e form i i' o o' used reads tells = by (request_end form i i' o
     by (without_memory s held) = absurd (omega (arith, s))
     by (not_read s risen held) = absurd (omega (arith, s))
     by (no_request input g s taken why written held) = absurd (omega (arith, s))
-    by (no_scan input g s taken why free written held) =
+    by (no_scan input g s asks taken why free written held) =
         let same : g ≡ e =
         one_scan_error g e (told_name o.bytes o'.bytes tells.before (scan_refusal_name e) (scan_refusal_name g) tells.stood tells.written written) in
         (input, taken, subst (HoldsRefused input) same why, free)
@@ -198,6 +222,8 @@ told_expressions e form i i' o o' used reads tells = by (request_end form i i' o
         (no_key_name e r (sym (told_name o.bytes o'.bytes tells.before (scan_refusal_name e) (key_refusal_name r) tells.stood tells.written written)))
     by (top_stops cause input a ask s is taken asks broken written held) = absurd (omega (arith, s))
     by (tops input a ask s is taken asks unbroken written held) = absurd (omega (arith, s))
+    by (no_file input s is taken why written held) = absurd (omega (arith, s))
+    by (files input a s is taken holds written held) = absurd (omega (arith, s))
 
 -- one that tells a break
 pub told_break : (cause : Cause) (form : Option Form) (i i' o o' : End) (used : Option StoreSeen) → asked_top form ≡ None
@@ -218,12 +244,12 @@ asks_where true r a e = refl
 asks_where false r a e = absurd (cc e)
 
 -- an input that holds a scan is no longer than the most
-asks_within : (input : Bytes) (a : RequestedScan) → request_of input ≡ Ok a → length input ≤ most_bytes
+pub asks_within : (input : Bytes) (a : RequestedScan) → request_of input ≡ Ok a → length input ≤ most_bytes
 unfolding request_of
 asks_within input a e = leb-true (length input) most_bytes (asks_where (nat_le (length input) most_bytes) (json_in input >>= scan_of) a e)
 
 -- such an input is taken whole
-taken_whole : (before after : End) (all input : Bytes) → before.bytes ≡ Some all → length all ≤ most_bytes
+pub taken_whole : (before after : End) (all input : Bytes) → before.bytes ≡ Some all → length all ≤ most_bytes
     → TookUpTo (most_bytes + 1) before.bytes after.bytes input → input ≡ all
 taken_whole before after all input told within took =
     let own = subst (λ b. TookUpTo (most_bytes + 1) b after.bytes input) told took in
@@ -297,7 +323,7 @@ completed laws chosen i i' o o' used status told unbroken well still = by (reque
     by (without_memory s held) = absurd (well.memory s)
     by (not_read s risen held) = absurd (still risen)
     by (no_request input e s taken why written held) = absurd (told_unrefused i i' input e told taken.bytes why)
-    by (no_scan input e s taken why free written held) = absurd (told_spelled laws i i' input e told taken.bytes why)
+    by (no_scan input e s asks taken why free written held) = absurd (told_spelled laws i i' input e told taken.bytes why)
     by (breaks own cause input a f p s scans taken asks broken written held) =
         let same = told_scan laws i i' input a f p told taken.bytes asks in
         let breaking = breaks_by_one cause (scan_by own a) f p broken in
@@ -310,6 +336,8 @@ completed laws chosen i i' o o' used status told unbroken well still = by (reque
     by (no_key top input r s is taken why written held) = absurd (no_top (Some (scan_form chosen)) _ refl is)
     by (top_stops cause input a ask s is taken asks broken written held) = absurd (no_top (Some (scan_form chosen)) _ refl is)
     by (tops input a ask s is taken asks unbroken written held) = absurd (no_top (Some (scan_form chosen)) _ refl is)
+    by (no_file input s is taken why written held) = absurd (uses_no_file (Some (scan_form chosen)) refl is)
+    by (files input a s is taken holds written held) = absurd (uses_no_file (Some (scan_form chosen)) refl is)
 
 -- where the bytes that are told hold a scan, its explanation is written
 pub explained_whole : WireLaws → (i i' o o' : End) (used : Option StoreSeen) (status : ℕ) (told : TellsScan i)
@@ -322,7 +350,7 @@ explained_whole laws i i' o o' used status told well still = by (request_end (So
     by (without_memory s held) = absurd (well.memory s)
     by (not_read s risen held) = absurd (still risen)
     by (no_request input e s taken why written held) = absurd (told_unrefused i i' input e told taken.bytes why)
-    by (no_scan input e s taken why free written held) = absurd (told_spelled laws i i' input e told taken.bytes why)
+    by (no_scan input e s asks taken why free written held) = absurd (told_spelled laws i i' input e told taken.bytes why)
     by (breaks own cause input a f p s scans taken asks broken written held) = absurd (no_explain own (sym scans))
     by (reports own input a f p s scans taken asks unbroken written held) = absurd (no_explain own (sym scans))
     by (explains input a f p s other taken asks written held) =
@@ -331,6 +359,8 @@ explained_whole laws i i' o o' used status told well still = by (request_end (So
     by (no_key top input r s is taken why written held) = absurd (no_top (Some explain_form) _ refl is)
     by (top_stops cause input a ask s is taken asks broken written held) = absurd (no_top (Some explain_form) _ refl is)
     by (tops input a ask s is taken asks unbroken written held) = absurd (no_top (Some explain_form) _ refl is)
+    by (no_file input s is taken why written held) = absurd (uses_no_file (Some explain_form) refl is)
+    by (files input a s is taken holds written held) = absurd (uses_no_file (Some explain_form) refl is)
 
 -- where what is taken of them is no request
 pub says_why : (e : RequestError) (form : Option Form) (i i' o o' : End) (used : Option StoreSeen) (status : ℕ) (input : Bytes) → reads_request form ≡ true
@@ -348,20 +378,23 @@ says_why e form i i' o o' used status all reads told refuses well still = by (re
     by (no_request input g s taken why written held) =
         let same : g ≡ e = one_err (request_of input) g e why (refused_all input taken) in
         (s, subst (λ x. Added o.bytes o'.bytes (refusal_line (request_refusal_name x))) same written)
-    by (no_scan input g s taken why free written held) = absurd (not_err (request_of input) why.asked e why.held (refused_all input taken))
+    by (no_scan input g s asks taken why free written held) = absurd (not_err (request_of input) why.asked e why.held (refused_all input taken))
     by (breaks own cause input a f p s scans taken asks broken written held) = absurd (not_err (request_of input) a e asks.asked (refused_all input taken))
     by (reports own input a f p s scans taken asks unbroken written held) = absurd (not_err (request_of input) a e asks.asked (refused_all input taken))
     by (explains input a f p s other taken asks written held) = absurd (not_err (request_of input) a e asks.asked (refused_all input taken))
     by (no_key top input r s is taken why written held) = absurd (not_err (request_of input) why.asked e why.held (refused_all input taken))
     by (top_stops cause input a ask s is taken asks broken written held) = absurd (not_err (request_of input) a e asks.scan.asked (refused_all input taken))
     by (tops input a ask s is taken asks unbroken written held) = absurd (not_err (request_of input) a e asks.scan.asked (refused_all input taken))
+    by (no_file input s is taken why written held) = absurd (not_err (request_of input) why.asked e why.held (refused_all input taken))
+    by (files input a s is taken holds written held) = absurd (not_err (request_of input) a e holds.asked (refused_all input taken))
 
 -- where it holds a scan whose expressions are refused
 pub says_refusal : WireLaws → (e : ScanError) (form : Option Form) (i i' o o' : End) (used : Option StoreSeen) (status : ℕ) (input : Bytes)
-    → reads_request form ≡ true → i.bytes ≡ Some input → HoldsRefused (taken_of input) e → ¬ (HasNoKey form (taken_of input))
+    → uses_expressions form ≡ true → i.bytes ≡ Some input → HoldsRefused (taken_of input) e → ¬ (HasNoKey form (taken_of input))
     → RunsWell form i i' o o' used status → ¬ (HasRisen i i')
     → EndsWith 4 (refusal_line (scan_refusal_name e)) o o' status
-says_refusal laws e form i i' o o' used status all reads told refuses keyed well still = by (request_end form i i' o o' used status reads well.run)
+says_refusal laws e form i i' o o' used status all uses told refuses keyed well still =
+    by (request_end form i i' o o' used status (uses_reads form uses) well.run)
   where
     refused_all : (input : Bytes) → IsTaken i i' input → HoldsRefused input e
     refused_all input taken = subst (λ bytes. HoldsRefused bytes e) (sym (taken_part i i' all input told taken.bytes)) refuses
@@ -378,7 +411,7 @@ says_refusal laws e form i i' o o' used status all reads told refuses keyed well
     by (no_request input g s taken why written held) =
         let own = refused_all input taken in
         absurd (not_err (request_of input) own.asked g own.held why)
-    by (no_scan input g s taken why free written held) =
+    by (no_scan input g s asks taken why free written held) =
         let same : g ≡ e = one_held_refusal laws input g e why (refused_all input taken) in
         (s, subst (λ x. Added o.bytes o'.bytes (refusal_line (scan_refusal_name x))) same written)
     by (breaks own cause input a f p s scans taken asks broken written held) = absurd (held_unrefused laws input a f p e asks (refused_all input taken))
@@ -387,6 +420,8 @@ says_refusal laws e form i i' o o' used status all reads told refuses keyed well
     by (no_key top input r s is taken why written held) = absurd (keyed (keyless_all input taken top r is why))
     by (top_stops cause input a ask s is taken asks broken written held) = absurd (held_unrefused laws input a ask.filter_expr ask.projection e asks.scan (refused_all input taken))
     by (tops input a ask s is taken asks unbroken written held) = absurd (held_unrefused laws input a ask.filter_expr ask.projection e asks.scan (refused_all input taken))
+    by (no_file input s is taken why written held) = absurd (uses_no_file form uses is)
+    by (files input a s is taken holds written held) = absurd (uses_no_file form uses is)
 
 -- the run of a scan that breaks says why, and holds its store
 abbrev pub SaysBreak : {i : End} → Statistics → TellsScan i → End → End → Option StoreSeen → ℕ → Type 0
@@ -404,7 +439,7 @@ says_break laws chosen i i' o o' used status told breaking well still = by (requ
     by (without_memory s held) = absurd (well.memory s)
     by (not_read s risen held) = absurd (still risen)
     by (no_request input e s taken why written held) = absurd (told_unrefused i i' input e told taken.bytes why)
-    by (no_scan input e s taken why free written held) = absurd (told_spelled laws i i' input e told taken.bytes why)
+    by (no_scan input e s asks taken why free written held) = absurd (told_spelled laws i i' input e told taken.bytes why)
     by (breaks own cause input a f p s scans taken asks broken written held) =
         let same = told_scan laws i i' input a f p told taken.bytes asks in
         let is = same_statistics chosen own scans in
@@ -419,6 +454,8 @@ says_break laws chosen i i' o o' used status told breaking well still = by (requ
     by (no_key top input r s is taken why written held) = absurd (no_top (Some (scan_form chosen)) _ refl is)
     by (top_stops cause input a ask s is taken asks broken written held) = absurd (no_top (Some (scan_form chosen)) _ refl is)
     by (tops input a ask s is taken asks unbroken written held) = absurd (no_top (Some (scan_form chosen)) _ refl is)
+    by (no_file input s is taken why written held) = absurd (uses_no_file (Some (scan_form chosen)) refl is)
+    by (files input a s is taken holds written held) = absurd (uses_no_file (Some (scan_form chosen)) refl is)
 
 -- the scan that a run reports is the one that the source's bytes ask, and so is the one that is explained
 pub reported_as_told : WireLaws → (chosen : Statistics) (i i' o o' : End) (used : Option StoreSeen) (told : TellsScan i)

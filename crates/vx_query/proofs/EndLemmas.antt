@@ -3,7 +3,7 @@ use Rattle.std.proofs.Common.{◌≡◌, sym, ap, refl, ℕ, ◌-◌, ◌^◌, �
 use Rattle.vx_dtype.specs.Types.{Bytes}
 use Rattle.vx_scan.specs.Stores.{StoreSeen}
 use Rattle.vx_query.specs.Refusals.{text_refusal_name}
-use Rattle.vx_query.specs.Running.{End, Form, scan_form, explain_form, show_form, text_form, gen_form, top_form, help_form, version_form, help_text, version_text, reads_request, shown_word, asked_rows, asked_statistics, asked_top, Outcome, misused, helped, versioned, out_of_memory, unread, refused, unscanned, broken, answered, explained, undecoded, unshown, shown, unnamed, unserialized, overlong, named, summed, unkeyed, top_broken, topped, Writing, whole, cut, IsOutcome, IsWriting, IsRun, status_of, outcome_text, used_by}
+use Rattle.vx_query.specs.Running.{End, Form, scan_form, explain_form, show_form, text_form, gen_form, top_form, file_form, help_form, version_form, help_text, version_text, reads_request, shown_word, asked_rows, asked_statistics, asked_top, Outcome, misused, helped, versioned, out_of_memory, unread, refused, unscanned, broken, answered, explained, undecoded, unshown, shown, unnamed, unserialized, overlong, named, summed, unkeyed, top_broken, topped, unfiled, filed, Writing, whole, cut, IsOutcome, IsWriting, IsRun, status_of, outcome_text, used_by}
 use Rattle.vx_query.specs.Causes.{HasRisen, IsCut, IsUnread, IsWithoutMemory, IsTold, IsUndigited, IsUnshown, IsUnnamed}
 use Rattle.vx_query.proofs.FormLemmas.{scans_hold, others_take_nothing}
 use Rattle.vx_query.proofs.RequestEnds.{not_none}
@@ -40,6 +40,8 @@ source_unread form i i' o o' used run = by run.outcome run.writing run.comes run
     by (unkeyed top input r) whole comes written held = absurd (omega (arith, written.0))
     by (top_broken cause input a ask) whole comes written held = absurd (omega (arith, written.0))
     by (topped input a ask) whole comes written held = absurd (omega (arith, written.0))
+    by (unfiled input) whole comes written held = absurd (omega (arith, written.0))
+    by (filed input a) whole comes written held = absurd (omega (arith, written.0))
 
 -- a sink that failed
 pub sink_cut : (form : Option Form) (i i' o o' : End) (used : Option StoreSeen) → IsRun form i i' o o' used 7 → IsCut form i i' o o' used
@@ -69,6 +71,8 @@ sink_cut form i i' o o' used run = by run.outcome run.writing run.comes run.writ
     by (unkeyed top input r) whole comes written held = absurd (omega (arith, written.0))
     by (top_broken cause input a ask) whole comes written held = absurd (omega (arith, written.0))
     by (topped input a ask) whole comes written held = absurd (omega (arith, written.0))
+    by (unfiled input) whole comes written held = absurd (omega (arith, written.0))
+    by (filed input a) whole comes written held = absurd (omega (arith, written.0))
 
 -- want of memory
 pub without_any : (form : Option Form) (i i' o o' : End) (used : Option StoreSeen) → IsRun form i i' o o' used 8 → IsWithoutMemory form i i' o o' used
@@ -98,6 +102,8 @@ without_any form i i' o o' used run = by run.outcome run.writing run.comes run.w
     by (unkeyed top input r) whole comes written held = absurd (omega (arith, written.0))
     by (top_broken cause input a ask) whole comes written held = absurd (omega (arith, written.0))
     by (topped input a ask) whole comes written held = absurd (omega (arith, written.0))
+    by (unfiled input) whole comes written held = absurd (omega (arith, written.0))
+    by (filed input a) whole comes written held = absurd (omega (arith, written.0))
 
 -- a count that stayed hasn't risen, where it isn't at its last value
 stayed : (i i' : End) → i.faults < 2 ^ 64 - 1 → i'.faults ≡ i.faults → ¬ (HasRisen i i')
@@ -138,6 +144,8 @@ risen_unread form i i' o o' used status below risen quiet run = by run.outcome r
     by (unkeyed top input r) whole comes written = unrisen comes.taken.quiet
     by (top_broken cause input a ask) whole comes written = unrisen comes.taken.quiet
     by (topped input a ask) whole comes written = unrisen comes.taken.quiet
+    by (unfiled input) whole comes written = unrisen comes.taken.quiet
+    by (filed input a) whole comes written = unrisen comes.taken.quiet
 
 -- ---- help, and the version
 
@@ -184,6 +192,8 @@ help_told i i' o o' used status run quiet = by run.outcome run.writing run.comes
     by (unkeyed top input r) whole comes written held = absurd (true≢false (sym (ap reads_request comes.asks)))
     by (top_broken cause input a ask) whole comes written held = absurd (true≢false (sym (ap reads_request comes.asks)))
     by (topped input a ask) whole comes written held = absurd (true≢false (sym (ap reads_request comes.asks)))
+    by (unfiled input) whole comes written held = absurd (true≢false (sym (ap reads_request comes.asks)))
+    by (filed input a) whole comes written held = absurd (true≢false (sym (ap reads_request comes.asks)))
 
 pub version_told : (i i' o o' : End) (used : Option StoreSeen) (status : ℕ) → IsRun (Some version_form) i i' o o' used status → ¬ (HasRisen o o')
     → IsTold version_text i i' o o' used status
@@ -220,6 +230,8 @@ version_told i i' o o' used status run quiet = by run.outcome run.writing run.co
     by (unkeyed top input r) whole comes written held = absurd (true≢false (sym (ap reads_request comes.asks)))
     by (top_broken cause input a ask) whole comes written held = absurd (true≢false (sym (ap reads_request comes.asks)))
     by (topped input a ask) whole comes written held = absurd (true≢false (sym (ap reads_request comes.asks)))
+    by (unfiled input) whole comes written held = absurd (true≢false (sym (ap reads_request comes.asks)))
+    by (filed input a) whole comes written held = absurd (true≢false (sym (ap reads_request comes.asks)))
 
 -- ---- words and queries that are refused
 
@@ -232,6 +244,7 @@ word_reads_none (Some (show_form showing other)) word shows = refl
 word_reads_none (Some (text_form other)) word shows = refl
 word_reads_none (Some (gen_form rows)) word shows = absurd (not_none (sym shows))
 word_reads_none (Some (top_form top)) word shows = absurd (not_none (sym shows))
+word_reads_none (Some file_form) word shows = absurd (not_none (sym shows))
 word_reads_none (Some help_form) word shows = refl
 word_reads_none (Some version_form) word shows = refl
 
@@ -243,6 +256,7 @@ word_scans_none (Some (show_form showing other)) word shows = refl
 word_scans_none (Some (text_form other)) word shows = refl
 word_scans_none (Some (gen_form rows)) word shows = refl
 word_scans_none (Some (top_form top)) word shows = refl
+word_scans_none (Some file_form) word shows = refl
 word_scans_none (Some help_form) word shows = refl
 word_scans_none (Some version_form) word shows = refl
 
@@ -254,6 +268,7 @@ word_asks_none (Some (show_form showing other)) word shows = refl
 word_asks_none (Some (text_form other)) word shows = refl
 word_asks_none (Some (gen_form rows)) word shows = absurd (not_none (sym shows))
 word_asks_none (Some (top_form top)) word shows = refl
+word_asks_none (Some file_form) word shows = refl
 word_asks_none (Some help_form) word shows = refl
 word_asks_none (Some version_form) word shows = refl
 
@@ -265,6 +280,7 @@ word_tops_none (Some (show_form showing other)) word shows = refl
 word_tops_none (Some (text_form other)) word shows = refl
 word_tops_none (Some (gen_form rows)) word shows = refl
 word_tops_none (Some (top_form top)) word shows = absurd (not_none (sym shows))
+word_tops_none (Some file_form) word shows = refl
 word_tops_none (Some help_form) word shows = refl
 word_tops_none (Some version_form) word shows = refl
 

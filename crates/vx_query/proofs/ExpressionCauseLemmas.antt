@@ -19,7 +19,7 @@ use Rattle.vx_scan.specs.declared.errors.ScanError.TheVariants as scans
 use Rattle.vx_request.specs.Requests.{RequestedScan}
 use Rattle.vx_request.specs.declared.errors.RequestError.{RequestError}
 use Rattle.vx_query.specs.Refusals.{request_refusal_name, scan_refusal_name}
-use Rattle.vx_query.specs.Running.{Form, HasNoKey, HoldsRefused, IsScanRefused, type_of_scan}
+use Rattle.vx_query.specs.Running.{Form, HasNoKey, HoldsRefused, IsScanRefused, reads_request, uses_expressions, type_of_scan}
 use Rattle.vx_query.specs.WireLaws.{WireLaws}
 use Rattle.vx_query.specs.RequestCauses.{IsNoRequest}
 use Rattle.vx_query.specs.ExpressionCauses.{HoldsBadText, IsTyped, IsUntyped, IsBoolean, IsNoBoolean, IsIllTyped, HoldsExpressions, HoldsIllTyped, HoldsNoBoolean}
@@ -27,11 +27,12 @@ use Rattle.vx_query.specs.Exactly.{RequestsEndSo, ExpressionsEndSo, taken_of}
 use Rattle.vx_query.proofs.KeyLemmas.{text_free}
 use Rattle.vx_query.proofs.CauseLemmas.{told_request, told_expressions, says_why, says_refusal}
 use Rattle.vx_query.proofs.RequestCauseLemmas.{why_refused, refused_so}
+use Rattle.vx_query.proofs.RequestEnds.{uses_reads}
 
 -- ---- rows
 
 -- the row of a refusal of a request
-pub request_row : (e : RequestError) → RequestsEndSo 3 (request_refusal_name e) (IsNoRequest e)
+pub request_row : (e : RequestError) → RequestsEndSo reads_request 3 (request_refusal_name e) (IsNoRequest e)
 request_row e = record {
   only = λ form i i' o o' used reads tells.
       let found = told_request e form i i' o o' used reads tells in
@@ -43,24 +44,24 @@ request_row e = record {
 -- the row of a refusal of its expressions, by a cause that is the same
 pub expression_row : WireLaws → (e : ScanError) (Cause : Bytes → Type 0) → ((input : Bytes) → HoldsRefused input e → Cause input)
     → ((input : Bytes) → Cause input → HoldsRefused input e) → ((form : Option Form) (input : Bytes) → Cause input → ¬ (HasNoKey form input))
-    → RequestsEndSo 4 (scan_refusal_name e) Cause
+    → RequestsEndSo uses_expressions 4 (scan_refusal_name e) Cause
 expression_row laws e Cause forth back free = record {
-  only = λ form i i' o o' used reads tells.
-      let found = told_expressions e form i i' o o' used reads tells in
+  only = λ form i i' o o' used uses tells.
+      let found = told_expressions e form i i' o o' used (uses_reads form uses) tells in
       (found.0, found.1, forth found.0 found.2);
-  always = λ form i i' o o' used status input reads told cause well still.
-      says_refusal laws e form i i' o o' used status input reads told (back (taken_of input) cause) (free form (taken_of input) cause) well still;
+  always = λ form i i' o o' used status input uses told cause well still.
+      says_refusal laws e form i i' o o' used status input uses told (back (taken_of input) cause) (free form (taken_of input) cause) well still;
 }
 
 -- the row of one that comes behind the key
 keyed_row : WireLaws → (e : ScanError) (Cause : Bytes → Type 0) → ((input : Bytes) → HoldsRefused input e → Cause input)
     → ((input : Bytes) → Cause input → HoldsRefused input e) → ExpressionsEndSo 4 (scan_refusal_name e) Cause
 keyed_row laws e Cause forth back = record {
-  only = λ form i i' o o' used reads tells.
-      let found = told_expressions e form i i' o o' used reads tells in
+  only = λ form i i' o o' used uses tells.
+      let found = told_expressions e form i i' o o' used (uses_reads form uses) tells in
       (found.0, found.1, forth found.0 found.2, found.3);
-  always = λ form i i' o o' used status input reads told cause keyed well still.
-      says_refusal laws e form i i' o o' used status input reads told (back (taken_of input) cause) keyed well still;
+  always = λ form i i' o o' used status input uses told cause keyed well still.
+      says_refusal laws e form i i' o o' used status input uses told (back (taken_of input) cause) keyed well still;
 }
 
 -- ---- typing
@@ -187,7 +188,7 @@ bad_text e text input h = by h.refused
 refused_text : (e : ScanError) (input : Bytes) → HoldsBadText e input → HoldsRefused input e
 refused_text e input h = record { asked = h.asked; held = h.held; refused = inl h.refused }
 
-pub text_row : WireLaws → (e : ScanError) → kind_of e ≡ of_text → RequestsEndSo 4 (scan_refusal_name e) (HoldsBadText e)
+pub text_row : WireLaws → (e : ScanError) → kind_of e ≡ of_text → RequestsEndSo uses_expressions 4 (scan_refusal_name e) (HoldsBadText e)
 text_row laws e text = expression_row laws e (HoldsBadText e) (bad_text e text) (refused_text e) (text_free e)
 
 -- ---- the rows of typing

@@ -2,9 +2,9 @@
 use Rattle.std.proofs.Common.{◌≡◌, ◌⊎◌, ◌∙◌, sym, ap, refl, ℕ, true, false, Option, Some, None, inl, inr, arith, true≢false}
 use Rattle.vx_scan.specs.Stores.{StoreSeen}
 use Rattle.vx_query.specs.TopWords.{AskedTop}
-use Rattle.vx_query.specs.Running.{End, Form, Statistics, scan_form, explain_form, top_form, words_of, reads_request, asked_rows, asked_statistics, asked_top, Outcome, misused, helped, versioned, out_of_memory, unread, refused, unscanned, broken, answered, explained, undecoded, unshown, shown, unnamed, unserialized, overlong, named, summed, unkeyed, top_broken, topped, Writing, whole, cut, IsOutcome, IsWriting, IsRun, status_of, outcome_text, used_by}
+use Rattle.vx_query.specs.Running.{End, Form, Statistics, scan_form, explain_form, top_form, file_form, words_of, reads_request, asked_rows, asked_statistics, asked_top, Outcome, misused, helped, versioned, out_of_memory, unread, refused, unscanned, broken, answered, explained, undecoded, unshown, shown, unnamed, unserialized, overlong, named, summed, unkeyed, top_broken, topped, unfiled, filed, Writing, whole, cut, IsOutcome, IsWriting, IsRun, status_of, outcome_text, used_by}
 use Rattle.vx_query.specs.Causes.{HasRisen, IsMisuse}
-use Rattle.vx_query.proofs.RequestEnds.{not_none}
+use Rattle.vx_query.proofs.RequestEnds.{not_none, uses_reads}
 
 -- ---- arguments of no form
 
@@ -34,6 +34,8 @@ unformed form i i' o o' used run = by run.outcome run.writing run.comes run.writ
     by (unkeyed top input r) whole comes written = absurd (omega (arith, written.0))
     by (top_broken cause input a ask) whole comes written = absurd (omega (arith, written.0))
     by (topped input a ask) whole comes written = absurd (omega (arith, written.0))
+    by (unfiled input) whole comes written = absurd (omega (arith, written.0))
+    by (filed input a) whole comes written = absurd (omega (arith, written.0))
 
 pub misuses : (i i' o o' : End) (used : Option StoreSeen) (status : ℕ) → IsRun None i i' o o' used status → ¬ (HasRisen o o')
     → IsMisuse i i' o o' used status
@@ -71,6 +73,8 @@ misuses i i' o o' used status run quiet = by run.outcome run.writing run.comes r
     by (unkeyed top input r) whole comes written held = absurd (not_none (sym comes.asks))
     by (top_broken cause input a ask) whole comes written held = absurd (not_none (sym comes.asks))
     by (topped input a ask) whole comes written held = absurd (not_none (sym comes.asks))
+    by (unfiled input) whole comes written held = absurd (not_none (sym comes.asks))
+    by (filed input a) whole comes written held = absurd (not_none (sym comes.asks))
 
 -- ---- which forms break, hold stores and take nothing
 
@@ -107,6 +111,8 @@ broken_scans form i i' o o' used run = by run.outcome run.writing run.comes run.
     by (unkeyed top input r) whole comes written = absurd (omega (arith, written.0))
     by (top_broken cause input a ask) whole comes written = inr (words_of ask, comes.asks)
     by (topped input a ask) whole comes written = absurd (omega (arith, written.0))
+    by (unfiled input) whole comes written = absurd (omega (arith, written.0))
+    by (filed input a) whole comes written = absurd (omega (arith, written.0))
 
 pub broken_reads : (form : Option Form) (i i' o o' : End) (used : Option StoreSeen) → IsRun form i i' o o' used 5 → reads_request form ≡ true
 broken_reads form i i' o o' used run =
@@ -138,6 +144,8 @@ scans_hold form i i' o o' used status no_scan none no_top run = by run.outcome r
     by (unkeyed top input r) comes held = held
     by (top_broken cause input a ask) comes held = absurd (not_none (sym (ap asked_top comes.asks) ∙ no_top))
     by (topped input a ask) comes held = absurd (not_none (sym (ap asked_top comes.asks) ∙ no_top))
+    by (unfiled input) comes held = held
+    by (filed input a) comes held = held
 
 pub others_take_nothing : (form : Option Form) (i i' o o' : End) (used : Option StoreSeen) (status : ℕ) → reads_request form ≡ false
     → IsRun form i i' o o' used status → i' ≡ i
@@ -153,7 +161,7 @@ others_take_nothing form i i' o o' used status none run = by run.outcome run.com
     by out_of_memory comes = elim comes [ inl part ↦ absurd (true≢false (sym part.0 ∙ none)) | inr word ↦ word.1 ]
     by unread comes = absurd (true≢false (sym comes.reads ∙ none))
     by (refused input e) comes = absurd (true≢false (sym comes.asks ∙ none))
-    by (unscanned input e) comes = absurd (true≢false (sym comes.asks ∙ none))
+    by (unscanned input e) comes = absurd (true≢false (sym (uses_reads form comes.asks) ∙ none))
     by (broken chosen cause input a f p) comes = absurd (differs (Some (scan_form chosen)) refl comes.asks)
     by (answered chosen input a f p) comes = absurd (differs (Some (scan_form chosen)) refl comes.asks)
     by (explained input a f p) comes = absurd (differs (Some explain_form) refl comes.asks)
@@ -168,3 +176,5 @@ others_take_nothing form i i' o o' used status none run = by run.outcome run.com
     by (unkeyed top input r) comes = absurd (differs (Some (top_form top)) refl comes.asks)
     by (top_broken cause input a ask) comes = absurd (differs (Some (top_form (words_of ask))) refl comes.asks)
     by (topped input a ask) comes = absurd (differs (Some (top_form (words_of ask))) refl comes.asks)
+    by (unfiled input) comes = absurd (differs (Some file_form) refl comes.asks)
+    by (filed input a) comes = absurd (differs (Some file_form) refl comes.asks)

@@ -30,3 +30,5 @@ mod GeneratedEnds
 mod TopAnswerLemmas
 mod TopReadLemmas
 mod TopCauseLemmas
+mod FileLemmas
+mod FileCauseLemmas

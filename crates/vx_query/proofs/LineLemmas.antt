@@ -150,6 +150,14 @@ finds_no_scan bad_key = refl
 pub no_key_name : (e : ScanError) (r : KeyRefusal) → ¬ (scan_refusal_name e ≡ key_refusal_name r)
 no_key_name e r same = not_none (sym (finds_scan e) ∙ ap (named_so scan_refusal_name all_scans) same ∙ finds_no_scan r)
 
+-- no refusal of a request has the name of that of a table that is too long for a block file
+finds_no_request : named_so request_refusal_name all_requests (codes "TooLong") ≡ None
+unfolding named_so all_requests
+finds_no_request = refl
+
+pub no_long_name : (e : RequestError) → ¬ (request_refusal_name e ≡ codes "TooLong")
+no_long_name e same = not_none (sym (finds_request e) ∙ ap (named_so request_refusal_name all_requests) same ∙ finds_no_request)
+
 -- ---- what a line tells
 
 pub one_request : (e g : RequestError) → request_refusal_name e ≡ request_refusal_name g → e ≡ g

@@ -17,15 +17,16 @@ use Rattle.vx_query.specs.EndingViews.{ending_status, ending_text, EndsBy, IsAns
 use Rattle.vx_laws_topk.specs.TopRows.{TopAsk}
 use Rattle.vx_query.specs.TopWords.{AskedTop, unknown_key, bad_key}
 use Rattle.vx_query.specs.TopViews.{ask_of, TopEndsBy, IsTopAnswered, IsTopUnanswered}
-use Rattle.vx_query.specs.Running.{End, Form, HasNoKey, Showing, Statistics, shown_text, scan_form, explain_form, show_form, text_form, gen_form, top_form, reads_request, shown_word, scan_by, Outcome, out_of_memory, unread, refused, unscanned, broken, answered, explained, undecoded, unshown, shown, unnamed, unserialized, overlong, named, summed, unkeyed, top_broken, topped, Writing, IsOutcome, IsTaken, IsPartTaken, IsWriting, IsRun, status_of, outcome_text, used_by}
-use Rattle.vx_query.specs.RefusalViews.{refusal_status, refusal_text, input_refusal, IsUnanswered, IsWordUnshown, IsQueryRefused}
-use Rattle.vx_query.specs.TextViews.{answer_status, answer_text, ExplainsInput, ShowsWord, AnswersQuery, IsAnsweredBy}
+use Rattle.vx_query.specs.Running.{End, Form, HasNoKey, Showing, Statistics, shown_text, scan_form, explain_form, show_form, text_form, gen_form, top_form, file_form, reads_request, uses_expressions, shown_word, scan_by, Outcome, out_of_memory, unread, refused, unscanned, broken, answered, explained, undecoded, unshown, shown, unnamed, unserialized, overlong, named, summed, unkeyed, top_broken, topped, unfiled, filed, Writing, IsOutcome, IsTaken, IsPartTaken, IsWriting, IsRun, status_of, outcome_text, used_by}
+use Rattle.vx_query.specs.RefusalViews.{refusal_status, refusal_text, input_refusal, IsUnanswered, IsFileUnanswered, IsWordUnshown, IsQueryRefused}
+use Rattle.vx_query.specs.TextViews.{answer_status, answer_text, ExplainsInput, FilesInput, ShowsWord, AnswersQuery, IsAnsweredBy}
 use Rattle.vx_io.specs.declared.reading.InputError.{InputError}
 use Rattle.vx_io.specs.declared.reading.InputError.TheVariants as inputs
 use Rattle.vx_query.specs.declared.endings.Ending.{Ending}
 use Rattle.vx_query.specs.declared.endings.Ending.TheVariants.{Report, Overflow, BadCast}
 use Rattle.vx_query.specs.declared.refusals.Refusal.{Refusal}
-use Rattle.vx_query.specs.declared.refusals.Refusal.TheVariants.{NoMemory, ReadFault, InputTooLong, BadJson, BadRequest, BadHex, BadTable, BadHexText, Scan, Query, NotSerializable, LongPart, UnknownKey, BadKey}
+use Rattle.vx_query.specs.declared.refusals.Refusal.TheVariants.{NoMemory, ReadFault, InputTooLong, BadJson, BadRequest, BadHex, BadTable, BadHexText, Scan, Query, NotSerializable, LongPart, UnknownKey, BadKey, LongTable}
+use Rattle.vx_query.proofs.RequestEnds.{uses_reads}
 
 -- an outcome that a refusal stands for
 abbrev pub EndsRefused : Option Form → End → End → Refusal → Type 0
@@ -39,24 +40,46 @@ refused_unread form reads before after inputs.NoMemory part quiet cause = (out_o
 refused_unread form reads before after inputs.ReadFault part quiet cause = (unread, record { reads = reads; part = part; risen = cause refl }, refl, refl, refl)
 
 -- an input that is taken and has no report
-pub refused_taken : (form : Option Form) → reads_request form ≡ true → (before after : End) (input : Bytes) (r : Refusal) → ¬ (HasNoKey form input)
+pub refused_taken : (form : Option Form) → uses_expressions form ≡ true → (before after : End) (input : Bytes) (r : Refusal) → ¬ (HasNoKey form input)
     → IsPartTaken before after → IsTaken before after input → IsUnanswered input r → EndsRefused form before after r
-refused_taken form reads before after input NoMemory keyed part taken told = (out_of_memory, inl (reads, (part, taken.quiet)), refl, refl, refl)
-refused_taken form reads before after input ReadFault keyed part taken told = absurd told
-refused_taken form reads before after input InputTooLong keyed part taken told = (refused input requests.InputTooLong, record { asks = reads; taken = taken; holds = told }, refl, refl, refl)
-refused_taken form reads before after input BadJson keyed part taken told = (refused input requests.BadJson, record { asks = reads; taken = taken; holds = told }, refl, refl, refl)
-refused_taken form reads before after input (BadRequest place) keyed part taken told =
-    (refused input (requests.BadRequest place), record { asks = reads; taken = taken; holds = told }, refl, refl, refl)
-refused_taken form reads before after input (BadHex side) keyed part taken told = (refused input (requests.BadHex side), record { asks = reads; taken = taken; holds = told }, refl, refl, refl)
-refused_taken form reads before after input (BadTable refusal) keyed part taken told =
-    (refused input (requests.BadTable refusal), record { asks = reads; taken = taken; holds = told }, refl, refl, refl)
-refused_taken form reads before after input BadHexText keyed part taken told = absurd told
-refused_taken form reads before after input (Scan e) keyed part taken told = (unscanned input e, record { asks = reads; taken = taken; holds = (told, keyed) }, refl, refl, refl)
-refused_taken form reads before after input (Query e) keyed part taken told = absurd told
-refused_taken form reads before after input NotSerializable keyed part taken told = absurd told
-refused_taken form reads before after input LongPart keyed part taken told = absurd told
-refused_taken form reads before after input UnknownKey keyed part taken told = absurd told
-refused_taken form reads before after input BadKey keyed part taken told = absurd told
+refused_taken form uses before after input NoMemory keyed part taken told = (out_of_memory, inl (uses_reads form uses, (part, taken.quiet)), refl, refl, refl)
+refused_taken form uses before after input ReadFault keyed part taken told = absurd told
+refused_taken form uses before after input InputTooLong keyed part taken told = (refused input requests.InputTooLong, record { asks = uses_reads form uses; taken = taken; holds = told }, refl, refl, refl)
+refused_taken form uses before after input BadJson keyed part taken told = (refused input requests.BadJson, record { asks = uses_reads form uses; taken = taken; holds = told }, refl, refl, refl)
+refused_taken form uses before after input (BadRequest place) keyed part taken told =
+    (refused input (requests.BadRequest place), record { asks = uses_reads form uses; taken = taken; holds = told }, refl, refl, refl)
+refused_taken form uses before after input (BadHex side) keyed part taken told = (refused input (requests.BadHex side), record { asks = uses_reads form uses; taken = taken; holds = told }, refl, refl, refl)
+refused_taken form uses before after input (BadTable refusal) keyed part taken told =
+    (refused input (requests.BadTable refusal), record { asks = uses_reads form uses; taken = taken; holds = told }, refl, refl, refl)
+refused_taken form uses before after input BadHexText keyed part taken told = absurd told
+refused_taken form uses before after input (Scan e) keyed part taken told = (unscanned input e, record { asks = uses; taken = taken; holds = (told, keyed) }, refl, refl, refl)
+refused_taken form uses before after input (Query e) keyed part taken told = absurd told
+refused_taken form uses before after input NotSerializable keyed part taken told = absurd told
+refused_taken form uses before after input LongPart keyed part taken told = absurd told
+refused_taken form uses before after input UnknownKey keyed part taken told = absurd told
+refused_taken form uses before after input BadKey keyed part taken told = absurd told
+refused_taken form uses before after input LongTable keyed part taken told = absurd told
+
+-- an input whose table's block file is asked, and that has none
+unfiled_taken : (before after : End) (input : Bytes) (r : Refusal) → IsPartTaken before after → IsTaken before after input → IsFileUnanswered input r
+    → EndsRefused (Some file_form) before after r
+unfiled_taken before after input NoMemory part taken told = (out_of_memory, inl (refl, (part, taken.quiet)), refl, refl, refl)
+unfiled_taken before after input ReadFault part taken told = absurd told
+unfiled_taken before after input InputTooLong part taken told = (refused input requests.InputTooLong, record { asks = refl; taken = taken; holds = told }, refl, refl, refl)
+unfiled_taken before after input BadJson part taken told = (refused input requests.BadJson, record { asks = refl; taken = taken; holds = told }, refl, refl, refl)
+unfiled_taken before after input (BadRequest place) part taken told =
+    (refused input (requests.BadRequest place), record { asks = refl; taken = taken; holds = told }, refl, refl, refl)
+unfiled_taken before after input (BadHex side) part taken told = (refused input (requests.BadHex side), record { asks = refl; taken = taken; holds = told }, refl, refl, refl)
+unfiled_taken before after input (BadTable refusal) part taken told =
+    (refused input (requests.BadTable refusal), record { asks = refl; taken = taken; holds = told }, refl, refl, refl)
+unfiled_taken before after input BadHexText part taken told = absurd told
+unfiled_taken before after input (Scan e) part taken told = absurd told
+unfiled_taken before after input (Query e) part taken told = absurd told
+unfiled_taken before after input NotSerializable part taken told = absurd told
+unfiled_taken before after input LongPart part taken told = absurd told
+unfiled_taken before after input LongTable part taken told = (unfiled input, record { asks = refl; taken = taken; holds = told }, refl, refl, refl)
+unfiled_taken before after input UnknownKey part taken told = absurd told
+unfiled_taken before after input BadKey part taken told = absurd told
 
 -- a word that is not shown
 word_refused : (form : Option Form) (word : Bytes) → shown_word form ≡ Some word → (source : End) (r : Refusal) → IsWordUnshown word r
@@ -75,6 +98,7 @@ word_refused form word is source NotSerializable told = absurd told
 word_refused form word is source LongPart told = absurd told
 word_refused form word is source UnknownKey told = absurd told
 word_refused form word is source BadKey told = absurd told
+word_refused form word is source LongTable told = absurd told
 
 -- a query that has no bytes
 query_refused : (query : Bytes) (source : End) (r : Refusal) → IsQueryRefused query r → EndsRefused (Some (text_form query)) source source r
@@ -92,6 +116,7 @@ query_refused query source NotSerializable told = (unserialized, record { word =
 query_refused query source LongPart told = (overlong, record { word = query; asks = refl; holds = told; untaken = refl }, refl, refl, refl)
 query_refused query source UnknownKey told = absurd told
 query_refused query source BadKey told = absurd told
+query_refused query source LongTable told = absurd told
 
 -- an answer that is a refusal
 answered_refusal : (form : Option Form) (before after : End) (r : Refusal) → EndsRefused form before after r → IsAnsweredBy form before after (Err r)
@@ -102,7 +127,7 @@ pub answered_err : (form : Option Form) (before after : End) (r : Refusal) (resu
 answered_err form before after r (Ok x) h k = absurd h
 answered_err form before after r (Err x) h k = answered_refusal form before after x (subst (EndsRefused form before after) (sym h) k)
 
--- an input that is explained, and a word that is shown
+-- an input that is explained
 pub explained_taken : (before after : End) (input : Bytes) (answer : Result (String Global) Refusal) → IsPartTaken before after → IsTaken before after input
     → ExplainsInput input answer → IsAnsweredBy (Some explain_form) before after answer
 explained_taken before after input (Ok text) part taken h = record {
@@ -115,6 +140,15 @@ explained_taken before after input (Ok text) part taken h = record {
 explained_taken before after input (Err r) part taken h =
     answered_refusal (Some explain_form) before after r (refused_taken (Some explain_form) refl before after input r (λ none. none) part taken h)
 
+-- one whose table's block file is written
+pub filed_taken : (before after : End) (input : Bytes) (answer : Result (String Global) Refusal) → IsPartTaken before after → IsTaken before after input
+    → FilesInput input answer → IsAnsweredBy (Some file_form) before after answer
+filed_taken before after input (Ok text) part taken h =
+    record { outcome = filed input h.0; comes = record { asks = refl; taken = taken; holds = h.1 }; status = refl; text = sym h.2; unheld = refl }
+filed_taken before after input (Err r) part taken h =
+    answered_refusal (Some file_form) before after r (unfiled_taken before after input r part taken h)
+
+-- a word that is shown
 pub word_shown : (showing : Showing) (word : Bytes) (source : End) (answer : Result (String Global) Refusal) → ShowsWord (shown_text showing) word answer
     → IsAnsweredBy (Some (show_form showing word)) source source answer
 word_shown showing word source (Ok text) h =
@@ -191,6 +225,7 @@ unsearched_taken top before after input (Scan e) part taken told = (unscanned in
 unsearched_taken top before after input (Query e) part taken told = absurd told
 unsearched_taken top before after input NotSerializable part taken told = absurd told
 unsearched_taken top before after input LongPart part taken told = absurd told
+unsearched_taken top before after input LongTable part taken told = absurd told
 unsearched_taken top before after input UnknownKey part taken told = (unkeyed top input unknown_key, record { asks = refl; taken = taken; holds = told }, refl, refl, refl)
 unsearched_taken top before after input BadKey part taken told = (unkeyed top input bad_key, record { asks = refl; taken = taken; holds = told }, refl, refl, refl)
 

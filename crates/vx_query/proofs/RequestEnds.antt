@@ -1,5 +1,5 @@
 -- How a run ends whose arguments read a request.
-use Rattle.std.proofs.Common.{◌≡◌, ◌∙◌, sym, ap, refl, ℕ, true, false, Option, Some, None, Err, is_some, true≢false}
+use Rattle.std.proofs.Common.{◌≡◌, ◌∙◌, sym, ap, refl, ℕ, true, false, codes, Option, Some, None, Err, is_some, true≢false}
 use Rattle.vx_dtype.specs.Types.{Bytes}
 use Rattle.vx_expr.specs.Trees.{Tree}
 use Rattle.vx_semantics.specs.Breaks.{Cause}
@@ -12,7 +12,7 @@ use Rattle.vx_request.specs.Requests.{RequestedScan, request_of}
 use Rattle.vx_request.specs.declared.errors.RequestError.{RequestError}
 use Rattle.vx_query.specs.Refusals.{request_refusal_name, scan_refusal_name, key_refusal_name, break_name, refusal_line}
 use Rattle.vx_query.specs.TopWords.{AskedTop, KeyRefusal}
-use Rattle.vx_query.specs.Running.{End, Form, Statistics, HoldsScan, HoldsRefused, HoldsNoKey, HasNoKey, HoldsTop, words_of, top_breaks, top_breaks_by, top_report, topped_store, top_broken_store, scan_by, scan_breaks, scan_breaks_by, scan_report, scanned_store, broken_store, scan_form, explain_form, show_form, text_form, gen_form, top_form, help_form, version_form, reads_request, shown_word, asked_query, IsTaken, Outcome, misused, helped, versioned, out_of_memory, unread, refused, unscanned, broken, answered, explained, undecoded, unshown, shown, unnamed, unserialized, overlong, named, summed, unkeyed, top_broken, topped, Writing, whole, cut, IsOutcome, IsWriting, IsRun, status_of, outcome_text, used_by}
+use Rattle.vx_query.specs.Running.{End, Form, Statistics, HoldsScan, HoldsRefused, HoldsNoKey, HasNoKey, HoldsTop, words_of, top_breaks, top_breaks_by, top_report, topped_store, top_broken_store, scan_by, scan_breaks, scan_breaks_by, scan_report, scanned_store, broken_store, scan_form, explain_form, show_form, text_form, gen_form, top_form, file_form, help_form, version_form, reads_request, uses_expressions, HoldsLongTable, HoldsFile, file_line, shown_word, asked_query, IsTaken, Outcome, misused, helped, versioned, out_of_memory, unread, refused, unscanned, broken, answered, explained, undecoded, unshown, shown, unnamed, unserialized, overlong, named, summed, unkeyed, top_broken, topped, unfiled, filed, Writing, whole, cut, IsOutcome, IsWriting, IsRun, status_of, outcome_text, used_by}
 use Rattle.vx_query.specs.Causes.{HasRisen}
 
 pub not_none : {X : Type 0} {x : X} → Some x ≡ None → ⊥
@@ -25,7 +25,7 @@ pub data RequestEnd (form : Option Form) (i i' o o' : End) (used : Option StoreS
   not_read : status ≡ 6 → HasRisen i i' → used ≡ None → RequestEnd form i i' o o' used status
   no_request : (input : Bytes) (e : RequestError) → status ≡ 3 → IsTaken i i' input → request_of input ≡ Err e
       → Added o.bytes o'.bytes (refusal_line (request_refusal_name e)) → used ≡ None → RequestEnd form i i' o o' used status
-  no_scan : (input : Bytes) (e : ScanError) → status ≡ 4 → IsTaken i i' input → HoldsRefused input e → ¬ (HasNoKey form input)
+  no_scan : (input : Bytes) (e : ScanError) → status ≡ 4 → uses_expressions form ≡ true → IsTaken i i' input → HoldsRefused input e → ¬ (HasNoKey form input)
       → Added o.bytes o'.bytes (refusal_line (scan_refusal_name e)) → used ≡ None → RequestEnd form i i' o o' used status
   breaks : (chosen : Statistics) (cause : Cause) (input : Bytes) (a : RequestedScan) (f p : Tree) → status ≡ 5 → form ≡ Some (scan_form chosen)
       → IsTaken i i' input → HoldsScan input a f p → scan_breaks_by cause (scan_by chosen a) f p ≡ true
@@ -44,6 +44,26 @@ pub data RequestEnd (form : Option Form) (i i' o o' : End) (used : Option StoreS
   tops : (input : Bytes) (a : RequestedScan) (ask : TopAsk) → status ≡ 0 → form ≡ Some (top_form (words_of ask)) → IsTaken i i' input
       → HoldsTop input a ask → top_breaks a ask ≡ false → Added o.bytes o'.bytes (top_report a ask) → used ≡ Some (topped_store a ask)
       → RequestEnd form i i' o o' used status
+  no_file : (input : Bytes) → status ≡ 3 → form ≡ Some file_form → IsTaken i i' input → HoldsLongTable input
+      → Added o.bytes o'.bytes (refusal_line (codes "TooLong")) → used ≡ None → RequestEnd form i i' o o' used status
+  files : (input : Bytes) (a : RequestedScan) → status ≡ 0 → form ≡ Some file_form → IsTaken i i' input → HoldsFile input a
+      → Added o.bytes o'.bytes (file_line a) → used ≡ None → RequestEnd form i i' o o' used status
+
+-- arguments that use the expressions of a request read it, and ask no block file
+pub uses_reads : (form : Option Form) → uses_expressions form ≡ true → reads_request form ≡ true
+uses_reads None uses = uses
+uses_reads (Some (scan_form chosen)) uses = refl
+uses_reads (Some explain_form) uses = refl
+uses_reads (Some (show_form showing word)) uses = uses
+uses_reads (Some (text_form query)) uses = uses
+uses_reads (Some (gen_form rows)) uses = uses
+uses_reads (Some (top_form top)) uses = refl
+uses_reads (Some file_form) uses = refl
+uses_reads (Some help_form) uses = uses
+uses_reads (Some version_form) uses = uses
+
+pub uses_no_file : (form : Option Form) → uses_expressions form ≡ true → ¬ (form ≡ Some file_form)
+uses_no_file form uses is = true≢false (sym uses ∙ ap uses_expressions is)
 
 -- such arguments are of no other form, show no word, and ask no query
 reads_other : (form other : Option Form) → reads_request form ≡ true → reads_request other ≡ false → ¬ (form ≡ other)
@@ -57,6 +77,7 @@ shows_none (Some (show_form showing other)) word reads h = true≢false (sym rea
 shows_none (Some (text_form other)) word reads h = true≢false (sym reads)
 shows_none (Some (gen_form rows)) word reads h = true≢false (sym reads)
 shows_none (Some (top_form top)) word reads h = not_none (sym h)
+shows_none (Some file_form) word reads h = not_none (sym h)
 shows_none (Some help_form) word reads h = true≢false (sym reads)
 shows_none (Some version_form) word reads h = true≢false (sym reads)
 
@@ -68,6 +89,7 @@ asks_none (Some (show_form showing other)) query reads h = true≢false (sym rea
 asks_none (Some (text_form other)) query reads h = true≢false (sym reads)
 asks_none (Some (gen_form rows)) query reads h = true≢false (sym reads)
 asks_none (Some (top_form top)) query reads h = not_none (sym h)
+asks_none (Some file_form) query reads h = not_none (sym h)
 asks_none (Some help_form) query reads h = true≢false (sym reads)
 asks_none (Some version_form) query reads h = true≢false (sym reads)
 
@@ -84,7 +106,7 @@ request_end form i i' o o' used status reads run = by run.outcome run.writing ru
     by out_of_memory whole comes written held = without_memory written.0 held
     by unread whole comes written held = not_read written.0 comes.risen held
     by (refused input e) whole comes written held = no_request input e written.0 comes.taken comes.holds written.1.0 held
-    by (unscanned input e) whole comes written held = no_scan input e written.0 comes.taken comes.holds.0 comes.holds.1 written.1.0 held
+    by (unscanned input e) whole comes written held = no_scan input e written.0 comes.asks comes.taken comes.holds.0 comes.holds.1 written.1.0 held
     by (broken chosen cause input a f p) whole comes written held =
         breaks chosen cause input a f p written.0 comes.asks comes.taken comes.holds.0 comes.holds.1 written.1.0 held
     by (answered chosen input a f p) whole comes written held =
@@ -102,3 +124,5 @@ request_end form i i' o o' used status reads run = by run.outcome run.writing ru
     by (top_broken cause input a ask) whole comes written held =
         top_stops cause input a ask written.0 comes.asks comes.taken comes.holds.0 comes.holds.1 written.1.0 held
     by (topped input a ask) whole comes written held = tops input a ask written.0 comes.asks comes.taken comes.holds.0 comes.holds.1 written.1.0 held
+    by (unfiled input) whole comes written held = no_file input written.0 comes.asks comes.taken comes.holds written.1.0 held
+    by (filed input a) whole comes written held = files input a written.0 comes.asks comes.taken comes.holds written.1.0 held

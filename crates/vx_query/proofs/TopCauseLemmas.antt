@@ -30,7 +30,7 @@ use Rattle.vx_query.proofs.SlotLemmas.{spelled_slotless}
 use Rattle.vx_query.proofs.LineLemmas.{one_key, one_cause, no_key_name, told_name}
 use Rattle.vx_query.proofs.CauseLemmas.{no_top, told_input, taken_part, told_unrefused, told_spelled}
 use Rattle.vx_query.proofs.HonestLemmas.{request_table}
-use Rattle.vx_query.proofs.RequestEnds.{RequestEnd, cut_off, without_memory, not_read, no_request, no_scan, breaks, reports, explains, no_key, top_stops, tops, request_end}
+use Rattle.vx_query.proofs.RequestEnds.{RequestEnd, cut_off, without_memory, not_read, no_request, no_scan, breaks, reports, explains, no_key, top_stops, tops, no_file, files, uses_no_file, request_end}
 
 -- the words of a run are those that are given
 pub one_words : (top own : AskedTop) → Some (top_form top) ≡ Some (top_form own) → own ≡ top
@@ -59,7 +59,7 @@ found_rows top i i' o o' used run = by (request_end (Some (top_form top)) i i' o
     by (without_memory s held) = absurd (omega (arith, s))
     by (not_read s risen held) = absurd (omega (arith, s))
     by (no_request input e s taken why written held) = absurd (omega (arith, s))
-    by (no_scan input e s taken why free written held) = absurd (omega (arith, s))
+    by (no_scan input e s asks taken why free written held) = absurd (omega (arith, s))
     by (breaks own cause input a f p s scans taken asks broken written held) = absurd (omega (arith, s))
     by (reports own input a f p s scans taken asks unbroken written held) = absurd (no_scanning top own scans)
     by (explains input a f p s other taken asks written held) = absurd (no_explaining top other)
@@ -71,6 +71,8 @@ found_rows top i i' o o' used run = by (request_end (Some (top_form top)) i i' o
       written = written;
       held = held;
     }
+    by (no_file input s is taken why written held) = absurd (omega (arith, s))
+    by (files input a s is taken holds written held) = absurd (uses_no_file (Some (top_form top)) refl is)
 
 -- an input of which the key is refused, or the expressions are
 pub unfound : (top : AskedTop) (i i' o o' : End) (used : Option StoreSeen) → IsRun (Some (top_form top)) i i' o o' used 4
@@ -82,7 +84,7 @@ unfound top i i' o o' used run = by (request_end (Some (top_form top)) i i' o o'
     by (without_memory s held) = absurd (omega (arith, s))
     by (not_read s risen held) = absurd (omega (arith, s))
     by (no_request input e s taken why written held) = absurd (omega (arith, s))
-    by (no_scan input e s taken why free written held) =
+    by (no_scan input e s asks taken why free written held) =
         inr (record { input = input; refusal = e; taken = taken; cause = why; written = written; unheld = held }, free)
     by (breaks own cause input a f p s scans taken asks broken written held) = absurd (omega (arith, s))
     by (reports own input a f p s scans taken asks unbroken written held) = absurd (omega (arith, s))
@@ -99,6 +101,8 @@ unfound top i i' o o' used run = by (request_end (Some (top_form top)) i i' o o'
         }
     by (top_stops cause input a ask s is taken asks broken written held) = absurd (omega (arith, s))
     by (tops input a ask s is taken asks unbroken written held) = absurd (omega (arith, s))
+    by (no_file input s is taken why written held) = absurd (omega (arith, s))
+    by (files input a s is taken holds written held) = absurd (omega (arith, s))
 
 -- a search that broke
 pub search_stopped : (top : AskedTop) (i i' o o' : End) (used : Option StoreSeen) → IsRun (Some (top_form top)) i i' o o' used 5
@@ -110,7 +114,7 @@ search_stopped top i i' o o' used run = by (request_end (Some (top_form top)) i 
     by (without_memory s held) = absurd (omega (arith, s))
     by (not_read s risen held) = absurd (omega (arith, s))
     by (no_request input e s taken why written held) = absurd (omega (arith, s))
-    by (no_scan input e s taken why free written held) = absurd (omega (arith, s))
+    by (no_scan input e s asks taken why free written held) = absurd (omega (arith, s))
     by (breaks own cause input a f p s scans taken asks broken written held) = absurd (no_scanning top own scans)
     by (reports own input a f p s scans taken asks unbroken written held) = absurd (omega (arith, s))
     by (explains input a f p s other taken asks written held) = absurd (omega (arith, s))
@@ -122,6 +126,8 @@ search_stopped top i i' o o' used run = by (request_end (Some (top_form top)) i 
       held = held;
     }
     by (tops input a ask s is taken asks unbroken written held) = absurd (omega (arith, s))
+    by (no_file input s is taken why written held) = absurd (omega (arith, s))
+    by (files input a s is taken holds written held) = absurd (omega (arith, s))
 
 -- ---- what a line tells
 
@@ -170,7 +176,7 @@ says_key r top i i' o o' used status all told refuses well still = by (request_e
     by (no_request input e s taken why written held) =
         let own = refused_all input taken in
         absurd (not_err (request_of input) own.asked e own.held why)
-    by (no_scan input e s taken why free written held) = absurd (free (r, refused_all input taken))
+    by (no_scan input e s asks taken why free written held) = absurd (free (r, refused_all input taken))
     by (breaks own cause input a f p s scans taken asks broken written held) = absurd (no_scanning top own scans)
     by (reports own input a f p s scans taken asks unbroken written held) = absurd (no_scanning top own scans)
     by (explains input a f p s other taken asks written held) = absurd (no_explaining top other)
@@ -180,6 +186,8 @@ says_key r top i i' o o' used status all told refuses well still = by (request_e
         (s, subst (λ x. Added o.bytes o'.bytes (refusal_line (key_refusal_name x))) same written)
     by (top_stops cause input a ask s is taken asks broken written held) = absurd (unsearched input a ask is taken asks)
     by (tops input a ask s is taken asks unbroken written held) = absurd (unsearched input a ask is taken asks)
+    by (no_file input s is taken why written held) = absurd (uses_no_file (Some (top_form top)) refl is)
+    by (files input a s is taken holds written held) = absurd (uses_no_file (Some (top_form top)) refl is)
 
 pub key_row : (r : KeyRefusal) → KeysEndSo 4 (key_refusal_name r) (HoldsNoKey r)
 key_row r = record { only = told_key r; always = says_key r }
@@ -242,7 +250,7 @@ found_whole laws i i' o o' used status told unbroken well still =
     by (without_memory s held) = absurd (well.memory s)
     by (not_read s risen held) = absurd (still risen)
     by (no_request input e s taken why written held) = absurd (told_unrefused i i' input e (scan_told told) taken.bytes why)
-    by (no_scan input e s taken why free written held) = absurd (told_spelled laws i i' input e (scan_told told) taken.bytes why)
+    by (no_scan input e s asks taken why free written held) = absurd (told_spelled laws i i' input e (scan_told told) taken.bytes why)
     by (breaks own cause input a f p s scans taken asks broken written held) = absurd (no_scanning (words_of told.ask) own scans)
     by (reports own input a f p s scans taken asks quiet written held) = absurd (no_scanning (words_of told.ask) own scans)
     by (explains input a f p s other taken asks written held) = absurd (no_explaining (words_of told.ask) other)
@@ -254,6 +262,8 @@ found_whole laws i i' o o' used status told unbroken well still =
     by (tops input a ask s is taken asks quiet written held) =
         let same = told_search laws i i' input a ask told taken.bytes (one_words (words_of told.ask) (words_of ask) is) asks in
         (s, subst (Added o.bytes o'.bytes) (λ j. top_report (same.asked j) (same.search j)) written)
+    by (no_file input s is taken why written held) = absurd (uses_no_file (Some (top_form (words_of told.ask))) refl is)
+    by (files input a s is taken holds written held) = absurd (uses_no_file (Some (top_form (words_of told.ask))) refl is)
 
 -- the run of a search that breaks says why, and holds its store
 abbrev pub SaysBreak : {i : End} → TellsTop i → End → End → Option StoreSeen → ℕ → Type 0
@@ -271,7 +281,7 @@ says_search_break laws i i' o o' used status told breaking well still =
     by (without_memory s held) = absurd (well.memory s)
     by (not_read s risen held) = absurd (still risen)
     by (no_request input e s taken why written held) = absurd (told_unrefused i i' input e (scan_told told) taken.bytes why)
-    by (no_scan input e s taken why free written held) = absurd (told_spelled laws i i' input e (scan_told told) taken.bytes why)
+    by (no_scan input e s asks taken why free written held) = absurd (told_spelled laws i i' input e (scan_told told) taken.bytes why)
     by (breaks own cause input a f p s scans taken asks broken written held) = absurd (no_scanning (words_of told.ask) own scans)
     by (reports own input a f p s scans taken asks quiet written held) = absurd (no_scanning (words_of told.ask) own scans)
     by (explains input a f p s other taken asks written held) = absurd (no_explaining (words_of told.ask) other)
@@ -286,6 +296,8 @@ says_search_break laws i i' o o' used status told breaking well still =
         let same = told_search laws i i' input a ask told taken.bytes (one_words (words_of told.ask) (words_of ask) is) asks in
         let quiet = told_breaking told a ask false same unbroken in
         absurd (true≢false (sym breaking ∙ quiet))
+    by (no_file input s is taken why written held) = absurd (uses_no_file (Some (top_form (words_of told.ask))) refl is)
+    by (files input a s is taken holds written held) = absurd (uses_no_file (Some (top_form (words_of told.ask))) refl is)
 
 -- the search that a run reports is the one that the source's bytes ask
 pub found_as_told : WireLaws → (i i' o o' : End) (used : Option StoreSeen) (told : TellsTop i) → IsRun (Some (top_form (words_of told.ask))) i i' o o' used 0

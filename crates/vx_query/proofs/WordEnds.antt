@@ -8,9 +8,9 @@ use Rattle.vx_scan.specs.Stores.{StoreSeen}
 use Rattle.vx_scan.specs.declared.errors.ScanError.{ScanError}
 use Rattle.vx_request.specs.Requests.{hex_bytes}
 use Rattle.vx_query.specs.Refusals.{scan_refusal_name, refusal_line}
-use Rattle.vx_query.specs.Running.{End, Form, Showing, shown_text, WordSpells, WordIsRefused, scan_form, explain_form, show_form, text_form, gen_form, top_form, words_of, help_form, version_form, reads_request, shown_word, asked_query, Outcome, misused, helped, versioned, out_of_memory, unread, refused, unscanned, broken, answered, explained, undecoded, unshown, shown, unnamed, unserialized, overlong, named, summed, unkeyed, top_broken, topped, Writing, whole, cut, IsOutcome, IsWriting, IsRun, status_of, outcome_text, used_by}
+use Rattle.vx_query.specs.Running.{End, Form, Showing, shown_text, WordSpells, WordIsRefused, scan_form, explain_form, show_form, text_form, gen_form, top_form, words_of, file_form, help_form, version_form, reads_request, shown_word, asked_query, Outcome, misused, helped, versioned, out_of_memory, unread, refused, unscanned, broken, answered, explained, undecoded, unshown, shown, unnamed, unserialized, overlong, named, summed, unkeyed, top_broken, topped, unfiled, filed, Writing, whole, cut, IsOutcome, IsWriting, IsRun, status_of, outcome_text, used_by}
 use Rattle.vx_query.specs.Causes.{HasRisen}
-use Rattle.vx_query.proofs.RequestEnds.{not_none, shows_none}
+use Rattle.vx_query.proofs.RequestEnds.{not_none, shows_none, uses_reads}
 
 -- how their run ends: its text was cut off, there was no memory, or the word was told
 pub data WordEnd (form : Option Form) (word : Bytes) (i i' o o' : End) (used : Option StoreSeen) (status : ℕ) : Type 0 where
@@ -35,6 +35,7 @@ shows_no_query (Some (show_form showing other)) word query shows h = not_none (s
 shows_no_query (Some (text_form other)) word query shows h = not_none (sym shows)
 shows_no_query (Some (gen_form rows)) word query shows h = not_none (sym shows)
 shows_no_query (Some (top_form top)) word query shows h = not_none (sym shows)
+shows_no_query (Some file_form) word query shows h = not_none (sym shows)
 shows_no_query (Some help_form) word query shows h = not_none (sym shows)
 shows_no_query (Some version_form) word query shows h = not_none (sym shows)
 
@@ -58,7 +59,7 @@ word_end form word i i' o o' used status shows run = by run.outcome run.writing 
     by out_of_memory whole comes written held = without_memory written.0
     by unread whole comes written held = absurd (unread_word form word shows comes.reads)
     by (refused input e) whole comes written held = absurd (unread_word form word shows comes.asks)
-    by (unscanned input e) whole comes written held = absurd (unread_word form word shows comes.asks)
+    by (unscanned input e) whole comes written held = absurd (unread_word form word shows (uses_reads form comes.asks))
     by (broken chosen cause input a f p) whole comes written held = absurd (shows_other form (Some (scan_form chosen)) word shows refl comes.asks)
     by (answered chosen input a f p) whole comes written held = absurd (shows_other form (Some (scan_form chosen)) word shows refl comes.asks)
     by (explained input a f p) whole comes written held = absurd (shows_other form (Some explain_form) word shows refl comes.asks)
@@ -77,3 +78,5 @@ word_end form word i i' o o' used status shows run = by run.outcome run.writing 
     by (unkeyed top input r) whole comes written held = absurd (shows_other form (Some (top_form top)) word shows refl comes.asks)
     by (top_broken cause input a ask) whole comes written held = absurd (shows_other form (Some (top_form (words_of ask))) word shows refl comes.asks)
     by (topped input a ask) whole comes written held = absurd (shows_other form (Some (top_form (words_of ask))) word shows refl comes.asks)
+    by (unfiled input) whole comes written held = absurd (shows_other form (Some file_form) word shows refl comes.asks)
+    by (filed input a) whole comes written held = absurd (shows_other form (Some file_form) word shows refl comes.asks)

@@ -1,12 +1,12 @@
 -- That a run ends with an exit status and a text exactly where something holds.
-use Rattle.std.specs.Prelude.{◌≡◌, ℕ, ◌+◌, true, ◌++◌, take, Option, Some}
+use Rattle.std.specs.Prelude.{◌≡◌, ℕ, ◌+◌, Bool, true, ◌++◌, take, Option, Some}
 use Rattle.vx_dtype.specs.Types.{Bytes}
 use Rattle.vx_io.specs.Ends.{Added}
 use Rattle.vx_scan.specs.Stores.{StoreSeen}
 use Rattle.vx_request.specs.Requests.{most_bytes}
 use Rattle.vx_query.specs.Refusals.{refusal_line}
 use Rattle.vx_query.specs.TopWords.{AskedTop}
-use Rattle.vx_query.specs.Running.{End, Form, IsTaken, IsRun, HasNoKey, reads_request, shown_word, text_form, top_form}
+use Rattle.vx_query.specs.Running.{End, Form, IsTaken, IsRun, HasNoKey, uses_expressions, shown_word, text_form, top_form}
 use Rattle.vx_query.specs.Causes.{HasRisen}
 
 -- a run whose sink tells what it wrote: this text
@@ -30,20 +30,21 @@ EndsWith told text o o' status = (status ≡ told) × Added o.bytes o'.bytes tex
 abbrev pub taken_of : Bytes → Bytes
 taken_of input = take (most_bytes + 1) input
 
--- Of arguments that read a request: a run that ends with this exit status and tells the line of this name took an input that has this cause; and where what
--- is taken of the input that a source tells has it, a run ends so that had memory, and in which no end counted a fault.
-pub record RequestsEndSo (told : ℕ) (name : Bytes) (Cause : Bytes → Type 0) : Type 0 where
-  pub only : (form : Option Form) (i i' o o' : End) (used : Option StoreSeen) → reads_request form ≡ true
+-- Of arguments of such forms, all of which read a request: a run that ends with this exit status and tells the line of this name took an input
+-- that has this cause; and where what is taken of the input that a source tells has it, a run ends so that had memory, and in which no end counted a fault.
+pub record RequestsEndSo (of_form : Option Form → Bool) (told : ℕ) (name : Bytes) (Cause : Bytes → Type 0) : Type 0 where
+  pub only : (form : Option Form) (i i' o o' : End) (used : Option StoreSeen) → of_form form ≡ true
       → Tells form i i' o o' used told (refusal_line name) → (input : Bytes) × IsTaken i i' input × Cause input
-  pub always : (form : Option Form) (i i' o o' : End) (used : Option StoreSeen) (status : ℕ) (input : Bytes) → reads_request form ≡ true
+  pub always : (form : Option Form) (i i' o o' : End) (used : Option StoreSeen) (status : ℕ) (input : Bytes) → of_form form ≡ true
       → i.bytes ≡ Some input → Cause (taken_of input) → RunsWell form i i' o o' used status → ¬ (HasRisen i i')
       → EndsWith told (refusal_line name) o o' status
 
--- the same of a cause that comes behind the key, where the arguments ask one: it is told where the key isn't refused, and a run ends so where that is so
+-- the same of arguments that use expressions, of a cause that comes behind the key, where they ask one: it is told where the key isn't refused, and a run
+-- ends so where that is so
 pub record ExpressionsEndSo (told : ℕ) (name : Bytes) (Cause : Bytes → Type 0) : Type 0 where
-  pub only : (form : Option Form) (i i' o o' : End) (used : Option StoreSeen) → reads_request form ≡ true
+  pub only : (form : Option Form) (i i' o o' : End) (used : Option StoreSeen) → uses_expressions form ≡ true
       → Tells form i i' o o' used told (refusal_line name) → (input : Bytes) × IsTaken i i' input × Cause input × (¬ (HasNoKey form input))
-  pub always : (form : Option Form) (i i' o o' : End) (used : Option StoreSeen) (status : ℕ) (input : Bytes) → reads_request form ≡ true
+  pub always : (form : Option Form) (i i' o o' : End) (used : Option StoreSeen) (status : ℕ) (input : Bytes) → uses_expressions form ≡ true
       → i.bytes ≡ Some input → Cause (taken_of input) → ¬ (HasNoKey form (taken_of input)) → RunsWell form i i' o o' used status → ¬ (HasRisen i i')
       → EndsWith told (refusal_line name) o o' status
 

@@ -7,7 +7,7 @@ use Rattle.vx_request.specs.Requests.{RequestedScan, hex_bytes}
 use Rattle.vx_request.specs.declared.errors.RequestError.{RequestError}
 use Rattle.vx_laws_topk.specs.TopRows.{TopAsk}
 use Rattle.vx_query.specs.TopWords.{KeyRefusal}
-use Rattle.vx_query.specs.Running.{HoldsScan, HoldsRefused, HoldsNoKey, HoldsTop, words_of, WordSpells, WordIsRefused, Names, HasBytes}
+use Rattle.vx_query.specs.Running.{HoldsScan, HoldsRefused, HoldsNoKey, HoldsTop, words_of, HoldsFile, HoldsLongTable, WordSpells, WordIsRefused, Names, HasBytes}
 use Rattle.vx_query.specs.ExpressionCauses.{HoldsBadText}
 use Rattle.vx_query.specs.RequestCauses.{IsNoRequest}
 use Rattle.vx_query.specs.Causes.{HasNoBytes}
@@ -41,6 +41,13 @@ pub record KeysMeanOne : Type 0 where
   pub none_refused_searched : (input : Bytes) (r : KeyRefusal) (a : RequestedScan) (ask : TopAsk) → HoldsNoKey r ask.key input → ¬ (HoldsTop input a ask)
   pub no_request_refused : (key input : Bytes) (e : RequestError) (r : KeyRefusal) → IsNoRequest e input → ¬ (HoldsNoKey r key input)
   pub no_text_refused : (key input : Bytes) (e : ScanError) (r : KeyRefusal) → HoldsBadText e input → ¬ (HoldsNoKey r key input)
+
+-- the table of an input has one block file or is too long for one, and not both; and neither is so of an input that is no request
+pub record TablesMeanOne : Type 0 where
+  pub one_table : (input : Bytes) (a b : RequestedScan) → HoldsFile input a → HoldsFile input b → a ≡ b
+  pub none_long_filed : (input : Bytes) (a : RequestedScan) → HoldsLongTable input → ¬ (HoldsFile input a)
+  pub no_request_filed : (input : Bytes) (e : RequestError) (a : RequestedScan) → IsNoRequest e input → ¬ (HoldsFile input a)
+  pub no_request_long : (input : Bytes) (e : RequestError) → IsNoRequest e input → ¬ (HoldsLongTable input)
 
 -- a word is no hexadecimal text, is refused for one reason, or spells one expression; and only one of the three
 pub record WordsMeanOne : Type 0 where

@@ -18,3 +18,4 @@ pub mod Exclusions
 pub mod WireLaws
 pub mod GeneratedCauses
 pub mod TopCauses
+pub mod FileCauses

@@ -1,7 +1,10 @@
 -- For the checker: no public clause cites this. The exit statuses and lines of refusals.
-use Rattle.std.specs.Prelude.{◌≡◌, ℕ, codes, None, Err}
+use Rattle.std.specs.Prelude.{◌≡◌, ℕ, codes, List, None, Err}
 use Rattle.vx_dtype.specs.Types.{Bytes}
 use Rattle.vx_expr.specs.Trees.{Tree}
+use Rattle.vx_column.specs.Columns.{Column}
+use Rattle.vx_semantics.specs.Tables.{Zones}
+use Rattle.vx_laws_file.specs.Lengths.{IsShortTable}
 use Rattle.vx_scan.specs.ErrorKinds.{ErrorKind, of_memory, kind_of}
 use Rattle.vx_scan.specs.declared.errors.ScanError.{ScanError}
 use Rattle.vx_request.specs.Requests.{RequestedScan, request_of, hex_bytes}
@@ -14,10 +17,10 @@ use Rattle.vx_text.specs.declared.errors.TextError.{TextError}
 use Rattle.vx_text.specs.declared.errors.TextError.TheVariants as texts
 use Rattle.vx_query.specs.Refusals.{request_refusal_name, scan_refusal_name, text_refusal_name, key_refusal_name, refusal_line}
 use Rattle.vx_query.specs.TopWords.{unknown_key, bad_key}
-use Rattle.vx_query.specs.Running.{HoldsRefused, IsScanRefused, WordIsRefused, Names, IsShallow, IsOverlong}
+use Rattle.vx_query.specs.Running.{HoldsRefused, HoldsLongTable, IsScanRefused, WordIsRefused, Names, IsShallow, IsOverlong}
 use Rattle.vx_query.specs.declared.refusals.Refusal.{Refusal}
 use Rattle.vx_query.specs.declared.refusals.Refusal.TheVariants.{NoMemory, ReadFault, InputTooLong, BadJson, BadRequest, BadHex, BadTable, BadHexText, Scan}
-use Rattle.vx_query.specs.declared.refusals.Refusal.TheVariants.{Query, NotSerializable, LongPart, UnknownKey, BadKey}
+use Rattle.vx_query.specs.declared.refusals.Refusal.TheVariants.{Query, NotSerializable, LongPart, UnknownKey, BadKey, LongTable}
 
 -- the exit status of a refusal
 abbrev pub refusal_status : Refusal → ℕ
@@ -47,6 +50,7 @@ refusal_name NotSerializable = codes "NotSerializable"
 refusal_name LongPart = codes "TooLong"
 refusal_name UnknownKey = key_refusal_name unknown_key
 refusal_name BadKey = key_refusal_name bad_key
+refusal_name LongTable = codes "TooLong"
 
 -- the line of a refusal
 abbrev pub refusal_text : Refusal → Bytes
@@ -82,6 +86,19 @@ IsUnanswered input NotSerializable = ⊥
 IsUnanswered input LongPart = ⊥
 IsUnanswered input UnknownKey = ⊥
 IsUnanswered input BadKey = ⊥
+IsUnanswered input LongTable = ⊥
+
+-- an input whose table's block file is asked is answered by this refusal: a table that is too long for it, else as any input, whose expressions aren't used
+abbrev pub IsFileUnanswered : Bytes → Refusal → Type 0
+IsFileUnanswered input (Scan e) = ⊥
+IsFileUnanswered input LongTable = HoldsLongTable input
+IsFileUnanswered input r = IsUnanswered input r
+
+-- a table has no file, for this reason: want of memory at any time, else it is too long
+abbrev pub IsWithoutFile : Zones → List (List Column) → Refusal → Type 0
+IsWithoutFile zones blocks NoMemory = Unit {0}
+IsWithoutFile zones blocks LongTable = ¬ (IsShortTable zones blocks)
+IsWithoutFile zones blocks _ = ⊥
 
 -- a scan is answered by this refusal: want of memory at any time, else why its expressions are refused
 abbrev pub IsUnscanned : RequestedScan → Refusal → Type 0

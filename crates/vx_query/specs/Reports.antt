@@ -1,6 +1,7 @@
--- The text of a report.
+-- The text of a report, and bytes in a line.
 use Rattle.std.specs.Prelude.{ℕ, List, ◌++◌, length, map, codes, decimal}
 use Rattle.std.specs.List.{flat_map}
+use Rattle.hex.specs.Hex.{encode_lower}
 use Rattle.vx_dtype.specs.Texts.{quoted_text}
 use Rattle.vx_dtype.specs.Types.{Bytes}
 use Rattle.vx_display.specs.Spaced.{spaced}
@@ -8,6 +9,10 @@ use Rattle.vx_display.specs.Spaced.{spaced}
 -- a text as a line
 abbrev pub line : Bytes → Bytes
 line text = text ++ codes "\n"
+
+-- bytes as a line: two hexadecimal digits for each
+abbrev pub hex_line : Bytes → Bytes
+hex_line bytes = line (encode_lower bytes)
 
 -- the report of the texts of rows, the numbers of the blocks that were skipped, the names of the columns that were read, and the number of reads
 abbrev pub report_text : List Bytes → List ℕ → List Bytes → ℕ → Bytes

@@ -9,7 +9,7 @@ use Rattle.vx_query.specs.declared.forms.Statistics.{Statistics}
 use Rattle.vx_query.specs.declared.forms.Statistics.TheVariants.{Given, Built}
 use Rattle.vx_query.specs.declared.forms.Top.{Top as AskedRows}
 use Rattle.vx_query.specs.declared.forms.Form.{Form}
-use Rattle.vx_query.specs.declared.forms.Form.TheVariants.{Scan, Explain, Show, Text, Generated, Top, Help, Version}
+use Rattle.vx_query.specs.declared.forms.Form.TheVariants.{Scan, Explain, Show, Text, Generated, Top, File, Help, Version}
 use Rattle.vx_query.specs.TopWords.{AskedTop}
 
 -- how an expression is shown, as a value of the code says
@@ -35,6 +35,7 @@ form_view (Show showing hex) = running.show_form (showing_view showing) hex.now
 form_view (Text query) = running.text_form query.now
 form_view (Generated rows) = running.gen_form rows
 form_view (Top top) = running.top_form (top_view top)
+form_view File = running.file_form
 form_view Help = running.help_form
 form_view Version = running.version_form
 

@@ -8,7 +8,6 @@ use Rattle.vx_expr.specs.Trees.{Tree}
 use Rattle.vx_semantics.specs.Breaks.{Cause}
 use Rattle.vx_semantics.specs.Tables.{Table, row_type}
 use Rattle.vx_semantics.specs.Scans.{kept_rows_of, skipped_blocks, reads_of, reads_to_break, read_columns, Phase, phases_of, some_phase_breaks, first_breaks_by}
-use Rattle.hex.specs.Hex.{encode_lower}
 use Rattle.vx_wire_bytes.specs.Wires.{HasShortParts}
 use Rattle.vx_wire.specs.Encodings.{is_default_kind}
 use Rattle.vx_wire.specs.Forms.{wire_of, wire_text, Everywhere}
@@ -28,13 +27,15 @@ use Rattle.vx_scan.specs.declared.errors.Side.TheVariants.{Text}
 use Rattle.vx_scan.specs.declared.errors.ScanError.{ScanError}
 use Rattle.vx_io.specs.Ends.{TookPart, TookUpTo, Added, AddedPrefix}
 use Rattle.vx_laws_generated.specs.GeneratedLine.{gen_line}
+use Rattle.vx_laws_file.specs.FileForms.{file_bytes}
+use Rattle.vx_laws_file.specs.Lengths.{IsShortTable, HasFile}
 use Rattle.vx_laws_stats.specs.BuiltStatistics.{built_zones}
 use Rattle.vx_laws_topk.specs.TopRows.{TopAsk, top_rows_of, top_skipped}
 use Rattle.vx_laws_topk.specs.TopPhases.{top_reads, top_reads_to_break, some_top_phase_breaks, first_top_breaks_by}
 use Rattle.vx_generated.specs.GeneratedBlocks.{generated_store}
 use Rattle.vx_query.specs.GeneratedWords.{rows_of_word}
 use Rattle.vx_query.specs.TopWords.{AskedTop, KeyRefusal, IsNoKey, count_of_word}
-use Rattle.vx_query.specs.Reports.{report_text}
+use Rattle.vx_query.specs.Reports.{report_text, hex_line}
 use Rattle.vx_request.specs.Requests.{RequestedScan, request_of, most_bytes, hex_bytes}
 use Rattle.vx_request.specs.declared.errors.RequestError.{RequestError}
 use Rattle.vx_query.specs.Refusals.{request_refusal_name, scan_refusal_name, text_refusal_name, key_refusal_name, break_name, refusal_line}
@@ -64,6 +65,7 @@ pub data Form : Type 0 where
   text_form : Bytes → Form
   gen_form : ℕ → Form
   top_form : AskedTop → Form
+  file_form : Form
   help_form : Form
   version_form : Form
 
@@ -72,8 +74,9 @@ abbrev pub form_named : Bytes → Option Form
 form_named argument =
     cond (bytes_eq argument (codes "scan")) (Some (scan_form given))
     (cond (bytes_eq argument (codes "explain")) (Some explain_form)
+    (cond (bytes_eq argument (codes "file")) (Some file_form)
     (cond (bytes_eq argument (codes "--help")) (Some help_form)
-    (cond (bytes_eq argument (codes "--version")) (Some version_form) None)))
+    (cond (bytes_eq argument (codes "--version")) (Some version_form) None))))
 
 -- the form that asks the first so many rows by this key
 abbrev pub top_of : Bytes → Bool → ℕ → Form
@@ -105,7 +108,20 @@ abbrev pub reads_request : Option Form → Bool
 reads_request (Some (scan_form s)) = true
 reads_request (Some explain_form) = true
 reads_request (Some (top_form top)) = true
+reads_request (Some file_form) = true
 reads_request _ = false
+
+-- whether they use the expressions of the request that they read, and not its table alone
+abbrev pub uses_expressions : Option Form → Bool
+uses_expressions (Some (scan_form s)) = true
+uses_expressions (Some explain_form) = true
+uses_expressions (Some (top_form top)) = true
+uses_expressions _ = false
+
+-- whether they ask the block file of a request's table
+abbrev pub asks_file : Option Form → Bool
+asks_file (Some file_form) = true
+asks_file _ = false
 
 -- the statistics of a scan of a request, where the arguments have that form
 abbrev pub asked_statistics : Option Form → Option Statistics
@@ -243,6 +259,22 @@ pub record HoldsTop (input : Bytes) (a : RequestedScan) (ask : TopAsk) : Type 0 
   pub column : field_type ask.key a.zones.columns ≡ Some ask.key_type
   pub plain : is_plain ask.key_type ≡ true
 
+-- an input that holds a scan whose table has a block file
+pub record HoldsFile (input : Bytes) (a : RequestedScan) : Type 0 where
+  pub asked : request_of input ≡ Ok a
+  pub has_file : HasFile a.zones a.blocks
+
+-- an input that holds a scan whose table is too long for a block file: a text, a list, the range of a column or the header has 2 ^ 32 or more, or the
+-- blocks have more rows together than a file may have
+pub record HoldsLongTable (input : Bytes) : Type 0 where
+  pub asked : RequestedScan
+  pub held : request_of input ≡ Ok asked
+  pub long : ¬ (IsShortTable asked.zones asked.blocks)
+
+-- the line of the block file of a scan's table: two hexadecimal digits for each byte
+abbrev pub file_line : RequestedScan → Bytes
+file_line a = hex_line (file_bytes a.zones a.blocks)
+
 -- a word of hexadecimal digits, two for each byte, whose bytes spell this expression
 pub record WordSpells (word : Bytes) (e : Tree) : Type 0 where
   pub bytes : Bytes
@@ -280,7 +312,7 @@ HasLongPart query = (e : Tree) × Names query e × IsShallow e × IsOverlong e
 
 -- the line of an expression's bytes: two hexadecimal digits for each
 abbrev pub bytes_line : Tree → Bytes
-bytes_line e = encode_lower (wire_text e) ++ codes "\n"
+bytes_line e = hex_line (wire_text e)
 
 -- the phases of the scan of a filter and a projection
 abbrev pub scan_phases : RequestedScan → Tree → Tree → List Phase
@@ -297,8 +329,9 @@ scan_breaks_by cause a f p = first_breaks_by cause (row_type a.zones.columns) []
 -- expressions are refused, one whose scan by some statistics breaks by a sum or a cast, one that is answered by the report of its scan by some statistics
 -- and one by an explanation; a word to be shown that is no hexadecimal text, one whose bytes spell no expression, and one that is shown; a query that names
 -- no expression, one of whose expression there are no bytes, for a type that is too deep or a part that is too long, and one of whose expression the bytes
--- are written; a generated table of so many rows that is scanned; and of those that ask first rows, one of whose table the key is refused, one that breaks
--- where they are searched, and one that is answered by their report
+-- are written; a generated table of so many rows that is scanned; of those that ask first rows, one of whose table the key is refused, one that breaks
+-- where they are searched, and one that is answered by their report; and of those that ask a block file, one whose table is too long for it, and one whose
+-- table's file is written
 pub data Outcome : Type 0 where
   misused : Outcome
   helped : Outcome
@@ -321,6 +354,8 @@ pub data Outcome : Type 0 where
   unkeyed : AskedTop → Bytes → KeyRefusal → Outcome
   top_broken : Cause → Bytes → RequestedScan → TopAsk → Outcome
   topped : Bytes → RequestedScan → TopAsk → Outcome
+  unfiled : Bytes → Outcome
+  filed : Bytes → RequestedScan → Outcome
 
 -- the input was taken to its end, or to one byte more than the most, and no read failed; that many bytes are no request
 pub record IsTaken (before after : End) (input : Bytes) : Type 0 where
@@ -368,7 +403,7 @@ IsOutcome form before after out_of_memory = IsCutShort form before after
 IsOutcome form before after unread = FailsToRead form before after
 IsOutcome form before after (refused input e) = TakesInput (reads_request form ≡ true) before after input (request_of input ≡ Err e)
 IsOutcome form before after (unscanned input e) =
-    TakesInput (reads_request form ≡ true) before after input (HoldsRefused input e × (¬ (HasNoKey form input)))
+    TakesInput (uses_expressions form ≡ true) before after input (HoldsRefused input e × (¬ (HasNoKey form input)))
 IsOutcome form before after (broken s cause input a f p) =
     TakesInput (form ≡ Some (scan_form s)) before after input (HoldsScan input a f p × (scan_breaks_by cause (scan_by s a) f p ≡ true))
 IsOutcome form before after (answered s input a f p) =
@@ -388,6 +423,8 @@ IsOutcome form before after (top_broken cause input a ask) =
     TakesInput (form ≡ Some (top_form (words_of ask))) before after input (HoldsTop input a ask × (top_breaks_by cause a ask ≡ true))
 IsOutcome form before after (topped input a ask) =
     TakesInput (form ≡ Some (top_form (words_of ask))) before after input (HoldsTop input a ask × (top_breaks a ask ≡ false))
+IsOutcome form before after (unfiled input) = TakesInput (form ≡ Some file_form) before after input (HoldsLongTable input)
+IsOutcome form before after (filed input a) = TakesInput (form ≡ Some file_form) before after input (HoldsFile input a)
 
 -- the text of `--version`
 abbrev pub version_text : Bytes
@@ -405,10 +442,11 @@ help_text =
     ++ (codes "vx text QUERY          prints the bytes of the expression that a query names, as in: vx text 'x > 10i32'\n"
     ++ (codes "vx gen ROWS            prints what the scan of a generated table of so many rows gives, as in: vx gen 200\n"
     ++ (codes "vx top asc KEY K < REQ prints the first K rows by a column (desc: greatest first), as in: vx top desc price 2 < examples/catalog.json\n"
+    ++ (codes "vx file < REQUEST      prints the table as a block file, two hexadecimal digits for each byte, as in: vx file < examples/file.json\n"
     ++ (codes "vx --help              prints this text\n"
     ++ (codes "vx --version           prints the version\n"
-    ++ (codes "exit status: 0 written whole, 2 wrong arguments, 3 no request or no hex, 4 refused expressions or query, 5 overflow or bad cast,\n"
-    ++ (codes "6 input not read, 7 output not written, 8 no memory\n"))))))))))))
+    ++ (codes "exit status: 0 written whole, 2 wrong arguments, 3 no request, no hex or too long a table, 4 refused expressions or query,\n"
+    ++ (codes "5 overflow or bad cast, 6 input not read, 7 output not written, 8 no memory\n")))))))))))))
 
 -- the exit status of an outcome
 abbrev pub status_of : Outcome → ℕ
@@ -433,6 +471,8 @@ status_of (summed rows) = 0
 status_of (unkeyed top input refusal) = 4
 status_of (top_broken cause input a ask) = 5
 status_of (topped input a ask) = 0
+status_of (unfiled input) = 3
+status_of (filed input a) = 0
 
 -- the text that an outcome writes
 abbrev pub outcome_text : Outcome → Bytes
@@ -457,6 +497,8 @@ outcome_text (summed rows) = gen_line rows
 outcome_text (unkeyed top input refusal) = refusal_line (key_refusal_name refusal)
 outcome_text (top_broken cause input a ask) = refusal_line (break_name cause)
 outcome_text (topped input a ask) = top_report a ask
+outcome_text (unfiled input) = refusal_line (codes "TooLong")
+outcome_text (filed input a) = file_line a
 
 -- the store that is held after an outcome: the one that was scanned, where a report or the line of a generated table was made, or a phase broke
 abbrev pub used_by : Outcome → Option StoreSeen

@@ -7,8 +7,9 @@ use Rattle.vx_dtype.specs.Types.{Bytes}
 use Rattle.vx_expr.specs.Trees.{Tree}
 use Rattle.vx_explain.specs.Explanations.{explain_text}
 use Rattle.vx_request.specs.Requests.{RequestedScan}
-use Rattle.vx_query.specs.Running.{End, Form, HoldsScan, WordSpells, Names, HasBytes, bytes_line, Outcome, IsOutcome, status_of, outcome_text, used_by}
-use Rattle.vx_query.specs.RefusalViews.{refusal_status, refusal_text, IsUnanswered, IsWordUnshown, IsQueryRefused}
+use Rattle.vx_query.specs.Running.{End, Form, HoldsScan, HoldsFile, file_line, WordSpells, Names, HasBytes, bytes_line}
+use Rattle.vx_query.specs.Running.{Outcome, IsOutcome, status_of, outcome_text, used_by}
+use Rattle.vx_query.specs.RefusalViews.{refusal_status, refusal_text, IsUnanswered, IsFileUnanswered, IsWordUnshown, IsQueryRefused}
 use Rattle.vx_query.specs.declared.refusals.Refusal.{Refusal}
 
 -- the exit status of an answer, and the text that is written
@@ -42,6 +43,11 @@ ShowsWord told word (Err r) = IsWordUnshown word r
 abbrev pub AnswersQuery : Bytes → Result (String Global) Refusal → Type 0
 AnswersQuery query (Ok text) = (e : Tree) × Names query e × HasBytes e × (string_bytes text ≡ bytes_line e)
 AnswersQuery query (Err r) = IsQueryRefused query r
+
+-- an input is answered by the block file of its table, or is refused
+abbrev pub FilesInput : Bytes → Result (String Global) Refusal → Type 0
+FilesInput input (Ok text) = (a : RequestedScan) × HoldsFile input a × (string_bytes text ≡ file_line a)
+FilesInput input (Err r) = IsFileUnanswered input r
 
 -- an outcome that an answer stands for; no store is held
 pub record IsAnsweredBy (form : Option Form) (before after : End) (answer : Result (String Global) Refusal) : Type 0 where

@@ -16,16 +16,17 @@ ghost use Rattle.vx_query.specs.Refusals.{refusal_line, break_name};
 ghost use Rattle.vx_query.specs.WireLaws.{WireLaws};
 ghost use Rattle.vx_query.specs.Running.{End, Form, IsRun, asked_top, reads_request, scan_by, scan_table, scan_report, scanned_store, broken_store, bytes_line};
 ghost use Rattle.vx_query.specs.Running.{Showing, Statistics, given, scan_form, explain_form, show_form, text_form, gen_form};
-ghost use Rattle.vx_query.specs.Running.{shown_text, WordSpells, Names, HasBytes};
+ghost use Rattle.vx_query.specs.Running.{shown_text, uses_expressions, WordSpells, Names, HasBytes};
 
 use vx_laws_scan::{kept_numbers_are_kept_blocks, kept_rows_are_all};
 use vx_wire::{one_expression, one_tree};
 
 /// 3 and 4 of `scan`, `scan built` and `explain` mean that the input was taken and that the line of its one cause was written: it is no
 /// request; the expressions of its scan are refused. No store is held then. Which refusal a line tells is said by the laws of
-/// `refusal_causes`. 3 of `top` means the same; what 4 of it means is said by `refused_searches_have_their_causes`.
+/// `refusal_causes`. 3 of `top` means the same; what 4 of it means is said by `refused_searches_have_their_causes`, and what 3 of `file`
+/// does by `refused_files_have_their_causes`.
 pub fn statuses_have_their_causes()
-    ensures refused { (form : Option Form) (i i' o o' : End) (used : Option StoreSeen) → reads_request form ≡ true → IsRun form i i' o o' used 3
+    ensures refused { (form : Option Form) (i i' o o' : End) (used : Option StoreSeen) → uses_expressions form ≡ true → IsRun form i i' o o' used 3
         → IsUnasked i i' o o' used }
     ensures unscanned { (form : Option Form) (i i' o o' : End) (used : Option StoreSeen) → reads_request form ≡ true → asked_top form ≡ None
         → IsRun form i i' o o' used 4 → IsUnscanned i i' o o' used }

@@ -51,6 +51,8 @@ pub(crate) enum Form<'a> {
     Generated(u32),
     /// Finds the first rows of a request's table by a key.
     Top(Top<'a>),
+    /// Writes a request's table as a block file.
+    File,
     /// Tells the forms.
     Help,
     /// Tells the version.
@@ -64,6 +66,7 @@ pub(crate) fn form_of(arguments: &[String]) -> Option<Form<'_>>
     match arguments {
         [argument] if argument.as_str() == "scan" => Some(Form::Scan(Statistics::Given)),
         [argument] if argument.as_str() == "explain" => Some(Form::Explain),
+        [argument] if argument.as_str() == "file" => Some(Form::File),
         [argument] if argument.as_str() == "--help" => Some(Form::Help),
         [argument] if argument.as_str() == "--version" => Some(Form::Version),
         [first, second] if first.as_str() == "scan" && second.as_str() == "built" => {

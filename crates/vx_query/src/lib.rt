@@ -1,5 +1,5 @@
-//! The program as a call over two ends: the scan that an input holds, its report, its explanation and its first rows, expressions that are shown, queries,
-//! and refusals.
+//! The program as a call over two ends: the scan that an input holds, its report, its explanation and its first rows, the block file of its table,
+//! expressions that are shown, queries, and refusals.
 #![tactic(auto)]
 
 mod answers;
@@ -8,6 +8,8 @@ mod built_causes;
 mod causes;
 mod endings;
 mod exclusions;
+mod file_causes;
+mod files;
 mod form_causes;
 mod forms;
 mod generated_causes;
@@ -31,6 +33,9 @@ pub use causes::{
     want_of_memory_is_told, write_faults_are_counted,
 };
 pub use exclusions::causes_exclude_one_another;
+pub use file_causes::{
+    files_are_of_the_request, long_tables_are_refused_exactly, refused_files_have_their_causes,
+};
 pub use form_causes::{
     explanations_are_of_the_request, help_and_version_are_told, refused_words_have_their_causes,
     scans_alone_break_and_hold, shown_texts_are_spelled, usage_exactly,

@@ -1,7 +1,5 @@
 // The bytes of the expression that a query names.
-ghost use Rattle.std.specs.Prelude.{◌≡◌, ◌++◌, codes, IfOk, IfErr};
-ghost use Rattle.std.specs.String.{string_bytes};
-ghost use Rattle.hex.specs.Hex.{encode_lower};
+ghost use Rattle.std.specs.Prelude.{◌≡◌, IfOk, IfErr};
 ghost use Rattle.vx_wire.specs.Forms.{wire_of, wire_text, Everywhere};
 ghost use Rattle.vx_wire.specs.Metadata.{HasShortMetadata};
 ghost use Rattle.vx_wire_bytes.specs.WireViews.{tree_view};
@@ -10,8 +8,8 @@ ghost use Rattle.vx_query.specs.Running.{IsShallow, HasBytes};
 ghost use Rattle.vx_query.specs.TextViews.{AnswersQuery};
 
 use crate::refusals::Refusal;
+use crate::reports::hex_line;
 use std::alloc::Global;
-use vx_dtype::Mem;
 use vx_expr::ExprRef;
 use vx_text::read_query;
 use vx_wire::ExprSerializeProtoExt;
@@ -62,13 +60,4 @@ fn tree_bytes(alloc: Global, expr: &ExprRef, tree: &WireTree) -> Result<Vec<u8>,
         Err(WireError::TooDeep) => unreachable!(),
         Err(WireError::TooManyNodes) => unreachable!(),
     }
-}
-
-/// The line of bytes: two hexadecimal digits for each.
-fn hex_line(alloc: Global, bytes: &[u8]) -> Mem<String>
-    ensures { IfOk result (λ line. string_bytes line ≡ encode_lower bytes.now ++ codes "\n") }
-{
-    let mut line = hex::encode(alloc, bytes)?;
-    line.push_str("\n")?;
-    Ok(line)
 }

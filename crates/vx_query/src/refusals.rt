@@ -11,7 +11,7 @@ use vx_request::{Place, RequestError, Side, TableRefusal};
 use vx_scan::{ScanError, Side as ScannedSide};
 use vx_text::TextError;
 
-/// Why an input has no report, no first rows or no explanation, a word is not shown, or a query has no bytes.
+/// Why an input has no report, no first rows, no explanation or no block file, a word is not shown, or a query has no bytes.
 #[derive(PartialEq, Eq, Debug, Drop)]
 pub(crate) enum Refusal {
     /// There was no memory.
@@ -42,6 +42,8 @@ pub(crate) enum Refusal {
     UnknownKey,
     /// The type of the column of this name isn't plain: it is a list or a struct.
     BadKey,
+    /// The request's table is too long for a block file.
+    LongTable,
 }
 
 impl Refusal {
@@ -57,7 +59,8 @@ impl Refusal {
             | Refusal::BadRequest(_)
             | Refusal::BadHex(_)
             | Refusal::BadTable(_)
-            | Refusal::BadHexText => NO_REQUEST,
+            | Refusal::BadHexText
+            | Refusal::LongTable => NO_REQUEST,
             Refusal::Scan(_)
             | Refusal::Query(_)
             | Refusal::NotSerializable
@@ -87,6 +90,7 @@ impl Refusal {
             Refusal::LongPart => "error: TooLong\n",
             Refusal::UnknownKey => "error: UnknownKey\n",
             Refusal::BadKey => "error: BadKey\n",
+            Refusal::LongTable => "error: TooLong\n",
         }
     }
 }

@@ -1,9 +1,9 @@
-// The text of a report.
+// The text of a report, and bytes in a line.
 ghost use Rattle.std.specs.Prelude.{◌≡◌, decimal, map, IfOk};
 ghost use Rattle.std.specs.List.{flat_map};
 ghost use Rattle.std.specs.String.{string_bytes};
 ghost use Rattle.vx_dtype.specs.Texts.{quoted_text};
-ghost use Rattle.vx_query.specs.Reports.{line, report_text};
+ghost use Rattle.vx_query.specs.Reports.{hex_line, line, report_text};
 
 use std::alloc::Global;
 use vx_display::spaced;
@@ -48,6 +48,15 @@ fn quoted_names(alloc: Global, names: &[FieldName]) -> Mem<Vec<String>>
         texts.push(format!(in alloc; "{}", Quoted(name.as_str()))?)?;
     }
     Ok(texts)
+}
+
+/// The line of bytes: two hexadecimal digits for each.
+pub(crate) fn hex_line(alloc: Global, bytes: &[u8]) -> Mem<String>
+    ensures { IfOk result (λ line. string_bytes line ≡ hex_line bytes.now) }
+{
+    let mut line = hex::encode(alloc, bytes)?;
+    line.push_str("\n")?;
+    Ok(line)
 }
 
 /// The report of a scan in lines, each ended by a line feed: the number of rows and the text of each, the numbers of

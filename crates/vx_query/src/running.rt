@@ -2,7 +2,7 @@
 ghost use Rattle.std.specs.Prelude.{◌≡◌, map, option_map, Some, None, IfOk, IfErr, IsErr};
 ghost use Rattle.std.specs.String.{string_bytes};
 ghost use Rattle.vx_query.specs.Running.{End, Outcome, Writing, IsOutcome, IsRun, IsWriting, end_by, form_of};
-ghost use Rattle.vx_query.specs.Running.{explain_form, gen_form, scan_form, top_form, status_of, outcome_text, used_by};
+ghost use Rattle.vx_query.specs.Running.{explain_form, file_form, gen_form, scan_form, top_form, status_of, outcome_text, used_by};
 ghost use Rattle.vx_scan.specs.StoreViews.{store_seen};
 ghost use Rattle.vx_query.specs.EndingViews.{ending_status, ending_text};
 ghost use Rattle.vx_query.specs.RunViews.{statistics_view, top_view};
@@ -11,6 +11,7 @@ ghost use Rattle.vx_query.specs.TextViews.{IsAnsweredBy, answer_status, answer_t
 
 use crate::answers::answer;
 use crate::endings::Ending;
+use crate::files::file_line;
 use crate::forms::{Form, Statistics, Top, form_of};
 use crate::queries::query_bytes;
 use crate::refusals::Refusal;
@@ -36,10 +37,11 @@ const HELP: &str = concat!(
     "vx text QUERY          prints the bytes of the expression that a query names, as in: vx text 'x > 10i32'\n",
     "vx gen ROWS            prints what the scan of a generated table of so many rows gives, as in: vx gen 200\n",
     "vx top asc KEY K < REQ prints the first K rows by a column (desc: greatest first), as in: vx top desc price 2 < examples/catalog.json\n",
+    "vx file < REQUEST      prints the table as a block file, two hexadecimal digits for each byte, as in: vx file < examples/file.json\n",
     "vx --help              prints this text\n",
     "vx --version           prints the version\n",
-    "exit status: 0 written whole, 2 wrong arguments, 3 no request or no hex, 4 refused expressions or query, 5 overflow or bad cast,\n",
-    "6 input not read, 7 output not written, 8 no memory\n",
+    "exit status: 0 written whole, 2 wrong arguments, 3 no request, no hex or too long a table, 4 refused expressions or query,\n",
+    "5 overflow or bad cast, 6 input not read, 7 output not written, 8 no memory\n",
 );
 
 const VERSION: &str = "vx 0.1.0\n";
@@ -59,11 +61,14 @@ const VERSION: &str = "vx 0.1.0\n";
 ///
 /// `top asc` with a column's name and a number of rows behind it, at most 1,048,576 in decimal digits, takes the input likewise and writes the report of
 /// so many rows of the scan: those with the least values of the column, the key, in its order, and rows of one key in the table's; with `top desc` those
-/// with the greatest. Null stands behind all other keys. Blocks that can't hold such a row behind those that were found are skipped too. The exit status is
+/// with the greatest. Null stands behind all other keys. Blocks that can't hold such a row behind those that were found are skipped too.
+///
+/// `file` takes the input likewise and writes the request's table, with the statistics that the request gives, as a block file, two hexadecimal digits for
+/// each byte. The request's two byte texts have to be hexadecimal, and aren't looked at further. The exit status is
 ///
 /// - 0 where the text was written whole;
 /// - 2 where the arguments have none of these forms;
-/// - 3 exactly where the input is no request, or the word to be shown is no hexadecimal text;
+/// - 3 exactly where the input is no request, the word to be shown is no hexadecimal text, or the table that is asked as a block file is too long for it;
 /// - 4 exactly where the request's byte texts spell no two expressions, where the key that is asked is no column of a
 ///   plain type, or where the expressions are not strictly typed for the request's table, the filter a boolean; where the
 ///   bytes to be shown spell no expression; or where the query names no expression, or one that has no bytes;
@@ -81,7 +86,8 @@ const VERSION: &str = "vx 0.1.0\n";
 /// TooManyNodes, UnknownExpr, BadMetadata and WrongChildren, each with `filter`, `projection` or `text`, NotStruct,
 /// NullableSelect, UnknownField, DuplicateField and TypeMismatch, each with `filter` or `projection`, and FilterNotBool;
 /// UnknownKey and BadKey; Overflow and BadCast. What is shown is refused with `text`. A query is refused with TooLong, BadToken, TooManyTokens,
-/// BadQuery or BadValue, and NotSerializable where a type deeper than 64 stands in it. The lines take no memory.
+/// BadQuery or BadValue, and NotSerializable where a type deeper than 64 stands in it; a table that is too long for a block file with TooLong. The lines take
+/// no memory.
 ///
 /// Afterwards `used` holds the store that was scanned where a report or the line of a generated table was made or a phase broke, also where the writing
 /// failed; its reads are those of the scan, up to and with those of the phase that broke, and its zones have the statistics by which
@@ -102,6 +108,7 @@ pub fn run<I: Source, O: Sink>(
         Some(Form::Help) => write(output, HELP, WRITTEN),
         Some(Form::Version) => write(output, VERSION, WRITTEN),
         Some(Form::Explain) => write_answer(output, &explain_input(alloc, input)),
+        Some(Form::File) => write_answer(output, &file_input(alloc, input)),
         Some(Form::Show(showing, hex)) => write_answer(output, &shown(alloc, showing, hex)),
         Some(Form::Text(query)) => write_answer(output, &query_bytes(alloc, query)),
         Some(Form::Generated(rows)) => write_generated(alloc, rows, output, used),
@@ -162,6 +169,14 @@ fn explain_input<I: Source>(alloc: Global, input: &mut I) -> Result<String, Refu
 {
     let bytes = read_up_to(alloc, MOST_BYTES + 1, input)?;
     explanation(alloc, bytes.as_slice())
+}
+
+/// Takes the input and writes the table that it holds as a block file, in a line.
+fn file_input<I: Source>(alloc: Global, input: &mut I) -> Result<String, Refusal>
+    ensures { let source = end_by I.left I.faults in IsAnsweredBy (Some file_form) (source input.old) (source input.new) result }
+{
+    let bytes = read_up_to(alloc, MOST_BYTES + 1, input)?;
+    file_line(alloc, bytes.as_slice())
 }
 
 /// Takes the input and scans what it holds by these statistics.

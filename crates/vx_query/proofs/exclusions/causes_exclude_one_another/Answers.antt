@@ -1,5 +1,6 @@
 use Rattle.vx_query.proofs.ExclusionLemmas.{inputs_mean_one, words_mean_one, queries_mean_one}
 use Rattle.vx_query.proofs.KeyLemmas.{keys_mean_one}
+use Rattle.vx_query.proofs.FileCauseLemmas.{tables_mean_one}
 use Rattle.vx_query.proofs.exclusions.causes_exclude_one_another.Goals as goal
 
 pub returns-clause-inputs : goal.returns-clause-inputs
@@ -13,3 +14,6 @@ returns-clause-queries c = queries_mean_one
 
 pub returns-clause-keys : goal.returns-clause-keys
 returns-clause-keys c = keys_mean_one c.wire_laws.ensures
+
+pub returns-clause-tables : goal.returns-clause-tables
+returns-clause-tables c = tables_mean_one c.files_are_short.ensures
