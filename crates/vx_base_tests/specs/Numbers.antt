@@ -80,7 +80,8 @@ pub most_le-highest : (ts : List NumberTree) → most (λ t. number_height t + 1
 most_le-highest [] = omega arith
 most_le-highest (t ∷ ts) = omega (arith, most_le-highest ts)
 
-lower_in : (ts : NumberTrees) (k : ℕ) (t : NumberTree) → k < length (list_of_trees ts) → slice_index_or (list_of_trees ts) k t ≡ t → number_height t < highest_tree ts + 1
+lower_in : (ts : NumberTrees) (k : ℕ) (t : NumberTree) → k < length (list_of_trees ts) → slice_index_or (list_of_trees ts) k t ≡ t
+    → number_height t < highest_tree ts + 1
 lower_in no_trees k t lt is = absurd (omega arith)
 lower_in (tree_before u ts) zero t lt is = let e : number_height u ≡ number_height t = ap number_height is in omega (arith, e)
 lower_in (tree_before u ts) (suc k) t lt is = omega (arith, lower_in ts k t (omega arith) is)

@@ -1,6 +1,7 @@
 // The numbers of the generated table, block by block.
 ghost use Rattle.std.specs.Prelude.{◌≡◌, ◌+◌, ◌/◌, ◌<◌, ◌^◌, IfOk};
-ghost use Rattle.vx_laws_generated.specs.GeneratedTable.{v_column, name_of, integer_of, nullability_of, number_at, numbers_in, block_length, least_of, greatest_of, bound_of};
+ghost use Rattle.vx_laws_generated.specs.GeneratedTable.{v_column, name_of, integer_of, nullability_of, number_at, numbers_in, block_length};
+ghost use Rattle.vx_laws_generated.specs.GeneratedTable.{least_of, greatest_of, bound_of};
 ghost use Rattle.vx_generated.specs.GeneratedViews.{column_view};
 
 use std::alloc::Global;

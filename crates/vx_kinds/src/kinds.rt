@@ -1,7 +1,8 @@
 // The fourteen kinds of expressions, each as a unit type.
 ghost use Rattle.std.specs.Prelude.{refl};
 ghost use Rattle.std.proofs.Common.{ap};
-ghost use Rattle.vx_expr.specs.Nodes.{between_tree, binary_tree, cast_tree, dynamic_tree, item_tree, is_null_tree, like_tree, contains_tree, literal_tree, merge_tree, not_tree, root_tree, select_tree};
+ghost use Rattle.vx_expr.specs.Nodes.{between_tree, binary_tree, cast_tree, dynamic_tree, item_tree, is_null_tree, like_tree, contains_tree};
+ghost use Rattle.vx_expr.specs.Nodes.{literal_tree, merge_tree, not_tree, root_tree, select_tree};
 ghost use Rattle.vx_expr.specs.Packed.{pack_tree};
 ghost use Rattle.vx_wire.specs.declared.encodings.ExprEncoding.TheVariants as encodings;
 

@@ -20,7 +20,8 @@ use Rattle.vx_semantics.specs.Slots.{slots_fit}
 use Rattle.vx_semantics.specs.Tables.{Zones, row_type}
 use Rattle.vx_semantics.specs.Pruning.{rules_out}
 use Rattle.vx_semantics.specs.Scans.{block_rows}
-use Rattle.vx_laws_topk.specs.TopRows.{Keyed, TopAsk, stands_before, in_key_order, top, bounded_filter, bound_slots, keyed, block_keyed, found_over, skipped_over}
+use Rattle.vx_laws_topk.specs.TopRows.{Keyed, TopAsk, stands_before, in_key_order, top, bounded_filter, bound_slots, keyed, block_keyed, found_over}
+use Rattle.vx_laws_topk.specs.TopRows.{skipped_over}
 use Rattle.vx_laws_topk.specs.TopLaws.{HaveKeys, has_no_slot}
 use Rattle.vx_laws_topk.specs.TopPhases.{keyed_projection, phases_over}
 

@@ -11,7 +11,8 @@ use Rattle.vx_semantics.specs.Honest.{IsHonest}
 use Rattle.vx_semantics.specs.Scans.{rows_of}
 use Rattle.vx_laws_scan.specs.Agreeing.{all_rows_fit}
 use Rattle.vx_laws_stats.specs.BuiltLaws.{AreOfType}
-use Rattle.vx_laws_topk.specs.TopRows.{Keyed, TopAsk, stands_before, in_key_order, top, first_rows, bound_before, values_of, all_keyed, top_rows_of, top_skipped}
+use Rattle.vx_laws_topk.specs.TopRows.{Keyed, TopAsk, stands_before, in_key_order, top, first_rows, bound_before, values_of, all_keyed, top_rows_of}
+use Rattle.vx_laws_topk.specs.TopRows.{top_skipped}
 
 -- the keys of rows
 abbrev pub keys_of : List Keyed → List Val

@@ -60,7 +60,8 @@ fn visit<F: AnnotationFn>(
     found: &mut NumberedAnnotations<F::Annotation>,
 ) -> Mem<usize>
     requires { IsSound found.old }
-    ensures entries { OnOk result (numbered_entries found.new ≡ annotated_from F.Annotation.eq (F.annotated annotate.now) expr.now (numbered_entries found.old)) }
+    ensures entries { OnOk result (numbered_entries found.new
+        ≡ annotated_from F.Annotation.eq (F.annotated annotate.now) expr.now (numbered_entries found.old)) }
     ensures extended { OnOk result (Extends found.old found.new) }
     ensures number { IfOk result (λ number. slice_get (known found.new.numbers) number ≡ Some expr.now) }
 {
@@ -147,7 +148,8 @@ fn visit_down<A: Annotation>(
 ) -> Mem<usize>
     requires sound { IsSound found.old }
     requires below { AreNumbersOf (known found.old.numbers) below.items (visited_below node.now.own.items node.now.expr.now) }
-    ensures entries { OnOk result (numbered_entries found.new ≡ annotated_down A.eq node.now.expr.now node.now.own.items (λ m. m) (numbered_entries found.old)) }
+    ensures entries { OnOk result (numbered_entries found.new
+        ≡ annotated_down A.eq node.now.expr.now node.now.own.items (λ m. m) (numbered_entries found.old)) }
     ensures extended { OnOk result (Extends found.old found.new) }
     ensures number { IfOk result (λ number. slice_get (known found.new.numbers) number ≡ Some node.now.expr.now) }
 {

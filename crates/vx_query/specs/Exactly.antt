@@ -65,6 +65,7 @@ pub record WordsEndSo (told : ℕ) (name : Bytes) (Cause : Bytes → Type 0) : T
 
 -- and of arguments that ask the bytes of a query, by the query
 pub record QueriesEndSo (told : ℕ) (name : Bytes) (Cause : Bytes → Type 0) : Type 0 where
-  pub only : (query : Bytes) (i i' o o' : End) (used : Option StoreSeen) → Tells (Some (text_form query)) i i' o o' used told (refusal_line name) → Cause query
-  pub always : (query : Bytes) (i i' o o' : End) (used : Option StoreSeen) (status : ℕ) → Cause query → RunsWell (Some (text_form query)) i i' o o' used status
-      → EndsWith told (refusal_line name) o o' status
+  pub only : (query : Bytes) (i i' o o' : End) (used : Option StoreSeen) → Tells (Some (text_form query)) i i' o o' used told (refusal_line name)
+      → Cause query
+  pub always : (query : Bytes) (i i' o o' : End) (used : Option StoreSeen) (status : ℕ) → Cause query
+      → RunsWell (Some (text_form query)) i i' o o' used status → EndsWith told (refusal_line name) o o' status

@@ -4,7 +4,8 @@ ghost use Rattle.serde_json.specs.Data.{Items};
 ghost use Rattle.serde_json.specs.Find.{as_str, as_array};
 ghost use Rattle.serde_json.specs.View.{view};
 ghost use Rattle.vx_dtype.specs.Types.{Bytes};
-ghost use Rattle.vx_request.specs.RequestMembers.{BlockText, StatText, columns_in, rows_in, block_in, rows_number, most_rows, blocks_in, stat_named, stat_in, stats_in};
+ghost use Rattle.vx_request.specs.RequestMembers.{BlockText, StatText, columns_in, rows_in, block_in, rows_number, most_rows, blocks_in, stat_named};
+ghost use Rattle.vx_request.specs.RequestMembers.{stat_in, stats_in};
 ghost use Rattle.vx_request.specs.RequestViews.{cells_view, block_view, name_view, stat_view};
 
 use crate::objects::{FromValue, has_float, list_read, three_members, two_members};

@@ -3,7 +3,8 @@ ghost use Rattle.std.specs.Prelude.{◌≡◌, map, option_map, IfOk};
 ghost use Rattle.serde_json.specs.View.{view};
 ghost use Rattle.vx_dtype.specs.TypeViews.{type_view};
 ghost use Rattle.vx_request.specs.Objects.{list_read};
-ghost use Rattle.vx_request.specs.WrittenTypes.{plain_named, type_named, plain_type_in, list_type_in, struct_type_in, named_type_in, type_within, named_fields, nullability_where};
+ghost use Rattle.vx_request.specs.WrittenTypes.{plain_named, type_named, plain_type_in, list_type_in, struct_type_in, named_type_in, type_within};
+ghost use Rattle.vx_request.specs.WrittenTypes.{named_fields, nullability_where};
 ghost use Rattle.vx_request.specs.RequestViews.{named_type_view};
 
 use crate::objects::two_members;

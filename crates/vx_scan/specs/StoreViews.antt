@@ -25,4 +25,11 @@ pub record StoreState : Type 0 where
 -- a store in memory as any store is seen: it tells the table of its columns, and counts no fault where no call is to fail
 abbrev pub store_seen : StoreState → StoreSeen
 store_seen s =
-    record { zones = s.zones; held = Some (table_of_blocks s.zones s.blocks); log = s.reads; faults = s.faults; failed = s.failed; faultless = is_nothing s.listed }
+    record {
+      zones = s.zones;
+      held = Some (table_of_blocks s.zones s.blocks);
+      log = s.reads;
+      faults = s.faults;
+      failed = s.failed;
+      faultless = is_nothing s.listed;
+    }

@@ -98,7 +98,8 @@ fn greater_truth(left: Option<bool>, right: Option<bool>) -> Option<bool>
 
 /// The lesser of two texts by their bytes; where one is null, the other.
 fn lesser_text<'a>(left: Option<&'a str>, right: Option<&'a str>) -> Option<&'a str>
-    ensures { text_or_null (option_copied result) ≡ first_by CompareOperator.Lte (text_or_null (option_copied left.entry)) (text_or_null (option_copied right.entry)) }
+    ensures { text_or_null (option_copied result)
+        ≡ first_by CompareOperator.Lte (text_or_null (option_copied left.entry)) (text_or_null (option_copied right.entry)) }
 {
     match (left, right) {
         (Some(a), Some(b)) => { if a <= b { Some(a) } else { Some(b) } }
@@ -109,7 +110,8 @@ fn lesser_text<'a>(left: Option<&'a str>, right: Option<&'a str>) -> Option<&'a 
 
 /// The greater of two texts by their bytes; where one is null, the other.
 fn greater_text<'a>(left: Option<&'a str>, right: Option<&'a str>) -> Option<&'a str>
-    ensures { text_or_null (option_copied result) ≡ first_by CompareOperator.Gte (text_or_null (option_copied left.entry)) (text_or_null (option_copied right.entry)) }
+    ensures { text_or_null (option_copied result)
+        ≡ first_by CompareOperator.Gte (text_or_null (option_copied left.entry)) (text_or_null (option_copied right.entry)) }
 {
     match (left, right) {
         (Some(a), Some(b)) => { if a >= b { Some(a) } else { Some(b) } }

@@ -111,7 +111,8 @@ pub fn held_column<'a>(
     requires types { have_types zones.now (map block_view blocks.now) ≡ true }
     ensures dtype { field_type name.now zones.now.columns ≡ Some result.now.ty }
     ensures len { slice_get zones.now.lengths block ≡ Some (length result.now.rows) }
-    ensures rows { option_map (map (field_of name.now)) (slice_get (table_of_blocks zones.now (map block_view blocks.now)).blocks block) ≡ Some result.now.rows }
+    ensures rows { option_map (map (field_of name.now)) (slice_get (table_of_blocks zones.now (map block_view blocks.now)).blocks block)
+        ≡ Some result.now.rows }
 {
     let columns = blocks[block as usize].as_slice();
     column_named(columns_of(zones), columns, name).unwrap()

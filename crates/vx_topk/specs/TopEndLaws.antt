@@ -125,13 +125,15 @@ TopReportsExcludeErrors =
 -- nor once with a refusal and once with a break
 abbrev pub TopRefusalsExcludeBreaks : Type 0
 TopRefusalsExcludeBreaks =
-    (f p : Tree) (key : Bytes) (descending : Bool) (count : ℕ) (before after other : StoreSeen) (d e : TopError) → is_top_refusal d ≡ true → is_top_break e ≡ true
+    (f p : Tree) (key : Bytes) (descending : Bool) (count : ℕ) (before after other : StoreSeen) (d e : TopError)
+    → is_top_refusal d ≡ true → is_top_break e ≡ true
     → IsTopOf f p key descending count before after (Err d) → ¬ (IsTopOf f p key descending count before other (Err e))
 
 -- nor with two refusals
 abbrev pub TopRefusalsAreOne : Type 0
 TopRefusalsAreOne =
-    (f p : Tree) (key : Bytes) (descending : Bool) (count : ℕ) (before after other : StoreSeen) (d e : TopError) → is_top_refusal d ≡ true → is_top_refusal e ≡ true
+    (f p : Tree) (key : Bytes) (descending : Bool) (count : ℕ) (before after other : StoreSeen) (d e : TopError)
+    → is_top_refusal d ≡ true → is_top_refusal e ≡ true
     → IsTopOf f p key descending count before after (Err d) → IsTopOf f p key descending count before other (Err e) → d ≡ e
 
 -- and once by a sum and once by a cast only where the first phase that breaks does so by both

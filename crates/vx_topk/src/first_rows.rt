@@ -42,10 +42,13 @@ impl FirstRows {
 
     /// Puts in a row that was found behind all others: behind those of its own key. Where more rows are held then than are asked, the last goes.
     pub(crate) fn put(&mut self, key: SortKey, value: ScalarValue, place: RowPlace) -> Mem<()>
-        requires held { (k v : Ty) × (found : List Keyed) × HoldFirst k v found place self.old × (fits (key_raw key) k ≡ true) × (fits (raw_view value) v ≡ true) }
+        requires held { (k v : Ty) × (found : List Keyed) × HoldFirst k v found place self.old
+            × (fits (key_raw key) k ≡ true) × (fits (raw_view value) v ≡ true) }
         ensures same { AsksTheSame self.old self.new }
-        ensures holds { (k v : Ty) (found : List Keyed) → HoldFirst k v found place self.old → fits (key_raw key) k ≡ true → fits (raw_view value) v ≡ true →
-            IfOk result (λ _. HoldFirst k v (found ++ record { key = valued (key_raw key) k; value = valued (raw_view value) v } ∷ []) (behind place) self.new) }
+        ensures holds { (k v : Ty) (found : List Keyed) → HoldFirst k v found place self.old →
+            fits (key_raw key) k ≡ true → fits (raw_view value) v ≡ true →
+            IfOk result (λ _. HoldFirst k v (found ++ record { key = valued (key_raw key) k; value = valued (raw_view value) v } ∷ [])
+            (behind place) self.new) }
     {
         let row = RowKey {
             descending: self.descending,

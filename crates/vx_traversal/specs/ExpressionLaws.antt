@@ -2,7 +2,8 @@
 use Rattle.std.proofs.Common.{◌≡◌, ℕ, zero, suc, ◌<◌, ◌≤◌, List, [], ◌∷◌, length, Contains, slice_index_or, refl, ap, sym, ◌∙◌, arith}
 use Rattle.std.specs.Prelude.{Some}
 use Rattle.std.specs.Cmp.{unsigned_Decides}
-use Rattle.vx_expr.specs.Trees.{Tree, root, literal, get_item, binary, not_of, is_null_of, like, between, cast, list_contains, pack, merge, select, dynamic, Trees, no_trees, tree, listed, trees_of, children_of}
+use Rattle.vx_expr.specs.Trees.{Tree, root, literal, get_item, binary, not_of, is_null_of, like, between, cast, list_contains, pack, merge, select}
+use Rattle.vx_expr.specs.Trees.{dynamic, Trees, no_trees, tree, listed, trees_of, children_of}
 use Rattle.vx_expr.specs.Children.{where_so}
 use Rattle.vx_expr.proofs.TreeLemmas.{listed_trees_of}
 use Rattle.vx_traversal.specs.Expressions.{node_height, highest_node, IsWithChildren}

@@ -1,7 +1,8 @@
 -- Expressions as nodes: their height, and the node with other children.
 use Rattle.std.proofs.Common.{◌≡◌, ℕ, ◌+◌, max, List}
 use Rattle.std.specs.Prelude.{Some}
-use Rattle.vx_expr.specs.Trees.{Tree, root, literal, get_item, binary, not_of, is_null_of, like, between, cast, list_contains, pack, merge, select, dynamic, Trees, no_trees, tree}
+use Rattle.vx_expr.specs.Trees.{Tree, root, literal, get_item, binary, not_of, is_null_of, like, between, cast, list_contains, pack, merge, select}
+use Rattle.vx_expr.specs.Trees.{dynamic, Trees, no_trees, tree}
 use Rattle.vx_expr.specs.Children.{with_children_of}
 
 abbrev mutual

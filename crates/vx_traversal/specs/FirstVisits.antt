@@ -10,4 +10,5 @@ MayDoNothing {S} {N} {E} up = (s : S) (n : N) → up s n (Ok Continue) s
 
 -- the first of these nodes took their step in turn: what the others give then is what all of them give
 abbrev pub TakesFirst : {S N E : Type 0} → Step S N E → List N → ℕ → S → Result TraversalOrder E → S → Type 0
-TakesFirst {S} {N} {E} Each ns count s q u = (r : Result TraversalOrder E) (t : S) → EndsOrGoesOn (λ order. InTurn Each order u (drop count ns) r t) q u r t → InTurn Each Continue s ns r t
+TakesFirst {S} {N} {E} Each ns count s q u =
+    (r : Result TraversalOrder E) (t : S) → EndsOrGoesOn (λ order. InTurn Each order u (drop count ns) r t) q u r t → InTurn Each Continue s ns r t

@@ -20,7 +20,8 @@ HasOneMore f x g = (g.node ≡ f.node) × (g.inner ≡ f.inner) × (g.results.it
 module _ {S N C R E : Type 0} (children : N → List N) (down : DownStep S N C R E) (up : UpStep S N C R E) (height : N → ℕ) where
   -- the children of a frame from a place on, after these results, and then up under the context of its node
   abbrev pub FromPlace : C → FoldFrame N C R → ℕ → List R → S → Walk (FoldUp R) E → S → Type 0
-  FromPlace c f i results s r t = FoldsInTurn (FoldsUnder children down up height) f.inner (λ u gathered. up u f.node c gathered) results s (drop i (children f.node)) r t
+  FromPlace c f i results s r t =
+      FoldsInTurn (FoldsUnder children down up height) f.inner (λ u gathered. up u f.node c gathered) results s (drop i (children f.node)) r t
 
   -- what is left of a frame
   abbrev pub FrameLeft : C → FoldFrame N C R → S → Walk (FoldUp R) E → S → Type 0
@@ -40,4 +41,5 @@ module _ {S N C R E : Type 0} (children : N → List N) (down : DownStep S N C R
   StepsOn c fs f s (Err NoMemory) gs t = ⊤
   StepsOn c fs f s (Err (Visit e)) gs t = FramesLeft c fs (λ d. FrameLeft d f s) (Err (Visit e)) t
   StepsOn c fs f s (Ok (Ends x)) gs t = FramesLeft c fs (λ d. FrameLeft d f s) (Ok x) t
-  StepsOn c fs f s (Ok (Goes g)) gs t = (r : Walk (FoldUp R) E) (u : S) → FramesLeft c gs (λ d. FrameLeft d g t) r u → FramesLeft c fs (λ d. FrameLeft d f s) r u
+  StepsOn c fs f s (Ok (Goes g)) gs t =
+      (r : Walk (FoldUp R) E) (u : S) → FramesLeft c gs (λ d. FrameLeft d g t) r u → FramesLeft c fs (λ d. FrameLeft d f s) r u

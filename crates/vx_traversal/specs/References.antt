@@ -7,7 +7,8 @@ use Rattle.vx_dtype.specs.TypeRules.{has_name}
 use Rattle.vx_expr.specs.Selections.{listed_names}
 use Rattle.vx_traversal.specs.declared.order.TraversalOrder.{TraversalOrder}
 use Rattle.vx_traversal.specs.declared.order.TraversalOrder.TheVariants.{Continue}
-use Rattle.vx_expr.specs.Trees.{Tree, root, literal, get_item, binary, not_of, is_null_of, like, between, cast, list_contains, pack, merge, select, dynamic, Trees, no_trees, tree}
+use Rattle.vx_expr.specs.Trees.{Tree, root, literal, get_item, binary, not_of, is_null_of, like, between, cast, list_contains, pack, merge, select}
+use Rattle.vx_expr.specs.Trees.{dynamic, Trees, no_trees, tree}
 
 -- the names that the node alone refers to: those of an access to a field and of a selection
 abbrev pub own_names : Tree → List Bytes

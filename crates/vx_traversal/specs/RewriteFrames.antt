@@ -28,12 +28,16 @@ NextFits children fs (Goes f) = FramesFit children fs f
 module _ {S N E : Type 0} (children : N → List N) (is_with : N → List N → N → Type 0) (down up : RewriteStep S N E) where
   -- after the children: the node is rebuilt, and goes up or stands
   abbrev pub Finishes : RewriteFrame N → Walk (Transformed (List N)) E → S → Walk (Transformed N) E → S → Type 0
-  Finishes f m w r t = (d : Walk (Transformed N) E) × Rebuilds is_with f.node m d × WithValue (λ y. AfterOrder children is_with down up y.order f.changed_before y w r t) d w r t
+  Finishes f m w r t =
+      (d : Walk (Transformed N) E) × Rebuilds is_with f.node m d
+      × WithValue (λ y. AfterOrder children is_with down up y.order f.changed_before y w r t) d w r t
 
   module _ (height : N → ℕ) where
     -- the children of a frame from a place on, after these values, and then the node
     abbrev pub FromPlace : RewriteFrame N → ℕ → Transformed (List N) → S → Walk (Transformed N) E → S → Type 0
-    FromPlace f i values s r t = (m : Walk (Transformed (List N)) E) × (w : S) × MapsInTurn (Rewrites children is_with down up height) values s (drop i (children f.node)) m w × Finishes f m w r t
+    FromPlace f i values s r t =
+        (m : Walk (Transformed (List N)) E) × (w : S)
+        × MapsInTurn (Rewrites children is_with down up height) values s (drop i (children f.node)) m w × Finishes f m w r t
 
     -- what is left of a frame
     abbrev pub FrameLeft : RewriteFrame N → S → Walk (Transformed N) E → S → Type 0
@@ -41,8 +45,12 @@ module _ {S N E : Type 0} (children : N → List N) (is_with : N → List N → 
 
     -- what is left of a frame once its next child has this answer
     abbrev pub ChildAnswered : RewriteFrame N → Walk (Transformed N) E → S → Walk (Transformed N) E → S → Type 0
-    ChildAnswered f q u r t = (m : Walk (Transformed (List N)) E) × (w : S)
-        × WithValue (λ y. MapsInTurn (Rewrites children is_with down up height) (with_one (so_far f) y) u (drop (length f.values.items + 1) (children f.node)) m w) q u m w × Finishes f m w r t
+    ChildAnswered f q u r t =
+        (m : Walk (Transformed (List N)) E) × (w : S)
+        × WithValue
+        (λ y. MapsInTurn (Rewrites children is_with down up height) (with_one (so_far f) y) u (drop (length f.values.items + 1) (children f.node)) m w)
+        q u m w
+        × Finishes f m w r t
 
     -- what is left of frames, the outermost first, where this is left below them
     abbrev pub FramesLeft : List (RewriteFrame N) → (Walk (Transformed N) E → S → Type 0) → Walk (Transformed N) E → S → Type 0

@@ -4,7 +4,8 @@ ghost use Rattle.std.specs.Prelude.{◌≡◌, ◌<◌, Ok, Result, IfOk, ⊤, l
 ghost use Rattle.vx_traversal.specs.declared.errors.WalkError.{WalkError};
 ghost use Rattle.vx_traversal.specs.declared.transform.Transformed.{Transformed};
 ghost use Rattle.vx_traversal.specs.declared.order.TraversalOrder.{TraversalOrder};
-ghost use Rattle.vx_traversal.specs.Rewrites.{CalledWith, FromOrder, GoesUp, IsNoHigher, KeepsHeight, KeepsValue, MapsChildren, Rewrites, UnlessNoMemory, none_yet};
+ghost use Rattle.vx_traversal.specs.Rewrites.{CalledWith, FromOrder, GoesUp, IsNoHigher, KeepsHeight, KeepsValue, MapsChildren, Rewrites};
+ghost use Rattle.vx_traversal.specs.Rewrites.{UnlessNoMemory, none_yet};
 ghost use Rattle.vx_traversal.specs.RewriteFrames.{Finishes, FramesFit, HasOneMore, NextFits, StepsOn, so_far};
 
 use crate::errors::{Walk, WalkError};

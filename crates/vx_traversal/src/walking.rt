@@ -275,7 +275,8 @@ fn walk_down_first<M, H: NodeRef, W: Walker<M, H>>(
     requires ready { W.ready walker.old }
     requires no_up { MayDoNothing W.goes_up }
     requires within { count ≤ length (H.Target.children (H.target node)) }
-    ensures visits { TakesFirst (Visits H.Target.children W.goes_down W.goes_up H.Target.height) (H.Target.children (H.target node)) count walker.old result walker.new }
+    ensures visits { TakesFirst (Visits H.Target.children W.goes_down W.goes_up H.Target.height)
+        (H.Target.children (H.target node)) count walker.old result walker.new }
     ensures again { W.ready walker.new }
 {
     let mut last = TraversalOrder::Continue;
