@@ -10,7 +10,6 @@ use vx_dtype::{Field, FieldName, FieldPath, Mem, Stat};
 
 /// The joined name of a statistic of a path: the path's names and the statistic's, with `_` between. Two paths may have one joined
 /// name, as `a_b` and `a`.`b` do.
-#[tactic(auto, using(crate::proofs::JoinedLemmas::joined_statistic))]
 pub fn field_path_stat_field_name(alloc: Global, path: &FieldPath, stat: Stat) -> Mem<FieldName>
     ensures { IfOk result (λ name. name ≡ joined_name path.now stat) }
 {
