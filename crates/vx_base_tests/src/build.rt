@@ -23,10 +23,7 @@ fn unnamed_pack(alloc: Global) -> Result<PackExpr, ExprError> {
 #[test]
 fn ample(rt: HostRuntime) -> Result<(), Fail> {
     let alloc = rt.alloc();
-    assert_eq!(rt;
-        equals_slot(alloc)?.compact(alloc)?.as_str(),
-        "$ = dynamic(bool)"
-    );
+    assert!(rt; equals_slot(alloc)?.compact(alloc)?.as_str() == "$ = dynamic(bool)");
     assert!(rt; unnamed_pack(alloc) == Err(ExprError::WrongLength));
     Ok(())
 }

@@ -80,7 +80,7 @@ fn wide(alloc: Global) -> Mem<ExprRef> {
 fn wide_expressions_print(rt: HostRuntime) -> Result<(), Fail> {
     let alloc = rt.alloc();
     let text = not(alloc, wide(alloc)?)?.compact(alloc)?;
-    assert_eq!(rt; text.as_str().len(), 2048 + 2047 * 7 + 3);
+    assert!(rt; text.as_str().len() == 2048 + 2047 * 7 + 3);
     Ok(())
 }
 
@@ -118,11 +118,8 @@ fn shown_tree(alloc: Global) -> Mem<String> {
 fn ample(rt: HostRuntime) -> Result<(), Fail> {
     let alloc = rt.alloc();
     let rows = with_row(String::from_str(alloc, "rows\n")?, &Scalar::from(true))?;
-    assert_eq!(rt;
-        with_row(rows, &Scalar::from(-7i64))?.as_str(),
-        "rows\ntrue-7"
-    );
-    assert_eq!(rt; both_forms(alloc)?.as_str(), "$.a GetItem(a)");
-    assert_eq!(rt; shown_tree(alloc)?.as_str(), "GetItem(a)\n└── Root\n");
+    assert!(rt; with_row(rows, &Scalar::from(-7i64))?.as_str() == "rows\ntrue-7");
+    assert!(rt; both_forms(alloc)?.as_str() == "$.a GetItem(a)");
+    assert!(rt; shown_tree(alloc)?.as_str() == "GetItem(a)\n└── Root\n");
     Ok(())
 }

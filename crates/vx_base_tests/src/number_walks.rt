@@ -184,7 +184,7 @@ fn folded_sum(alloc: Global, inner: u64, second: u64) -> Walk<u64, NoMemory> {
 #[test]
 fn folds(rt: HostRuntime) -> Result<(), Fail> {
     for (inner, second, sum) in [(0, 2, 6), (0, 5, 5), (0, 9, 4), (9, 2, 3), (9, 5, 3)] {
-        assert_eq!(rt; folded_sum(rt.alloc(), inner, second)?, sum);
+        assert!(rt; folded_sum(rt.alloc(), inner, second)? == sum);
     }
     Ok(())
 }
@@ -250,7 +250,7 @@ fn trail_sum(alloc: Global, low: u64) -> Walk<u64, NoMemory> {
 #[test]
 fn a_child_gets_the_context_of_its_parent(rt: HostRuntime) -> Result<(), Fail> {
     for (low, sum) in [(4, 13), (5, 12)] {
-        assert_eq!(rt; trail_sum(rt.alloc(), low)?, sum);
+        assert!(rt; trail_sum(rt.alloc(), low)? == sum);
     }
     Ok(())
 }
@@ -435,9 +435,9 @@ fn ample(rt: HostRuntime) -> Result<(), Fail> {
     let alloc = rt.alloc();
     assert!(rt; TraversalOrder::Skip.visit_children(stop)? == TraversalOrder::Continue);
     assert!(rt; TraversalOrder::Skip.visit_parent(stop)? == TraversalOrder::Skip);
-    assert_eq!(rt; mapped_value()?, 7);
-    assert_eq!(rt; value_with_no_children(alloc)?, 5);
-    assert_eq!(rt; children_of_grove(alloc)?, 2);
+    assert!(rt; mapped_value()? == 7);
+    assert!(rt; value_with_no_children(alloc)? == 5);
+    assert!(rt; children_of_grove(alloc)? == 2);
     assert!(rt; order_after_raises(alloc)? == TraversalOrder::Stop);
     assert!(rt; transform_up_changes(alloc)?);
     assert!(rt; transform_down_changes(alloc)?);
@@ -499,8 +499,8 @@ fn order_after_list(alloc: Global) -> Mem<TraversalOrder> {
 fn closures(rt: HostRuntime) -> Result<(), Fail> {
     let alloc = rt.alloc();
     assert!(rt; error_ends_visit_up(alloc)?);
-    assert_eq!(rt; seen_down(alloc)?.as_slice(), [1, 2, 3].as_slice());
-    assert_eq!(rt; seen_up(alloc)?.as_slice(), [4, 2, 3, 1].as_slice());
+    assert!(rt; seen_down(alloc)?.as_slice() == [1, 2, 3].as_slice());
+    assert!(rt; seen_up(alloc)?.as_slice() == [4, 2, 3, 1].as_slice());
     assert!(rt; order_after_children(alloc)? == TraversalOrder::Continue);
     assert!(rt; order_after_list(alloc)? == TraversalOrder::Skip);
     Ok(())

@@ -18,6 +18,6 @@ pub fn above_ten(alloc: Global) -> Mem<ExprRef> {
 #[test]
 fn the_sample_is_a_comparison(rt: HostRuntime) -> Result<(), Fail> {
     let text = above_ten(rt.alloc())?.compact(rt.alloc())?;
-    assert_eq!(rt; text.as_str(), "($.x > 10i32)");
+    assert!(rt; text.as_str() == "($.x > 10i32)");
     Ok(())
 }

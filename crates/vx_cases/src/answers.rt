@@ -9,8 +9,8 @@ use crate::subjects::Subject;
 use crate::tables::Case;
 use std::alloc::Global;
 use vx_column::ColumnRef;
-use vx_display::{row_text, tree_text};
-use vx_dtype::{DType, Mem, NoMemory};
+use vx_display::{push_row, tree_text};
+use vx_dtype::{DType, Mem, NoMemory, Scalar};
 use vx_eval::{EvalError, ExprEval, Scope, TypeError};
 use vx_expr::{DisplayAs, ExprRef};
 use vx_partition::{annotate_scope_access, partition};
@@ -33,10 +33,7 @@ pub(crate) fn answer(
         Subject::ScanUntold => scan_untold(alloc, case),
         Subject::ScanFailing => scan_failing(alloc, case),
         Subject::Run => run_of(alloc, case),
-        _ => {
-            let opened = open_case(alloc, case)?;
-            answer_opened(alloc, &opened, subject)
-        }
+        _ => answer_opened(alloc, &open_case(alloc, case)?, subject),
     }
 }
 
@@ -58,25 +55,34 @@ fn answer_opened(alloc: Global, case: &Opened, subject: Subject) -> Result<Strin
         Subject::Required => required(alloc, case)?,
         Subject::RuledOut => ruled_out_blocks(alloc, case)?,
         Subject::Parts => parts(alloc, expr, scope)?,
-        _ => rewritten(alloc, expr.clone()?, scope, subject)?,
+        _ => rewritten(alloc, expr, scope, subject)?,
     };
     Ok(text)
 }
 
 /// The compact text of an expression that a pass was made over.
-fn rewritten(alloc: Global, expr: ExprRef, scope: &DType, subject: Subject) -> Mem<String> {
-    let made = match subject {
+fn rewritten(alloc: Global, expr: &ExprRef, scope: &DType, subject: Subject) -> Mem<String> {
+    match passed(alloc, expr.clone()?, scope, subject) {
+        Ok(expr) => expr.compact(alloc),
+        Err(TransformError::NoMemory) => Err(NoMemory),
+        Err(error) => Ok(format!(in alloc; "{error}")?),
+    }
+}
+
+/// An expression that a pass was made over.
+fn passed(
+    alloc: Global,
+    expr: ExprRef,
+    scope: &DType,
+    subject: Subject,
+) -> Result<ExprRef, TransformError> {
+    match subject {
         Subject::Ranges => Ok(find_between(alloc, expr)?),
         Subject::Simplified => simplify(alloc, expr),
         Subject::WithoutSelect => remove_select(alloc, expr, scope),
         Subject::WithoutMerge => remove_merge(alloc, expr, scope),
         Subject::Replaced => Ok(replaced(alloc, expr, scope)?),
         _ => simplify_typed(alloc, expr, scope),
-    };
-    match made {
-        Ok(expr) => expr.compact(alloc),
-        Err(TransformError::NoMemory) => Err(NoMemory),
-        Err(error) => Ok(format!(in alloc; "{error}")?),
     }
 }
 
@@ -148,8 +154,12 @@ pub(crate) fn column_text(alloc: Global, column: &ColumnRef) -> Mem<String> {
         if i > 0 {
             text.push_str(" / ")?;
         }
-        let scalar = column.scalar_at(alloc, i)?;
-        text.push_str(row_text(alloc, scalar.dtype(), scalar.value())?.as_str())?;
+        push_scalar(&mut text, &column.scalar_at(alloc, i)?)?;
     }
     Ok(text)
+}
+
+/// Adds a value.
+fn push_scalar(text: &mut String, scalar: &Scalar) -> Mem<()> {
+    push_row(text, scalar.dtype(), scalar.value())
 }

@@ -15,7 +15,8 @@ use vx_dtype::{
     BetweenOptions, CompareOperator, FieldName, FieldNames, Mem, Nullability, StrictComparison,
 };
 use vx_expr::{
-    Expr, ExprError, ExprRef, Operator, VortexExpr, one_child, three_children, two_children,
+    Expr, ExprError, ExprRef, Operator, PackExpr, SelectExpr, VortexExpr, one_child,
+    three_children, two_children,
 };
 use vx_text::read_query;
 
@@ -138,13 +139,23 @@ const CALLS: [(&str, Call); 45] = [
 /// The answer to the call of a row, as a text: an expression as the query that it is written as, a refusal by its name.
 pub(crate) fn answer(alloc: Global, row: &Value) -> Result<String, CaseError> {
     let call = text_in(row, "call");
-    let Some(named) = CALLS.iter().find(|named| named.0 == call) else {
-        return Ok(format!(in alloc; "no call {call}")?);
-    };
-    match answer_to(alloc, row, named.1, operands(alloc, row, "of")?) {
+    match CALLS.iter().find(|named| named.0 == call) {
+        Some(named) => answer_or_refusal(alloc, row, named.1),
+        None => Ok(format!(in alloc; "no call {call}")?),
+    }
+}
+
+/// The answer to a call, or the name of the refusal.
+fn answer_or_refusal(alloc: Global, row: &Value, call: Call) -> Result<String, CaseError> {
+    match answer_on_operands(alloc, row, call) {
         Err(CaseError::Expr(error)) => Ok(format!(in alloc; "{error}")?),
         answer => answer,
     }
+}
+
+/// The answer to a call on the operands of a row.
+fn answer_on_operands(alloc: Global, row: &Value, call: Call) -> Result<String, CaseError> {
+    answer_to(alloc, row, call, &operands(alloc, row, "of")?)
 }
 
 /// The expressions that a member lists, each as a query.
@@ -157,35 +168,63 @@ fn operands(alloc: Global, row: &Value, member: &str) -> Result<Vec<ExprRef>, Ca
 }
 
 /// The answer to a call.
-fn answer_to(
-    alloc: Global,
-    row: &Value,
-    call: Call,
-    of: Vec<ExprRef>,
-) -> Result<String, CaseError> {
+fn answer_to(alloc: Global, row: &Value, call: Call, of: &[ExprRef]) -> Result<String, CaseError> {
     match call {
         Call::Operator
         | Call::Inverse
         | Call::LogicalInverse
         | Call::Exchanged
         | Call::Comparison => of_operator(alloc, call, operator_in(row, "number")?),
-        Call::IsLess => {
-            let is_less = operator_in(row, "number")? < operator_in(row, "other")?;
-            Ok(format!(in alloc; "{is_less}")?)
-        }
-        Call::Key => Ok(place_of_key(alloc, operands(alloc, row, "keys")?, &one(of)?)?),
+        Call::IsLess => is_less(alloc, row),
+        Call::Key => key_text(alloc, row, of),
         Call::Id
         | Call::Children
         | Call::ChildList
         | Call::IsRoot
         | Call::Conjuncts
-        | Call::SplitConjunction => Ok(of_expression(alloc, call, &one(of)?)?),
-        Call::Taken => taken(alloc, &one(of)?, &names_in(alloc, row, "names")?),
-        _ => match made(alloc, row, call, of)? {
-            Some(expr) => Ok(written(alloc, &expr)?),
-            None => Ok(String::from_str(alloc, "none")?),
-        },
+        | Call::SplitConjunction => expression_text(alloc, call, of),
+        Call::Taken => taken_text(alloc, row, of),
+        Call::AndCollect | Call::OrCollect | Call::AndCollectRight => {
+            option_text(alloc, &collected(alloc, call, of)?)
+        }
+        _ => made_text(alloc, row, call, of),
     }
+}
+
+/// What is told of an expression, or of none.
+fn option_text(alloc: Global, expr: &Option<ExprRef>) -> Result<String, CaseError> {
+    match expr {
+        Some(expr) => Ok(written(alloc, expr)?),
+        None => Ok(String::from_str(alloc, "none")?),
+    }
+}
+
+/// The query of the expression that a call makes.
+fn made_text(alloc: Global, row: &Value, call: Call, of: &[ExprRef]) -> Result<String, CaseError> {
+    Ok(written(alloc, &made(alloc, row, call, of)?)?)
+}
+
+/// Whether the operator of one number stands below that of another.
+fn is_less(alloc: Global, row: &Value) -> Result<String, CaseError> {
+    let is_less = operator_in(row, "number")? < operator_in(row, "other")?;
+    Ok(format!(in alloc; "{is_less}")?)
+}
+
+/// The place of the only operand among the keys of a row.
+fn key_text(alloc: Global, row: &Value, of: &[ExprRef]) -> Result<String, CaseError> {
+    let key = one(alloc, of)?;
+    Ok(place_of_key(alloc, operands(alloc, row, "keys")?, &key)?)
+}
+
+/// What the only operand answers of itself.
+fn expression_text(alloc: Global, call: Call, of: &[ExprRef]) -> Result<String, CaseError> {
+    Ok(of_expression(alloc, call, &one(alloc, of)?)?)
+}
+
+/// The names that the only operand takes of those of a row.
+fn taken_text(alloc: Global, row: &Value, of: &[ExprRef]) -> Result<String, CaseError> {
+    let expr = one(alloc, of)?;
+    taken(alloc, &expr, &names_in(alloc, row, "names")?)
 }
 
 /// The operator of a number.
@@ -210,8 +249,8 @@ fn of_operator(alloc: Global, call: Call, operator: Operator) -> Result<String, 
 }
 
 /// The only operand.
-fn one(of: Vec<ExprRef>) -> Result<ExprRef, ExprError> {
-    one_child(of).ok_or(ExprError::WrongChildren)
+fn one(alloc: Global, of: &[ExprRef]) -> Result<ExprRef, ExprError> {
+    one_child(Vec::from_clones(alloc, of)?).ok_or(ExprError::WrongChildren)
 }
 
 /// What an expression answers of itself.
@@ -293,35 +332,29 @@ fn place_of_key(alloc: Global, keys: Vec<ExprRef>, key: &ExprRef) -> Mem<String>
 
 /// The names that a select takes of these, or the refusal.
 fn taken(alloc: Global, expr: &ExprRef, names: &FieldNames) -> Result<String, CaseError> {
-    match expr.expr() {
-        Expr::Select(node) => {
-            let taken = node.selection().as_include_names(alloc, names)?;
-            Ok(format!(in alloc; "{taken}")?)
-        }
-        _ => Err(CaseError::Expr(ExprError::WrongChildren)),
+    let Expr::Select(node) = expr.expr() else {
+        return Err(CaseError::Expr(ExprError::WrongChildren));
+    };
+    let taken = node.selection().as_include_names(alloc, names)?;
+    Ok(format!(in alloc; "{taken}")?)
+}
+
+/// What a collector makes of operands, which it makes of none not.
+fn collected(alloc: Global, call: Call, of: &[ExprRef]) -> Mem<Option<ExprRef>> {
+    match call {
+        Call::AndCollect => and_collect(alloc, Vec::from_clones(alloc, of)?),
+        Call::OrCollect => or_collect(alloc, Vec::from_clones(alloc, of)?),
+        _ => and_collect_right(alloc, Vec::from_clones(alloc, of)?),
     }
 }
 
-/// The expression that a call makes, which a collector makes of no operands not.
-fn made(
-    alloc: Global,
-    row: &Value,
-    call: Call,
-    of: Vec<ExprRef>,
-) -> Result<Option<ExprRef>, CaseError> {
+/// The expression that a call makes.
+fn made(alloc: Global, row: &Value, call: Call, of: &[ExprRef]) -> Result<ExprRef, CaseError> {
     match call {
-        Call::AndCollect => Ok(and_collect(alloc, of)?),
-        Call::OrCollect => Ok(or_collect(alloc, of)?),
-        Call::AndCollectRight => Ok(and_collect_right(alloc, of)?),
-        Call::Merge => Ok(Some(merge(alloc, of, nullability(row))?)),
-        Call::Pack => {
-            let fields = named(alloc, &names_in(alloc, row, "names")?, of)?;
-            Ok(Some(pack(alloc, fields, nullability(row))?))
-        }
-        Call::Root | Call::Col | Call::Lit | Call::StructCast => {
-            Ok(Some(made_of_none(alloc, row, call)?))
-        }
-        Call::Between => Ok(Some(range(alloc, row, of)?)),
+        Call::Merge => Ok(merge(alloc, Vec::from_clones(alloc, of)?, nullability(row))?),
+        Call::Pack => packed(alloc, row, of),
+        Call::Root | Call::Col | Call::Lit | Call::StructCast => made_of_none(alloc, row, call),
+        Call::Between => Ok(range(alloc, row, of)?),
         Call::Eq
         | Call::NotEq
         | Call::Gt
@@ -331,16 +364,25 @@ fn made(
         | Call::And
         | Call::Or
         | Call::CheckedAdd
-        | Call::ListContains => Ok(Some(made_of_two(alloc, call, of)?)),
-        Call::Not | Call::IsNull | Call::GetItem | Call::Cast => {
-            Ok(Some(made_of_one(alloc, row, call, one(of)?)?))
-        }
-        Call::Select => Ok(Some(select(alloc, names_in(alloc, row, "names")?, one(of)?)?)),
-        Call::SelectExclude => {
-            Ok(Some(select_exclude(alloc, names_in(alloc, row, "names")?, one(of)?)?))
-        }
-        _ => Ok(Some(taken_apart(alloc, row, call, &one(of)?)?)),
+        | Call::ListContains => Ok(made_of_two(alloc, call, of)?),
+        _ => made_of_only(alloc, row, call, of),
     }
+}
+
+/// The expression that a call makes of the only operand.
+fn made_of_only(
+    alloc: Global,
+    row: &Value,
+    call: Call,
+    of: &[ExprRef],
+) -> Result<ExprRef, CaseError> {
+    made_of_one(alloc, row, call, &one(alloc, of)?)
+}
+
+/// The struct of operands under the names of a row.
+fn packed(alloc: Global, row: &Value, of: &[ExprRef]) -> Result<ExprRef, CaseError> {
+    let fields = named(alloc, &names_in(alloc, row, "names")?, of)?;
+    Ok(pack(alloc, fields, nullability(row))?)
 }
 
 /// The nullability of the struct that a row makes.
@@ -349,14 +391,10 @@ fn nullability(row: &Value) -> Nullability {
 }
 
 /// Values under names.
-fn named(
-    alloc: Global,
-    names: &FieldNames,
-    values: Vec<ExprRef>,
-) -> Mem<Vec<(FieldName, ExprRef)>> {
+fn named(alloc: Global, names: &FieldNames, values: &[ExprRef]) -> Mem<Vec<(FieldName, ExprRef)>> {
     let mut fields = Vec::new(alloc);
     for (name, value) in names.as_slice().iter().zip(values) {
-        fields.push((name.clone()?, value))?;
+        fields.push((name.clone()?, value.clone()?))?;
     }
     Ok(fields)
 }
@@ -377,21 +415,31 @@ fn made_of_none(alloc: Global, row: &Value, call: Call) -> Result<ExprRef, CaseE
 }
 
 /// What is made of one operand.
-fn made_of_one(alloc: Global, row: &Value, call: Call, of: ExprRef) -> Result<ExprRef, CaseError> {
+fn made_of_one(alloc: Global, row: &Value, call: Call, of: &ExprRef) -> Result<ExprRef, CaseError> {
     match call {
-        Call::Not => Ok(not(alloc, of)?),
-        Call::IsNull => Ok(is_null(alloc, of)?),
-        Call::GetItem => Ok(get_item(alloc, field_in(alloc, row)?, of)?),
-        _ => Ok(cast(alloc, of, type_in(alloc, row)?)?),
+        Call::Not => Ok(not(alloc, of.clone()?)?),
+        Call::IsNull => Ok(is_null(alloc, of.clone()?)?),
+        Call::GetItem => Ok(get_item(alloc, field_in(alloc, row)?, of.clone()?)?),
+        Call::Cast => Ok(cast(alloc, of.clone()?, type_in(alloc, row)?)?),
+        Call::Select => Ok(select(alloc, names_in(alloc, row, "names")?, of.clone()?)?),
+        Call::SelectExclude => {
+            Ok(select_exclude(alloc, names_in(alloc, row, "names")?, of.clone()?)?)
+        }
+        _ => taken_apart(alloc, row, call, of),
     }
 }
 
 /// What is made of two operands.
-fn made_of_two(alloc: Global, call: Call, of: Vec<ExprRef>) -> Result<ExprRef, ExprError> {
-    let Some((left, right)) = two_children(of) else {
-        return Err(ExprError::WrongChildren);
-    };
-    Ok(match call {
+fn made_of_two(alloc: Global, call: Call, of: &[ExprRef]) -> Result<ExprRef, ExprError> {
+    match two_children(Vec::from_clones(alloc, of)?) {
+        Some((left, right)) => Ok(joined(alloc, call, left, right)?),
+        None => Err(ExprError::WrongChildren),
+    }
+}
+
+/// What a call makes of two expressions.
+fn joined(alloc: Global, call: Call, left: ExprRef, right: ExprRef) -> Mem<ExprRef> {
+    match call {
         Call::Eq => eq(alloc, left, right),
         Call::NotEq => not_eq(alloc, left, right),
         Call::Gt => gt(alloc, left, right),
@@ -402,7 +450,7 @@ fn made_of_two(alloc: Global, call: Call, of: Vec<ExprRef>) -> Result<ExprRef, E
         Call::Or => or(alloc, left, right),
         Call::CheckedAdd => checked_add(alloc, left, right),
         _ => list_contains(alloc, left, right),
-    }?)
+    }
 }
 
 /// Whether a bound of a range is strict.
@@ -414,12 +462,12 @@ fn strictness(row: &Value, member: &str) -> StrictComparison {
 }
 
 /// The range of three operands.
-fn range(alloc: Global, row: &Value, of: Vec<ExprRef>) -> Result<ExprRef, ExprError> {
+fn range(alloc: Global, row: &Value, of: &[ExprRef]) -> Result<ExprRef, ExprError> {
     let options = BetweenOptions {
         lower_strict: strictness(row, "lower_strict"),
         upper_strict: strictness(row, "upper_strict"),
     };
-    match three_children(of) {
+    match three_children(Vec::from_clones(alloc, of)?) {
         Some((value, lower, upper)) => Ok(between(alloc, value, lower, upper, options)?),
         None => Err(ExprError::WrongChildren),
     }
@@ -435,14 +483,21 @@ fn taken_apart(
     match (expr.expr(), call) {
         (node, Call::IntoExpr) => Ok(copied(alloc, node)?),
         (_, Call::WithChildren) => {
-            let children = operands(alloc, row, "children")?;
-            Ok(expr.with_children(alloc, children)?)
+            Ok(expr.with_children(alloc, operands(alloc, row, "children")?)?)
         }
         (Expr::Between(node), Call::Comparisons) => Ok(node.to_binary_expr(alloc)?),
-        (Expr::Pack(node), Call::PackedField) => Ok(node.field(&field_in(alloc, row)?)?),
-        (Expr::Select(node), Call::AsInclude) => {
-            Ok(node.as_include(alloc, &names_in(alloc, row, "names")?)?)
-        }
+        (Expr::Pack(node), Call::PackedField) => packed_field(alloc, row, node),
+        (Expr::Select(node), Call::AsInclude) => included(alloc, row, node),
         _ => Err(CaseError::Expr(ExprError::WrongChildren)),
     }
+}
+
+/// The value of the field of a row in a pack.
+fn packed_field(alloc: Global, row: &Value, node: &PackExpr) -> Result<ExprRef, CaseError> {
+    Ok(node.field(&field_in(alloc, row)?)?)
+}
+
+/// A select with the names that it takes of those of a row listed.
+fn included(alloc: Global, row: &Value, node: &SelectExpr) -> Result<ExprRef, CaseError> {
+    Ok(node.as_include(alloc, &names_in(alloc, row, "names")?)?)
 }

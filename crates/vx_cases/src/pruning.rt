@@ -10,8 +10,8 @@ use vx_block_pruning::ruled_out;
 use vx_dtype::{DType, Mem};
 use vx_eval::{ExprEval, slots_fit};
 use vx_expr::{DisplayAs, ExprRef};
-use vx_prune::{checked_pruning_expr, field_path_stat_field_name, is_required};
-use vx_zones::ZoneMap;
+use vx_prune::{RequiredStats, checked_pruning_expr, field_path_stat_field_name, is_required};
+use vx_zones::{ZoneMap, ZoneStat};
 
 /// The pruning expression of the filter over the available statistics, or `-`.
 pub(crate) fn pruning(alloc: Global, case: &Opened) -> Mem<String> {
@@ -24,13 +24,18 @@ pub(crate) fn pruning(alloc: Global, case: &Opened) -> Mem<String> {
 
 /// The joined names of the statistics that the pruning expression needs, in the order of the statistics, each ended by `;`.
 pub(crate) fn required(alloc: Global, case: &Opened) -> Mem<String> {
-    let mut text = String::new(alloc);
     let available = case.zones.available(alloc)?;
-    let Some((_, required)) = checked_pruning_expr(alloc, &case.filter, &available)? else {
-        return Ok(text);
-    };
-    for stat in case.zones.stats() {
-        if is_required(&required, &stat.path, stat.stat) {
+    match checked_pruning_expr(alloc, &case.filter, &available)? {
+        Some((_pruning, required)) => required_names(alloc, case.zones.stats(), &required),
+        None => Ok(String::new(alloc)),
+    }
+}
+
+/// The joined names of those statistics that are required, each ended by `;`.
+fn required_names(alloc: Global, stats: &[ZoneStat], required: &RequiredStats) -> Mem<String> {
+    let mut text = String::new(alloc);
+    for stat in stats {
+        if is_required(required, &stat.path, stat.stat) {
             let name = field_path_stat_field_name(alloc, &stat.path, stat.stat)?;
             text.push_str(name.as_str())?;
             text.push_str(";")?;

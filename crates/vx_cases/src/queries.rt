@@ -43,11 +43,18 @@ pub(crate) fn written(alloc: Global, expr: &ExprRef) -> Mem<String> {
 /// A query, and behind it what is read where that isn't the expression.
 fn checked(alloc: Global, expr: &ExprRef, query: String) -> Mem<String> {
     match read_query(alloc, query.as_str()) {
-        Ok(other) if other == *expr => Ok(query),
-        Ok(other) => Ok(format!(in alloc; "{query}, read as {other}")?),
+        Ok(other) => compared(alloc, expr, query, &other),
         Err(TextError::NoMemory) => Err(NoMemory),
         Err(error) => Ok(format!(in alloc; "{query}, refused with {error}")?),
     }
+}
+
+/// A query, and behind it the expression that is read, where it is another one.
+fn compared(alloc: Global, expr: &ExprRef, query: String, read: &ExprRef) -> Mem<String> {
+    if *read == *expr {
+        return Ok(query);
+    }
+    Ok(format!(in alloc; "{query}, read as {read}")?)
 }
 
 /// The same of a comparison of an expression with a slot, exchanged.

@@ -6,8 +6,8 @@ use crate::opening::requested;
 use crate::tables::Case;
 use crate::untold_store::UntoldStore;
 use std::alloc::Global;
-use vx_display::row_text;
-use vx_dtype::{Mem, Scalar};
+use vx_display::push_row;
+use vx_dtype::{Mem, Scalar, WrongValue};
 use vx_request::ScanRequest;
 use vx_scan::{ColumnStore, MemoryStore, ReadEntry, ScanError, ScanReport, scan};
 use vx_wire::{ExprRegistry, ExprRegistryExt};
@@ -22,18 +22,27 @@ struct Stored {
 
 /// The rows and the reads of a scan, or the refusal of its request.
 pub(crate) fn scan_of(alloc: Global, case: &Case<'_>) -> Result<String, CaseError> {
-    let mut stored = match store_case(alloc, case, None) {
-        Ok(stored) => stored,
-        Err(CaseError::Request(error)) => return Ok(format!(in alloc; "{error:?}")?),
-        Err(error) => return Err(error),
-    };
-    let ended = scanned(
+    match store_case(alloc, case, None) {
+        Ok(stored) => Ok(scan_text(alloc, stored)?),
+        Err(CaseError::Request(error)) => Ok(format!(in alloc; "{error:?}")?),
+        Err(error) => Err(error),
+    }
+}
+
+/// The rows and the reads of a scan.
+fn scan_text(alloc: Global, mut stored: Stored) -> Mem<String> {
+    let ended = scan_stored(alloc, &mut stored);
+    ended_text(alloc, &ended, stored.store.log())
+}
+
+/// The scan of a store by the expressions that stand beside it.
+fn scan_stored(alloc: Global, stored: &mut Stored) -> Result<ScanReport, ScanError> {
+    scanned(
         alloc,
         &mut stored.store,
         stored.filter.as_slice(),
         stored.projection.as_slice(),
-    );
-    Ok(ended_text(alloc, &ended, stored.store.log())?)
+    )
 }
 
 /// The same over a store that doesn't tell its table.
@@ -52,15 +61,14 @@ pub(crate) fn scan_untold(alloc: Global, case: &Case<'_>) -> Result<String, Case
 /// How many reads a scan makes, where each of them, when it fails, is a store fault behind the reads before it.
 pub(crate) fn scan_failing(alloc: Global, case: &Case<'_>) -> Result<String, CaseError> {
     let mut whole = store_case(alloc, case, None)?;
-    if let Err(error) = scanned(
-        alloc,
-        &mut whole.store,
-        whole.filter.as_slice(),
-        whole.projection.as_slice(),
-    ) {
-        return Err(CaseError::Scan(error));
+    match scan_stored(alloc, &mut whole) {
+        Ok(_report) => failing_text(alloc, case, whole.store.log()),
+        Err(error) => Err(CaseError::Scan(error)),
     }
-    let reads = whole.store.log();
+}
+
+/// How many reads there are, where each of them, when it fails, is a store fault behind the reads before it.
+fn failing_text(alloc: Global, case: &Case<'_>, reads: &[ReadEntry]) -> Result<String, CaseError> {
     for i in 0..reads.len() {
         if !fails_at(alloc, case, reads, i)? {
             return Ok(format!(in alloc; "another end where read {} fails", i.saturating_add(1))?);
@@ -80,16 +88,19 @@ fn fails_at(
         return Ok(false);
     };
     let mut stored = store_case(alloc, case, Some(behind))?;
-    let ended = scanned(
-        alloc,
-        &mut stored.store,
-        stored.filter.as_slice(),
-        stored.projection.as_slice(),
-    );
-    let is_fault = matches!(&ended, Err(ScanError::StoreFault));
-    let is_logged = Some(stored.store.log()) == reads.get(..place);
-    let is_failed = stored.store.failed() == reads.get(place);
-    Ok(is_fault && is_logged && is_failed && stored.store.faults() == 1)
+    Ok(is_fault(alloc, &mut stored) && has_failed_at(&stored.store, reads, place))
+}
+
+/// Whether a scan ends by a store fault.
+fn is_fault(alloc: Global, stored: &mut Stored) -> bool {
+    matches!(scan_stored(alloc, stored), Err(ScanError::StoreFault))
+}
+
+/// Whether a store failed once, at the read with this place, behind the reads before it.
+fn has_failed_at(store: &MemoryStore, reads: &[ReadEntry], place: usize) -> bool {
+    let is_logged = Some(store.log()) == reads.get(..place);
+    let is_failed = store.failed() == reads.get(place);
+    is_logged && is_failed && store.faults() == 1
 }
 
 /// The table of a case as a store that fails at the read behind so many others, or at none.
@@ -157,14 +168,22 @@ fn report_text(alloc: Global, report: &ScanReport) -> Mem<String> {
     let mut text = String::from_str(alloc, "rows")?;
     for row in report.rows.as_slice() {
         text.push_str(" ")?;
-        match Scalar::try_new(report.dtype.clone()?, row.clone()?) {
-            Ok(row) => text.push_str(row_text(alloc, row.dtype(), row.value())?.as_str())?,
-            Err(_) => text.push_str("no value of its type")?,
-        }
+        push_value(
+            &mut text,
+            Scalar::try_new(report.dtype.clone()?, row.clone()?),
+        )?;
     }
     text.push_str(" / skipped")?;
     for block in report.skipped.as_slice() {
         text.push_str(format!(in alloc; " {block}")?.as_str())?;
     }
     Ok(text)
+}
+
+/// Adds a value, or that it is none of its type.
+fn push_value(text: &mut String, value: Result<Scalar, WrongValue>) -> Mem<()> {
+    match &value {
+        Ok(row) => push_row(text, row.dtype(), row.value()),
+        Err(_) => Ok(text.push_str("no value of its type")?),
+    }
 }

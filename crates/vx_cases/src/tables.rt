@@ -51,9 +51,19 @@ fn try_case(
         over: case.get("over").and_then(Value::as_str),
         query: case.get("query").and_then(Value::as_str).unwrap_or(""),
     };
+    try_answers(alloc, &opened, case, tried)
+}
+
+/// Tries each answer that the words of a case hold.
+fn try_answers(
+    alloc: Global,
+    opened: &Case<'_>,
+    case: &Value,
+    tried: &mut Tried,
+) -> Result<(), CaseError> {
     for (name, subject) in SUBJECTS {
         if let Some(want) = case.get(name).and_then(Value::as_str) {
-            try_answer(alloc, &opened, name, subject, want, tried)?;
+            try_answer(alloc, opened, name, subject, want, tried)?;
         }
     }
     Ok(())
@@ -83,14 +93,13 @@ fn request_of(alloc: Global, group: &Value, case: &Value) -> Mem<String> {
     if let Some(input) = case.get("input").and_then(Value::as_str) {
         return Ok(String::from_str(alloc, input)?);
     }
-    let columns = member_text(alloc, group, "columns")?;
-    let blocks = member_text(alloc, group, "blocks")?;
-    let stats = member_text(alloc, group, "stats")?;
-    let filter = member_text(alloc, case, "filter")?;
-    let projection = member_text(alloc, case, "projection")?;
-    let text = format!(in alloc;
-        "{{\"columns\":{columns},\"blocks\":{blocks},\"stats\":{stats},\"filter\":{filter},\"projection\":{projection}}}"
-    )?;
+    let mut text = String::new(alloc);
+    push_member(alloc, &mut text, "{\"columns\":", group.get("columns"))?;
+    push_member(alloc, &mut text, ",\"blocks\":", group.get("blocks"))?;
+    push_member(alloc, &mut text, ",\"stats\":", group.get("stats"))?;
+    push_member(alloc, &mut text, ",\"filter\":", case.get("filter"))?;
+    push_member(alloc, &mut text, ",\"projection\":", case.get("projection"))?;
+    text.push_str("}")?;
     Ok(text)
 }
 
@@ -103,12 +112,14 @@ fn words_of(alloc: Global, case: &Value) -> Mem<Vec<String>> {
     Ok(words)
 }
 
-/// The text of a member of an object, `null` where it is missing.
-fn member_text(alloc: Global, object: &Value, name: &str) -> Mem<String> {
-    match object.get(name) {
-        Some(value) => Ok(value.to_string(alloc)?),
-        None => Ok(String::from_str(alloc, "null")?),
+/// Adds what stands before a member, and its text, `null` where it is missing.
+fn push_member(alloc: Global, text: &mut String, before: &str, member: Option<&Value>) -> Mem<()> {
+    text.push_str(before)?;
+    match member {
+        Some(value) => text.push_str(value.to_string(alloc)?.as_str())?,
+        None => text.push_str("null")?,
     }
+    Ok(())
 }
 
 /// The elements of a list, none where it is no list.

@@ -84,14 +84,24 @@ pub(crate) fn answer(alloc: Global, row: &Value) -> Result<String, CaseError> {
 fn answer_to(alloc: Global, row: &Value, call: Call) -> Result<String, CaseError> {
     match call {
         Call::AreDistinct | Call::IsAmong | Call::Names | Call::Path | Call::PathSet => {
-            Ok(of_names(alloc, names_in(alloc, row, "names")?, call)?)
+            names_text(alloc, row, call)
         }
         Call::Scalar | Call::Row | Call::List | Call::Struct | Call::Utf8 => {
-            scalar_text(alloc, scalar_of(alloc, row, call)?, call)
+            scalar_text(alloc, &scalar_of(alloc, row, call)?, call)
         }
         Call::Projected => projected(alloc, row),
-        _ => Ok(of_type(alloc, type_in(alloc, row)?, call)?),
+        _ => type_text(alloc, row, call),
     }
+}
+
+/// The answer to a call on the names of a row.
+fn names_text(alloc: Global, row: &Value, call: Call) -> Result<String, CaseError> {
+    Ok(of_names(alloc, &names_in(alloc, row, "names")?, call)?)
+}
+
+/// The answer to a call on the type of a row.
+fn type_text(alloc: Global, row: &Value, call: Call) -> Result<String, CaseError> {
+    Ok(of_type(alloc, &type_in(alloc, row)?, call)?)
 }
 
 /// The names that a member lists.
@@ -131,18 +141,19 @@ fn scalars_in(alloc: Global, row: &Value) -> Result<Vec<Scalar>, CaseError> {
 }
 
 /// The answer to a call on names.
-fn of_names(alloc: Global, names: FieldNames, call: Call) -> Mem<String> {
-    let text = match call {
-        Call::AreDistinct => {
-            let distinct = FieldName::are_distinct(alloc, names.as_slice())?;
-            format!(in alloc; "{distinct}")?
-        }
-        Call::IsAmong => format!(in alloc; "{}", is_among(names.as_slice()))?,
-        Call::Path => path_text(alloc, names.as_slice())?,
-        Call::PathSet => new_paths(alloc, names.as_slice())?,
-        _ => format!(in alloc; "{}", DisplayFieldNames(&names))?,
-    };
-    Ok(text)
+fn of_names(alloc: Global, names: &FieldNames, call: Call) -> Mem<String> {
+    match call {
+        Call::AreDistinct => truth_text(alloc, FieldName::are_distinct(alloc, names.as_slice())?),
+        Call::IsAmong => truth_text(alloc, is_among(names.as_slice())),
+        Call::Path => path_text(alloc, names.as_slice()),
+        Call::PathSet => new_paths(alloc, names.as_slice()),
+        _ => Ok(format!(in alloc; "{}", DisplayFieldNames(names))?),
+    }
+}
+
+/// A truth as a text.
+fn truth_text(alloc: Global, truth: bool) -> Mem<String> {
+    Ok(format!(in alloc; "{truth}")?)
 }
 
 /// Whether the first name stands among the others.
@@ -155,10 +166,20 @@ fn is_among(names: &[FieldName]) -> bool {
 
 /// The parts of the path of the names, each ended by `;`.
 fn path_text(alloc: Global, names: &[FieldName]) -> Mem<String> {
+    parts_text(alloc, &path_of(alloc, names)?)
+}
+
+/// The path of the names.
+fn path_of(alloc: Global, names: &[FieldName]) -> Mem<FieldPath> {
     let mut path = FieldPath::root(alloc);
     for name in names {
         path = path.push(alloc, name.clone()?)?;
     }
+    Ok(path)
+}
+
+/// The parts of a path, each ended by `;`.
+fn parts_text(alloc: Global, path: &FieldPath) -> Mem<String> {
     let mut text = String::new(alloc);
     for Field::Name(part) in path.parts() {
         text.push_str(part.as_str())?;
@@ -172,55 +193,70 @@ fn new_paths(alloc: Global, names: &[FieldName]) -> Mem<String> {
     let mut paths = FieldPathSet::new(alloc);
     let mut text = String::new(alloc);
     for name in names {
-        let path = FieldPath::from_name(alloc, name.clone()?)?;
-        let is_new = paths.insert(path.clone()?)?;
+        let is_new = is_new(alloc, &mut paths, name)?;
         text.push_str(if is_new { "new;" } else { "old;" })?;
     }
     Ok(format!(in alloc; "{text}{}", paths.len())?)
 }
 
+/// Whether the path of a name is new in a set, which then holds it.
+fn is_new(alloc: Global, paths: &mut FieldPathSet, name: &FieldName) -> Mem<bool> {
+    let path = FieldPath::from_name(alloc, name.clone()?)?;
+    paths.insert(path.clone()?)
+}
+
 /// The answer to a call on a type.
-fn of_type(alloc: Global, dtype: DType, call: Call) -> Mem<String> {
-    let text = match call {
-        Call::WithNull => {
-            let wide = dtype.union_nullability(Nullability::Nullable)?;
-            format!(in alloc; "{wide}")?
-        }
+fn of_type(alloc: Global, dtype: &DType, call: Call) -> Mem<String> {
+    match call {
+        Call::WithNull => plain_text(alloc, &dtype.union_nullability(Nullability::Nullable)?),
         Call::WithoutNull => {
-            let narrow = dtype.with_nullability(Nullability::NonNullable)?;
-            format!(in alloc; "{narrow}")?
+            plain_text(alloc, &dtype.with_nullability(Nullability::NonNullable)?)
         }
-        Call::Depth => format!(in alloc; "{}", dtype.depth())?,
-        Call::IsDistinct => format!(in alloc; "{}", dtype.has_distinct_names(alloc)?)?,
-        Call::FieldsAreDistinct => fields_are_distinct(alloc, dtype.as_struct_fields_opt())?,
-        _ => format!(in alloc; "{dtype}")?,
-    };
-    Ok(text)
+        Call::Depth => Ok(format!(in alloc; "{}", dtype.depth())?),
+        Call::IsDistinct => truth_text(alloc, dtype.has_distinct_names(alloc)?),
+        Call::FieldsAreDistinct => fields_are_distinct(alloc, dtype.as_struct_fields_opt()),
+        _ => plain_text(alloc, dtype),
+    }
+}
+
+/// A type as a text.
+fn plain_text(alloc: Global, dtype: &DType) -> Mem<String> {
+    Ok(format!(in alloc; "{dtype}")?)
 }
 
 /// Whether no name stands twice among fields, nor below.
 fn fields_are_distinct(alloc: Global, fields: Option<&StructFields>) -> Mem<String> {
     match fields {
-        Some(fields) => Ok(format!(in alloc; "{}", fields.has_distinct_names(alloc)?)?),
+        Some(fields) => truth_text(alloc, fields.has_distinct_names(alloc)?),
         None => Ok(String::from_str(alloc, "no struct")?),
     }
 }
 
 /// The struct of the type's fields of the names, or the refusal.
 fn projected(alloc: Global, row: &Value) -> Result<String, CaseError> {
-    let names = names_in(alloc, row, "names")?;
     let dtype = type_in(alloc, row)?;
-    let Some(fields) = dtype.as_struct_fields_opt() else {
-        return Ok(String::from_str(alloc, "no struct")?);
-    };
+    match dtype.as_struct_fields_opt() {
+        Some(fields) => fields_text(alloc, fields, &names_in(alloc, row, "names")?),
+        None => Ok(String::from_str(alloc, "no struct")?),
+    }
+}
+
+/// The struct of those fields that have one of the names, or the refusal.
+fn fields_text(
+    alloc: Global,
+    fields: &StructFields,
+    names: &FieldNames,
+) -> Result<String, CaseError> {
     match fields.project(alloc, names.as_slice()) {
-        Ok(fields) => {
-            let made = DType::Struct(fields, Nullability::NonNullable);
-            Ok(format!(in alloc; "{made}")?)
-        }
+        Ok(fields) => Ok(struct_text(alloc, fields)?),
         Err(FieldsError::NoMemory) => Err(CaseError::NoMemory),
         Err(error) => Ok(format!(in alloc; "{error}")?),
     }
+}
+
+/// The struct of fields as a text.
+fn struct_text(alloc: Global, fields: StructFields) -> Mem<String> {
+    plain_text(alloc, &DType::Struct(fields, Nullability::NonNullable))
 }
 
 /// The scalar that a call is on, or that it makes.
@@ -229,29 +265,34 @@ fn scalar_of(
     row: &Value,
     call: Call,
 ) -> Result<Result<Scalar, ScalarError>, CaseError> {
+    match call {
+        Call::List | Call::Struct => nested(alloc, row, call),
+        Call::Utf8 => {
+            let text = Scalar::utf8(alloc, text_in(row, "text"), Nullability::NonNullable)?;
+            Ok(Ok(text))
+        }
+        _ => Ok(Ok(scalar_in(alloc, text_in(row, "scalar"))?)),
+    }
+}
+
+/// The list or the struct of the scalars of a row.
+fn nested(
+    alloc: Global,
+    row: &Value,
+    call: Call,
+) -> Result<Result<Scalar, ScalarError>, CaseError> {
+    let dtype = type_in(alloc, row)?;
+    let items = scalars_in(alloc, row)?;
     Ok(match call {
-        Call::List => {
-            let element = type_in(alloc, row)?;
-            Scalar::list(
-                alloc,
-                element,
-                scalars_in(alloc, row)?,
-                Nullability::NonNullable,
-            )
-        }
-        Call::Struct => {
-            let dtype = type_in(alloc, row)?;
-            Scalar::struct_(alloc, dtype, scalars_in(alloc, row)?)
-        }
-        Call::Utf8 => Ok(Scalar::utf8(alloc, text_in(row, "text"), Nullability::NonNullable)?),
-        _ => Ok(scalar_in(alloc, text_in(row, "scalar"))?),
+        Call::List => Scalar::list(alloc, dtype, items, Nullability::NonNullable),
+        _ => Scalar::struct_(alloc, dtype, items),
     })
 }
 
 /// A scalar as a text or as a row, or the name of its refusal.
 fn scalar_text(
     alloc: Global,
-    made: Result<Scalar, ScalarError>,
+    made: &Result<Scalar, ScalarError>,
     call: Call,
 ) -> Result<String, CaseError> {
     match (made, call) {

@@ -1,5 +1,8 @@
 // Calls on wire texts. What is read is written again, and the answer tells what is written: the digits of a field, or that a whole text differs.
 ghost use Rattle.std.specs.Prelude.{◌≤◌, length};
+ghost use Rattle.vx_dtype.specs.TypeViews.{type_view};
+ghost use Rattle.vx_wire_bytes.specs.Fields.{IsShort};
+ghost use Rattle.vx_wire_bytes.specs.TypeForms.{IsType};
 
 use crate::answers::bytes_of;
 use crate::errors::CaseError;
@@ -7,7 +10,7 @@ use crate::rows::{list_in, text_in};
 use serde_json::Value;
 use std::alloc::Global;
 use vx_display::row_text;
-use vx_dtype::{DType, Mem};
+use vx_dtype::{DType, Mem, Text};
 use vx_expr::{DisplayAs, ExprRef};
 use vx_text::{TextError, read_query};
 use vx_wire::{
@@ -29,7 +32,12 @@ struct ReadField {
 /// The answer to the call of a row, as a text: the name of the refusal where it refuses.
 pub(crate) fn answer(alloc: Global, row: &Value) -> Result<String, CaseError> {
     let bytes = bytes_in(alloc, row, "bytes")?;
-    match answer_or_refusal(alloc, row, bytes.as_slice()) {
+    answer_on_bytes(alloc, row, bytes.as_slice())
+}
+
+/// The answer to the call of a row on bytes, or the name of the refusal.
+fn answer_on_bytes(alloc: Global, row: &Value, bytes: &[u8]) -> Result<String, CaseError> {
+    match answer_or_refusal(alloc, row, bytes) {
         Ok(text) => Ok(text),
         Err(CaseError::NoMemory) => Err(CaseError::NoMemory),
         Err(refusal) => Ok(format!(in alloc; "{refusal}")?),
@@ -55,13 +63,16 @@ fn field(alloc: Global, row: &Value, bytes: &[u8]) -> Result<String, CaseError> 
     if at > bytes.len() {
         return Ok(String::from_str(alloc, "not asked")?);
     }
-    match field_at(alloc, row, bytes, at)? {
-        Some(field) => {
-            let written = hex::encode(alloc, field.written.as_slice())?;
-            Ok(format!(in alloc; "{} to {} as {written}", field.text, field.after)?)
-        }
-        None => Ok(String::from_str(alloc, "None")?),
-    }
+    Ok(field_text(alloc, &field_at(alloc, row, bytes, at)?)?)
+}
+
+/// What a field holds, the place after it, and the digits of what it is written as.
+fn field_text(alloc: Global, field: &Option<ReadField>) -> Mem<String> {
+    let Some(field) = field else {
+        return Ok(String::from_str(alloc, "None")?);
+    };
+    let written = hex::encode(alloc, field.written.as_slice())?;
+    Ok(format!(in alloc; "{} to {} as {written}", field.text, field.after)?)
 }
 
 /// The field that the call of a row reads at a place.
@@ -88,46 +99,65 @@ fn number_at(alloc: Global, bytes: &[u8], at: usize) -> Mem<Option<ReadField>>
     let Some((number, after)) = read_number(bytes, at) else {
         return Ok(None);
     };
-    let text = format!(in alloc; "{number}")?;
+    Ok(Some(number_field(alloc, number, after)?))
+}
+
+/// The field of a number.
+fn number_field(alloc: Global, number: u32, after: usize) -> Mem<ReadField> {
     let mut written = Vec::new(alloc);
     write_number(&mut written, number)?;
-    Ok(Some(ReadField {
+    let text = format!(in alloc; "{number}")?;
+    Ok(ReadField {
         text,
         after,
         written,
-    }))
+    })
 }
 
 /// The text at a place.
 fn text_at(alloc: Global, bytes: &[u8], at: usize) -> Mem<Option<ReadField>>
     requires { at ≤ length bytes.now }
 {
-    let Some((read, after)) = read_text(alloc, bytes, at)? else {
-        return Ok(None);
-    };
-    let text = String::from_str(alloc, read.as_str())?;
+    match read_text(alloc, bytes, at)? {
+        Some((read, after)) => Ok(Some(text_field(alloc, &read, after)?)),
+        None => Ok(None),
+    }
+}
+
+/// The field of a text.
+fn text_field(alloc: Global, read: &Text, after: usize) -> Mem<ReadField>
+    requires { IsShort read.now }
+{
     let mut written = Vec::new(alloc);
-    write_text(&mut written, &read)?;
-    Ok(Some(ReadField {
+    write_text(&mut written, read)?;
+    let text = String::from_str(alloc, read.as_str())?;
+    Ok(ReadField {
         text,
         after,
         written,
-    }))
+    })
 }
 
 /// The type at a place, if its names are short.
 fn type_at(alloc: Global, bytes: &[u8], at: usize) -> Mem<Option<ReadField>>
     requires { at ≤ length bytes.now }
 {
-    let Some((dtype, after)) = read_type(alloc, bytes, at)? else {
-        return Ok(None);
-    };
-    if !has_short_names(&dtype) {
+    match read_type(alloc, bytes, at)? {
+        Some((dtype, after)) => type_field(alloc, &dtype, after),
+        None => Ok(None),
+    }
+}
+
+/// The field of a type, if its names are short.
+fn type_field(alloc: Global, dtype: &DType, after: usize) -> Mem<Option<ReadField>>
+    requires { IsType (type_view dtype.now) }
+{
+    if !has_short_names(dtype) {
         return Ok(None);
     }
-    let text = format!(in alloc; "{dtype}")?;
     let mut written = Vec::new(alloc);
-    write_type(&mut written, &dtype)?;
+    write_type(&mut written, dtype)?;
+    let text = format!(in alloc; "{dtype}")?;
     Ok(Some(ReadField {
         text,
         after,
@@ -145,8 +175,20 @@ fn asked_value_at(
     requires { at ≤ length bytes.now }
 {
     let spelled = bytes_in(alloc, row, "type")?;
-    match read_type(alloc, spelled.as_slice(), 0)? {
-        Some((dtype, _)) => Ok(value_at(alloc, &dtype, bytes, at)?),
+    Ok(spelled_value_at(alloc, spelled.as_slice(), bytes, at)?)
+}
+
+/// The value at a place, of the type that bytes spell.
+fn spelled_value_at(
+    alloc: Global,
+    spelled: &[u8],
+    bytes: &[u8],
+    at: usize,
+) -> Mem<Option<ReadField>>
+    requires { at ≤ length bytes.now }
+{
+    match read_type(alloc, spelled, 0)? {
+        Some((dtype, _)) => value_at(alloc, &dtype, bytes, at),
         None => Ok(None),
     }
 }
@@ -161,9 +203,9 @@ fn value_at(alloc: Global, dtype: &DType, bytes: &[u8], at: usize) -> Mem<Option
     if !has_short_texts(&value) {
         return Ok(None);
     }
-    let text = row_text(alloc, dtype, &value)?;
     let mut written = Vec::new(alloc);
     write_value(&mut written, dtype, &value)?;
+    let text = row_text(alloc, dtype, &value)?;
     Ok(Some(ReadField {
         text,
         after,
@@ -184,28 +226,37 @@ fn bytes_in(alloc: Global, row: &Value, name: &str) -> Result<Vec<u8>, CaseError
 }
 
 /// A text, and behind it the bytes that are written, where they are other bytes than those that were read.
-fn again(alloc: Global, text: String, read: &[u8], written: Vec<u8>) -> Mem<String> {
-    if written.as_slice() == read {
+fn again(alloc: Global, text: String, read: &[u8], written: &[u8]) -> Mem<String> {
+    if written == read {
         return Ok(text);
     }
-    let written = hex::encode(alloc, written.as_slice())?;
-    Ok(format!(in alloc; "{text}, written as {written}")?)
+    let digits = hex::encode(alloc, written)?;
+    Ok(format!(in alloc; "{text}, written as {digits}")?)
 }
 
 /// The outermost node of a tree: its id, its metadata and how many children it has.
 fn tree(alloc: Global, bytes: &[u8]) -> Result<String, CaseError> {
     let tree = read_tree(alloc, bytes)?;
+    let written = write_tree(alloc, &tree)?;
+    Ok(again(alloc, node_text(alloc, &tree)?, bytes, written.as_slice())?)
+}
+
+/// The id of a node, its metadata and how many children it has.
+fn node_text(alloc: Global, tree: &WireTree) -> Mem<String> {
     let metadata = hex::encode(alloc, tree.metadata.as_slice())?;
-    let text = format!(in alloc; "{}:{metadata}:{}", tree.id.as_str(), tree.children.len())?;
-    Ok(again(alloc, text, bytes, write_tree(alloc, &tree)?)?)
+    Ok(format!(in alloc; "{}:{metadata}:{}", tree.id.as_str(), tree.children.len())?)
+}
+
+/// Whether the text of a row spells the tree that bytes spell.
+fn same_tree(alloc: Global, row: &Value, bytes: &[u8]) -> Result<String, CaseError> {
+    let other = bytes_in(alloc, row, "other")?;
+    let is_same = are_same(alloc, bytes, other.as_slice())?;
+    Ok(format!(in alloc; "{is_same}")?)
 }
 
 /// Whether two texts spell equal trees.
-fn same_tree(alloc: Global, row: &Value, bytes: &[u8]) -> Result<String, CaseError> {
-    let other = bytes_in(alloc, row, "other")?;
-    let left = read_tree(alloc, bytes)?;
-    let right = read_tree(alloc, other.as_slice())?;
-    Ok(format!(in alloc; "{}", left == right)?)
+fn are_same(alloc: Global, left: &[u8], right: &[u8]) -> Result<bool, CaseError> {
+    Ok(read_tree(alloc, left)? == read_tree(alloc, right)?)
 }
 
 /// The kind of a name in the registry that is used where none is given.
@@ -218,25 +269,38 @@ fn kind(alloc: Global, name: &str) -> Mem<String> {
 
 /// The compact text of the expression that bytes spell.
 fn deserialized(alloc: Global, bytes: &[u8]) -> Result<String, CaseError> {
+    expression(alloc, &spelled(alloc, bytes)?, bytes)
+}
+
+/// The expression that bytes spell.
+fn spelled(alloc: Global, bytes: &[u8]) -> Result<ExprRef, CaseError> {
     let tree = read_tree(alloc, bytes)?;
-    let expr = deserialize_expr_proto(alloc, &tree, &ExprRegistry::default())?;
-    expression(alloc, expr, bytes)
+    Ok(deserialize_expr_proto(alloc, &tree, &ExprRegistry::default())?)
 }
 
 /// The compact text of the expression that the kind of the outermost node builds, dynamic comparisons among the kinds.
 fn built(alloc: Global, bytes: &[u8]) -> Result<String, CaseError> {
-    let (id, metadata, children) = read_tree(alloc, bytes)?.into_parts();
-    let children = expressions(alloc, children)?;
-    let mut registry = ExprRegistry::default();
-    registry.register(ExprEncoding::Dynamic);
-    match registry.get(id.as_str()) {
-        Some(kind) => expression(
-            alloc,
-            kind.build(alloc, metadata.as_slice(), children)?,
-            bytes,
-        ),
+    match built_of(alloc, read_tree(alloc, bytes)?)? {
+        Some(expr) => expression(alloc, &expr, bytes),
         None => Ok(String::from_str(alloc, "None")?),
     }
+}
+
+/// The expression that the kind of the outermost node builds, if it is one.
+fn built_of(alloc: Global, tree: WireTree) -> Result<Option<ExprRef>, CaseError> {
+    let (id, metadata, children) = tree.into_parts();
+    let children = expressions(alloc, children)?;
+    match kind_of(id.as_str()) {
+        Some(kind) => Ok(Some(kind.build(alloc, metadata.as_slice(), children)?)),
+        None => Ok(None),
+    }
+}
+
+/// The kind of a name, dynamic comparisons among the kinds.
+fn kind_of(name: &str) -> Option<ExprEncoding> {
+    let mut registry = ExprRegistry::default();
+    registry.register(ExprEncoding::Dynamic);
+    registry.get(name)
 }
 
 /// The expressions of trees.
@@ -250,9 +314,9 @@ fn expressions(alloc: Global, trees: Vec<WireTree>) -> Result<Vec<ExprRef>, Case
 }
 
 /// The compact text of an expression that bytes spell.
-fn expression(alloc: Global, expr: ExprRef, bytes: &[u8]) -> Result<String, CaseError> {
+fn expression(alloc: Global, expr: &ExprRef, bytes: &[u8]) -> Result<String, CaseError> {
     let written = write_tree(alloc, &expr.serialize_proto(alloc)?)?;
-    Ok(again(alloc, expr.compact(alloc)?, bytes, written)?)
+    Ok(again(alloc, expr.compact(alloc)?, bytes, written.as_slice())?)
 }
 
 /// The digits of the bytes that the expression of a query is written as.
