@@ -22,7 +22,7 @@ use Rattle.vx_tokens.specs.declared.tokens.Keyword.TheVariants as words
 use Rattle.vx_tokens.specs.declared.tokens.Sign.TheVariants as signs
 use Rattle.vx_tokens.specs.declared.tokens.Token.{Token}
 use Rattle.vx_tokens.specs.declared.tokens.Token.TheVariants.{Reserved, Word, Quoted, Quote, Number, Mark}
-use Rattle.vx_tokens.specs.Tokens.{integer_named}
+use Rattle.vx_dtype.specs.Texts.{integer_named}
 use Rattle.vx_tokens.specs.Numbers.{integer_of}
 use Rattle.vx_text.specs.NamedExpressions.{Named, Arguments, binary_of, constant, constant_of, bounds, integer_type, number_literal, bool_literal, text_literal, call_tree, takes, and_one, and_argument, called_with, call_of, with_name, pack_of}
 use Rattle.vx_text.specs.Grammar.{most_tokens, and_field, struct_type, plain_type, list_item, struct_item, field_of, included, excluded, column}

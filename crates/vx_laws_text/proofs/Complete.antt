@@ -11,7 +11,8 @@ use Rattle.vx_tokens.specs.declared.tokens.Sign.{Sign}
 use Rattle.vx_tokens.specs.declared.tokens.Sign.TheVariants as signs
 use Rattle.vx_tokens.specs.declared.tokens.Token.{Token}
 use Rattle.vx_tokens.specs.declared.tokens.Token.TheVariants.{Word, Mark}
-use Rattle.vx_tokens.specs.Tokens.{◌>>=◌, integer_named}
+use Rattle.vx_dtype.specs.Texts.{integer_named}
+use Rattle.vx_tokens.specs.Tokens.{◌>>=◌}
 use Rattle.vx_text.specs.NamedExpressions.{and_one}
 use Rattle.vx_text.specs.Grammar.{Read, after, choose, closed, more_parts, parts, and_then, name_at, names_at, labelled, and_field, struct_type, list_with, plain_type, base_with, marked, type_with, type_at, type_front, list_item, struct_item, item_with, item_at, item_front}
 use Rattle.vx_laws_text.specs.Productions.{gathered, IsName, word_name, quoted_name, AreNames, no_names, one_name, more_names, IsType, plain_base, null_base, IsBase, named_base, list_base, struct_base, AreFields, no_fields, one_field, more_fields, IsItem, null_item, true_item, false_item, number_item, minus_item, text_item, square_item, curly_item, AreItems, no_items, one_item, more_items}

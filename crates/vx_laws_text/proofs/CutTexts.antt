@@ -11,7 +11,7 @@ use Rattle.vx_dtype.specs.declared.Nullability.TheVariants.{NonNullable, Nullabl
 use Rattle.vx_dtype.specs.Types.{Bytes, Ty, bool_ty, int_ty, text_ty, list_ty, struct_ty, Fields, no_fields, field}
 use Rattle.vx_dtype.specs.Values.{Raw, raw_null, raw_bool, raw_int, raw_text, raw_list, raw_struct, Raws, no_raws, raw, Typed}
 use Rattle.vx_dtype.specs.Fits.{fits}
-use Rattle.vx_dtype.specs.Texts.{nullability_text, ptype_text}
+use Rattle.vx_dtype.specs.Texts.{nullability_text, ptype_text, integer_named}
 use Rattle.vx_dtype.specs.ScalarTexts.{number_suffix}
 use Rattle.vx_expr.specs.declared.operators.Operator.{Operator}
 use Rattle.vx_expr.specs.declared.selections.FieldSelection.{FieldSelection}
@@ -24,7 +24,7 @@ use Rattle.vx_tokens.specs.declared.tokens.Keyword.TheVariants as words
 use Rattle.vx_tokens.specs.declared.tokens.Sign.TheVariants as signs
 use Rattle.vx_tokens.specs.declared.tokens.Token.{Token}
 use Rattle.vx_tokens.specs.declared.tokens.Token.TheVariants.{Reserved, Word, Number, Mark}
-use Rattle.vx_tokens.specs.Tokens.{token_at, run_of, keyword_of, one_sign, integer_named}
+use Rattle.vx_tokens.specs.Tokens.{token_at, run_of, keyword_of, one_sign}
 use Rattle.vx_tokens.specs.Names.{is_word, name_text, names_text}
 use Rattle.vx_text.specs.Writing.{is_bare, choice_text, type_text, labels_text, item_text, items_text, literal_text, like_word, range_word, between_word, pack_word, merge_word, query_text, listed_texts, named_texts}
 use Rattle.vx_laws_text.specs.WrittenTokens.{name_tokens, choice_tokens, nullability_tokens, type_tokens, label_tokens, number_tokens, truth_token, item_tokens, items_tokens, bare_tokens, literal_tokens, operator_token, like_keyword, range_keyword, pack_keyword, merge_keyword, query_tokens, listed_tokens, named_tokens}

@@ -10,13 +10,13 @@ use Rattle.std.proofs.lemmas.Slice.Eq.{bytes_eq-Decides}
 use Rattle.vx_dtype.specs.declared.PType.{PType}
 use Rattle.vx_dtype.specs.declared.PType.TheVariants.{U8, U16, U32, U64, I8, I16, I32, I64}
 use Rattle.vx_dtype.specs.Types.{Bytes}
-use Rattle.vx_dtype.specs.Texts.{ptype_text}
+use Rattle.vx_dtype.specs.Texts.{ptype_text, integer_named}
 use Rattle.vx_tokens.specs.declared.tokens.Keyword.{Keyword}
 use Rattle.vx_tokens.specs.declared.tokens.Sign.{Sign}
 use Rattle.vx_tokens.specs.declared.tokens.Sign.TheVariants as signs
 use Rattle.vx_tokens.specs.declared.tokens.Token.{Token}
 use Rattle.vx_tokens.specs.declared.tokens.Token.TheVariants.{Reserved, Word, Quoted, Quote, Number, Mark}
-use Rattle.vx_tokens.specs.Tokens.{◌>>=◌, is_first, is_digit, is_inner, before, run_of, keyword_of, word_or, word_token, integer_named, suffix_of, is_number, number_behind, quoted_run, two_signs, bracket_of, stop_of, operation_of, one_sign, longer_sign, sign_at, word_behind, quoted_behind, name_behind, text_behind, marked_at, token_at}
+use Rattle.vx_tokens.specs.Tokens.{◌>>=◌, is_first, is_digit, is_inner, before, run_of, keyword_of, word_or, word_token, suffix_of, is_number, number_behind, quoted_run, two_signs, bracket_of, stop_of, operation_of, one_sign, longer_sign, sign_at, word_behind, quoted_behind, name_behind, text_behind, marked_at, token_at}
 use Rattle.vx_tokens.specs.Names.{doubled, within_marks, is_word}
 use Rattle.vx_laws_text.specs.Longest.{sign_text, suffix_text, goes_on, SpellsToken, Stands, TokenStands, NoLongerStands}
 use Rattle.vx_laws_text.proofs.Cutting.{begins}

@@ -6,13 +6,13 @@ use Rattle.vx_dtype.specs.declared.Nullability.{Nullability}
 use Rattle.vx_dtype.specs.declared.Nullability.TheVariants.{NonNullable, Nullable}
 use Rattle.vx_dtype.specs.Types.{Bytes, Ty, bool_ty, int_ty, text_ty, list_ty, struct_ty, Fields, no_fields, field}
 use Rattle.vx_dtype.specs.TypeRules.{with_nullability}
-use Rattle.vx_dtype.specs.Texts.{ptype_text}
+use Rattle.vx_dtype.specs.Texts.{ptype_text, integer_named}
 use Rattle.vx_dtype.specs.Zipped.{zipped}
 use Rattle.vx_tokens.specs.declared.tokens.Sign.{Sign}
 use Rattle.vx_tokens.specs.declared.tokens.Sign.TheVariants as signs
 use Rattle.vx_tokens.specs.declared.tokens.Token.{Token}
 use Rattle.vx_tokens.specs.declared.tokens.Token.TheVariants.{Word, Mark}
-use Rattle.vx_tokens.specs.Tokens.{◌>>=◌, integer_named}
+use Rattle.vx_tokens.specs.Tokens.{◌>>=◌}
 use Rattle.vx_text.specs.Grammar.{Read, after, choose, closed, more_parts, parts, and_field, labelled, struct_type, plain_type, base_with, marked, type_with, type_at, type_front}
 use Rattle.vx_laws_text.specs.WrittenTokens.{name_token, nullability_tokens, type_tokens, label_tokens}
 use Rattle.vx_laws_text.proofs.Sizes.{type_size, labels_size}
