@@ -1,0 +1,9 @@
+pub mod Layouts
+pub mod LayoutCodes
+pub mod OpenAnswers
+pub mod ColumnAnswers
+pub use Rattle.vx_file_ranges.specs.Places
+pub use Rattle.vx_laws_file.specs.Opening
+pub use Rattle.vx_laws_file.specs.FileReading
+pub use Rattle.vx_laws_file.specs.Ranges
+pub use Rattle.vx_laws_file.specs.HeldTables
