@@ -1,19 +1,19 @@
 -- The mark, the number and the header at the front of a source, read piece by piece.
-use Rattle.std.proofs.Common.{◌≡◌, ◌≢◌, refl, sym, ap, ◌∙◌, subst, append_assoc, ℕ, zero, suc, ◌+◌, ◌-◌, ◌<◌, ◌≤◌, ◌^◌, Bool, true, Option, Some, None, List, [], ◌∷◌, ◌++◌, length, take, drop, arith, length-append}
+use Rattle.std.proofs.Common.{◌≡◌, refl, sym, ap, ◌∙◌, subst, append_assoc, ℕ, suc, ◌+◌, ◌-◌, ◌<◌, ◌^◌, Bool, Option, Some, None, [], ◌∷◌, ◌++◌, length, take, drop, arith, length-append}
 use Rattle.std.specs.Prelude.{Decides}
 use Rattle.std.specs.Str.{bytes_eq}
 use Rattle.std.proofs.lemmas.Slice.Eq.{bytes_eq-Decides}
 use Rattle.std.proofs.lemmas.List.{take_at, drop_at, drop-drop, take-append-drop}
 use Rattle.vx_dtype.specs.Types.{Bytes}
-use Rattle.vx_wire_bytes.specs.Fields.{IsNumber, IsShort, Stands, IsFieldAt}
+use Rattle.vx_wire_bytes.specs.Fields.{IsNumber, IsFieldAt}
 use Rattle.vx_wire_bytes.specs.Numbers.{number_bytes, piece_bytes}
 use Rattle.vx_wire.proofs.FieldLemmas.{number_free}
-use Rattle.vx_laws_file.specs.FileForms.{mark, Header, header_bytes, IsHeader, front_bytes}
+use Rattle.vx_laws_file.specs.FileForms.{mark, Header, header_bytes}
 use Rattle.vx_laws_file.specs.Opening.{HasMark, HasHeader}
 use Rattle.vx_file_bytes.specs.ReadingAnswers.{IsHeaderRead}
 use Rattle.vx_file_ranges.specs.Places.{IsPieceAt}
-use Rattle.vx_file_open.specs.Layouts.{front_length, WhereBytes}
-use Rattle.vx_file_open.specs.OpenAnswers.{IsNumberAt, IsNumberFound, NumberStands, IsFront, IsFrontFound, FrontStands}
+use Rattle.vx_file_open.specs.Layouts.{WhereBytes}
+use Rattle.vx_file_open.specs.OpenAnswers.{IsNumberAt, IsNumberFound, NumberStands, IsFront, FrontStands}
 use Rattle.vx_file_open.proofs.Lengths.{number_length}
 
 -- ---- the mark

@@ -1,5 +1,5 @@
 -- Where the range of a column of a block stands, by the places that were made of the header.
-use Rattle.std.proofs.Common.{◌≡◌, refl, sym, ap, ◌∙◌, subst, ℕ, zero, suc, ◌+◌, ◌<◌, ◌≤◌, ◌^◌, Some, List, [], ◌∷◌, map, length, take, get_or, sum, arith}
+use Rattle.std.proofs.Common.{◌≡◌, refl, sym, ap, ◌∙◌, subst, ℕ, zero, suc, ◌+◌, ◌<◌, ◌^◌, Some, List, [], ◌∷◌, length, take, get_or, sum, arith}
 use Rattle.std.specs.List.{AllByRecursion, slice_get}
 use Rattle.std.proofs.lemmas.List.Sums.{sum_by_more_le}
 use Rattle.std.proofs.lemmas.Option.{same_Some, slice_get-get_or, get_or_from_slice_get, slice_get_read}
@@ -8,8 +8,8 @@ use Rattle.std.specs.declared.alloc.Global.{Global}
 use Rattle.vx_dtype.specs.TypeRules.{field_names}
 use Rattle.vx_semantics.specs.Tables.{Zones}
 use Rattle.vx_tables.proofs.MemberLemmas.{length_mapped}
-use Rattle.vx_laws_file.specs.FileForms.{Header, AreRangeLengths, front_bytes}
-use Rattle.vx_laws_file.specs.Opening.{all_lengths, range_place}
+use Rattle.vx_laws_file.specs.FileForms.{Header, AreRangeLengths}
+use Rattle.vx_laws_file.specs.Opening.{range_place}
 use Rattle.vx_file_open.specs.Layouts.{list_of, lists_of, front_length, block_place, IsLaidOut}
 use Rattle.vx_file_open.proofs.Lengths.{layout_small}
 use Rattle.vx_file_open.proofs.PlaceLemmas.{first_within, place_within, list_at}

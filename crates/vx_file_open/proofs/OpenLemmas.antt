@@ -1,5 +1,5 @@
 -- Opening a file: what its mark, its header and its end make of it.
-use Rattle.std.proofs.Common.{◌≡◌, ◌≢◌, refl, sym, ap, ◌∙◌, subst, ℕ, ◌+◌, Bool, true, false, cond, nat_eq, Option, Some, None, length, drop, arith, length-append, length-drop}
+use Rattle.std.proofs.Common.{◌≡◌, ◌≢◌, sym, ap, ◌∙◌, subst, ℕ, ◌+◌, Bool, true, false, cond, nat_eq, Option, Some, None, length, drop, arith, length-append, length-drop}
 use Rattle.std.specs.Prelude.{Decides, Result, Ok, Err}
 use Rattle.std.proofs.lemmas.Bool.{eqb-true, eqb-false}
 use Rattle.vx_dtype.specs.Types.{Bytes}

@@ -1,5 +1,5 @@
 -- What reading a column of a file answers.
-use Rattle.std.specs.Prelude.{◌≡◌, ℕ, length, Option, Some, None, option_map}
+use Rattle.std.specs.Prelude.{◌≡◌, ℕ, length, Option, Some, option_map}
 use Rattle.std.specs.List.{slice_get}
 use Rattle.vx_dtype.specs.Types.{Bytes, Ty}
 use Rattle.vx_dtype.specs.TypeRules.{field_type}

@@ -1,13 +1,12 @@
 -- Where the ranges of a file stand, by its header.
-use Rattle.std.specs.Prelude.{◌≡◌, ℕ, suc, ◌+◌, ◌<◌, ◌≤◌, ◌^◌, List, ◌∷◌, ◌++◌, map, length, take, drop, sum, Option, Some, None}
+use Rattle.std.specs.Prelude.{◌≡◌, ℕ, suc, ◌+◌, ◌≤◌, List, map, length, take, drop, sum, Option, Some, None}
 use Rattle.std.specs.List.{slice_get}
 use Rattle.std.specs.declared.vec.Vec.{Vec}
 use Rattle.std.specs.declared.alloc.Global.{Global}
 use Rattle.vx_dtype.specs.Types.{Bytes}
-use Rattle.vx_wire_bytes.specs.Fields.{IsNumber, IsShort}
-use Rattle.vx_wire_bytes.specs.Numbers.{number_bytes}
-use Rattle.vx_laws_file.specs.FileForms.{mark, Header, header_bytes, IsHeader, front_bytes, FileContent, header_of}
-use Rattle.vx_laws_file.specs.Opening.{HasMark, HasHeader, IsOpened, all_lengths, content_with}
+use Rattle.vx_wire_bytes.specs.Fields.{IsShort}
+use Rattle.vx_laws_file.specs.FileForms.{Header, header_bytes, IsHeader, front_bytes, FileContent, header_of}
+use Rattle.vx_laws_file.specs.Opening.{IsOpened, content_with}
 use Rattle.vx_laws_file.specs.FileLaws.{AreBytes}
 
 -- the numbers in a vector, and in each of some

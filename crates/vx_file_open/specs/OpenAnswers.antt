@@ -1,7 +1,8 @@
 -- What opening a file answers.
-use Rattle.std.specs.Prelude.{◌≡◌, ◌≢◌, ℕ, ◌+◌, nat_eq, Bool, ◌++◌, length, drop, Option, Some, None, Result, Ok, Err}
+use Rattle.std.specs.Prelude.{◌≡◌, ◌≢◌, ℕ, ◌+◌, ◌≤◌, nat_eq, Bool, ◌++◌, length, drop, Option, Some, None, Result, Ok, Err}
 use Rattle.vx_dtype.specs.Types.{Bytes}
 use Rattle.vx_semantics.specs.Tables.{Zones}
+use Rattle.vx_io.specs.Counts.{one_more}
 use Rattle.vx_wire_bytes.specs.Fields.{IsNumber, IsShort}
 use Rattle.vx_wire_bytes.specs.Numbers.{number_bytes}
 use Rattle.vx_zones.specs.Zoning.{broken_rule}
@@ -9,7 +10,7 @@ use Rattle.vx_laws_file.specs.FileForms.{mark, Header, header_bytes, IsHeader}
 use Rattle.vx_laws_file.specs.Opening.{HasHeader, all_lengths, FileRefusal, bad_magic, bad_header, bad_zones, bad_end, IsRefusedFile}
 use Rattle.vx_file_ranges.specs.declared.pieces.PieceError.{PieceError}
 use Rattle.vx_file_ranges.specs.declared.pieces.PieceError.TheVariants as pieces
-use Rattle.vx_file_open.specs.Layouts.{front_length, IsFileWith, WhereBytes}
+use Rattle.vx_file_open.specs.Layouts.{front_length, IsFileWith}
 use Rattle.vx_file_open.specs.declared.errors.FileError.{FileError}
 use Rattle.vx_file_open.specs.declared.errors.FileError.TheVariants as errors
 
@@ -36,6 +37,11 @@ IsRefusedBy bytes (Some r) = IsRefusedFile bytes r
 abbrev pub OpensBytes : Bytes → Result Header FileError → Type 0
 OpensBytes bytes (Ok h) = IsFileWith h bytes
 OpensBytes bytes (Err e) = IsRefusedBy bytes (refusal_of e)
+
+-- how a file that isn't opened leaves the count of the source's faults: higher where a read failed, and as it was with each other refusal
+abbrev pub CountsFailure : FileError → ℕ → ℕ → Type 0
+CountsFailure errors.ReadFault before now = (before ≤ now) × (one_more before ≤ now)
+CountsFailure _ before now = now ≡ before
 
 -- a number that stands behind the mark, with the place behind it
 pub record IsNumberAt (n place : ℕ) : Type 0 where

@@ -29,6 +29,7 @@ pub fn read_column<R: Ranged>(
     ensures later { R.faults source.old ≤ R.faults source.new }
     ensures cause { result ≡ Err PieceError.ReadFault → one_more (R.faults source.old) ≤ R.faults source.new }
     ensures quiet { IfOk result (λ _. R.faults source.new ≡ R.faults source.old) }
+    ensures memory { result ≡ Err PieceError.NoMemory → R.faults source.new ≡ R.faults source.old }
     ensures column { IfOk result (λ found. IfSome found (IsColumnIn layout.now.zones block name.now)) }
     ensures range { IfOk result (λ found. WhereBytes (R.bytes source.old) (λ bytes. IsRangeRead (content_at layout.now bytes) block name.now found)) }
 {

@@ -22,6 +22,8 @@ pub(crate) fn has_mark<R: Ranged>(alloc: Global, source: &mut R) -> Result<bool,
     ensures same { R.bytes source.new ≡ R.bytes source.old }
     ensures later { R.faults source.old ≤ R.faults source.new }
     ensures cause { result ≡ Err PieceError.ReadFault → one_more (R.faults source.old) ≤ R.faults source.new }
+    ensures quiet { IfOk result (λ _. R.faults source.new ≡ R.faults source.old) }
+    ensures memory { result ≡ Err PieceError.NoMemory → R.faults source.new ≡ R.faults source.old }
     ensures there { IfOk result (λ found. WhereBytes (R.bytes source.old) (λ bytes. Decides found (HasMark bytes))) }
 {
     let piece = read_piece(alloc, source, 0, MARK.len())?;
@@ -33,6 +35,8 @@ fn number_front<R: Ranged>(alloc: Global, source: &mut R) -> Result<Option<(u32,
     ensures same { R.bytes source.new ≡ R.bytes source.old }
     ensures later { R.faults source.old ≤ R.faults source.new }
     ensures cause { result ≡ Err PieceError.ReadFault → one_more (R.faults source.old) ≤ R.faults source.new }
+    ensures quiet { IfOk result (λ _. R.faults source.new ≡ R.faults source.old) }
+    ensures memory { result ≡ Err PieceError.NoMemory → R.faults source.new ≡ R.faults source.old }
     ensures found { IfOk result IsNumberFound }
     ensures stands { IfOk result (λ found. WhereBytes (R.bytes source.old) (NumberStands found)) }
 {
@@ -52,6 +56,8 @@ pub(crate) fn header_front<R: Ranged>(
     ensures same { R.bytes source.new ≡ R.bytes source.old }
     ensures later { R.faults source.old ≤ R.faults source.new }
     ensures cause { result ≡ Err PieceError.ReadFault → one_more (R.faults source.old) ≤ R.faults source.new }
+    ensures quiet { IfOk result (λ _. R.faults source.new ≡ R.faults source.old) }
+    ensures memory { result ≡ Err PieceError.NoMemory → R.faults source.new ≡ R.faults source.old }
     ensures found { IfOk result (λ found. IsFrontFound (option_map (λ x. (header_view x.0, x.1)) found)) }
     ensures stands { IfOk result (λ found. WhereBytes (R.bytes source.old)
         (λ bytes. HasMark bytes → FrontStands (option_map (λ x. (header_view x.0, x.1)) found) bytes)) }

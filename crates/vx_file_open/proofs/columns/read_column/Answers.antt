@@ -1,4 +1,4 @@
-use Rattle.std.proofs.Common.{◌≡◌, ◌<◌, ℕ, Some, None, List, IsSome, length, get_or, option_map, sym, ap, ◌∙◌, subst, arith}
+use Rattle.std.proofs.Common.{◌≡◌, ℕ, Some, List, IsSome, length, get_or, option_map, sym, ap, ◌∙◌, subst, arith}
 use Rattle.std.specs.List.{slice_get, position}
 use Rattle.std.specs.Str.{bytes_eq}
 use Rattle.vx_zones.specs.Zoning.{broken_rule}

@@ -1,4 +1,4 @@
-use Rattle.std.proofs.Common.{◌≡◌, ◌≤◌, ◌+◌, ◌<◌, ◌^◌, length, sym, ap, ◌∙◌, subst, arith, Some, None, option_map}
+use Rattle.std.proofs.Common.{◌≡◌, length, subst, arith, Some, None, option_map}
 use Rattle.vx_file_bytes.specs.HeaderViews.{header_view}
 use Rattle.vx_file_bytes.specs.ReadingAnswers.{IsHeaderRead}
 use Rattle.vx_file_ranges.specs.Places.{IsPieceAt}

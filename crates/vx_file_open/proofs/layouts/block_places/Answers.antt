@@ -1,7 +1,5 @@
-use Rattle.std.proofs.Common.{◌≡◌, ◌+◌, ◌<◌, ◌^◌, sum, map, length, sym, ap, ◌∙◌, arith, add-one, subst}
-use Rattle.std.specs.List.{slice_get}
-use Rattle.std.specs.Prelude.{Some}
-use Rattle.vx_file_open.specs.Layouts.{lists_of, HavePlaces, block_place}
+use Rattle.std.proofs.Common.{◌≡◌, ◌+◌, sum, arith}
+use Rattle.vx_file_open.specs.Layouts.{lists_of, block_place}
 use Rattle.vx_file_open.proofs.PlaceLemmas.{places_more_with, list_at, place_within}
 use Rattle.vx_file_open.proofs.layouts.block_places.Goals as goal
 

@@ -1,4 +1,4 @@
-use Rattle.std.proofs.Common.{◌≡◌, ◌∙◌, subst, Some, option_map}
+use Rattle.std.proofs.Common.{◌∙◌, subst, option_map}
 use Rattle.vx_file_bytes.specs.HeaderViews.{header_view}
 use Rattle.vx_laws_file.specs.Opening.{HasMark}
 use Rattle.vx_file_open.specs.Layouts.{WhereBytes}

@@ -1,4 +1,4 @@
-use Rattle.std.proofs.Common.{◌≡◌, ◌+◌, ◌<◌, ◌^◌, sum, map, ap, arith}
+use Rattle.std.proofs.Common.{sum, map, ap, arith}
 use Rattle.vx_file_bytes.specs.HeaderViews.{header_view}
 use Rattle.vx_file_open.specs.Layouts.{lists_of}
 use Rattle.vx_file_open.proofs.Lengths.{layout_small}

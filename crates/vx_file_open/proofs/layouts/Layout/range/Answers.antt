@@ -1,4 +1,4 @@
-use Rattle.std.proofs.Common.{◌≡◌, ◌+◌, ◌<◌, ◌≤◌, ◌^◌, sum, map, length, take, get_or, sym, ap, ◌∙◌, arith}
+use Rattle.std.proofs.Common.{◌+◌, ◌<◌, length, sym, ap, ◌∙◌, arith}
 use Rattle.std.proofs.lemmas.List.{length-take-le}
 use Rattle.vx_file_open.proofs.LayoutLemmas.{block_of, range_is, count_is, range_within, sum_small}
 use Rattle.vx_file_open.proofs.layouts.Layout.range.Goals as goal
