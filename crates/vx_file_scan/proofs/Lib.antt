@@ -1,0 +1,4 @@
+pub mod StoreLemmas
+pub mod FileScanLemmas
+pub mod TableScanLemmas
+pub mod LawLemmas
