@@ -151,11 +151,11 @@ file_scanned holds ft pt s t answer unread same ends once kept =
     let header : t.header ≡ s.header = λ i. record { zones = same.zones i; range_lengths = front.range_lengths i } in
     let entries = same_entries s t header front.bytes in
     let as_any : IsScan holds ft pt (file_seen s) (file_seen t) answer =
-        scan_without (file_entries s) holds ft pt (file_seen s) (file_seen t) answer
-        (subst (λ (es : List Read). IsScan holds ft pt (once_seen s) (behind es (file_seen t)) answer) entries ends) in
+    scan_without (file_entries s) holds ft pt (file_seen s) (file_seen t) answer
+    (subst (λ (es : List Read). IsScan holds ft pt (once_seen s) (behind es (file_seen t)) answer) entries ends) in
     let shown : (o : Option Bytes) → s.bytes ≡ o
-        → WhereBytes o (λ bytes. (f p : Tree) → SpellBoth holds ft pt f p
-        → AnswerShows answer s t bytes (reads_over s bytes f p)) = by header front.bytes grown.0 (made_reads s t grown.0 unread.reads front.rest) as_any in
+    → WhereBytes o (λ bytes. (f p : Tree) → SpellBoth holds ft pt f p
+    → AnswerShows answer s t bytes (reads_over s bytes f p)) = by header front.bytes grown.0 (made_reads s t grown.0 unread.reads front.rest) as_any in
     record {
       header = header;
       bytes = front.bytes;

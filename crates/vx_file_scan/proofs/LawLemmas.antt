@@ -144,13 +144,13 @@ pub as_in_memory : UndamagedScansEndAsInMemory
 as_in_memory holds ft pt bytes s t left answer reply unread told h none quiet same scanned some too =
     let held : (store_seen (memory_of s bytes)).held ≡ Some (held_at s.header bytes) = refl in
     let one : IsOfTable answer = of_table answer some
-        (λ fault. file_unfailed holds ft pt bytes s t told none quiet (subst (IsFileScan holds ft pt s t) fault h)
-        (subst (IsScan holds ft pt (file_seen s) (file_seen t)) fault h.ends)) in
+    (λ fault. file_unfailed holds ft pt bytes s t told none quiet (subst (IsFileScan holds ft pt s t) fault h)
+    (subst (IsScan holds ft pt (file_seen s) (file_seen t)) fault h.ends)) in
     let next : IsOfTable reply = of_table reply too
-        (λ fault. memory_unfailed holds ft pt bytes s left same
-        (subst (IsScan holds ft pt (store_seen (memory_of s bytes)) (store_seen left)) fault scanned)) in
+    (λ fault. memory_unfailed holds ft pt bytes s left same
+    (subst (IsScan holds ft pt (store_seen (memory_of s bytes)) (store_seen left)) fault scanned)) in
     let both = scans_agree holds ft pt (held_at s.header bytes) (file_seen s) (file_seen t) (store_seen (memory_of s bytes)) (store_seen left) answer reply
-        (file_held s bytes told) held refl h.ends scanned one next in
+    (file_held s bytes told) held refl h.ends scanned one next in
     record {
       answers = both.answers;
       reads = both.grown ∙ ap (λ (rs : List Read). rs ++ both.made) unread.reads ∙ sym both.also_grown;

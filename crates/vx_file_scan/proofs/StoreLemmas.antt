@@ -61,7 +61,7 @@ one_front s t xs ys e =
     let head : n ≡ m = first_of n m (ns ++ ys) (ms ++ xs) e in
     let tail : ns ++ ys ≡ ms ++ xs = rest_of n m (ns ++ ys) (ms ++ xs) e in
     let many : length ns ≡ length ms =
-        length-map t.header.range_lengths lengths_entry ∙ ap (λ (r : Read). r.0) head ∙ sym (length-map s.header.range_lengths lengths_entry) in
+    length-map t.header.range_lengths lengths_entry ∙ ap (λ (r : Read). r.0) head ∙ sym (length-map s.header.range_lengths lengths_entry) in
     let both = same_front ns ms ys xs many tail in
     record {
       range_lengths = sym (one_lengths t.header.range_lengths) ∙ ap (map (λ (r : Read). r.1)) both.0 ∙ one_lengths s.header.range_lengths;
@@ -71,6 +71,7 @@ one_front s t xs ys e =
   where
     first_of : (x y : Read) (us vs : List Read) → x ∷ us ≡ y ∷ vs → x ≡ y
     first_of x y us vs k = cc
+
     rest_of : (x y : Read) (us vs : List Read) → x ∷ us ≡ y ∷ vs → us ≡ vs
     rest_of x y us vs k = cc
 

@@ -85,7 +85,7 @@ stop_says (of_break cause) table slots f p before after e held told h = record {
   end = (
     told_here before.held table (λ table. h.reads.made ≡ reads_to_break table before.zones slots f p) held h.reads.told,
     breaks_somewhere cause (row_type table.columns) slots (phases_of table before.zones slots f p)
-    (told_here before.held table (λ table. first_breaks_by cause (row_type table.columns) slots (phases_of table before.zones slots f p) ≡ true) held h.first_breaks),
+        (told_here before.held table (λ table. first_breaks_by cause (row_type table.columns) slots (phases_of table before.zones slots f p) ≡ true) held h.first_breaks),
     (h.ty, h.typed),
   );
 }
@@ -192,7 +192,7 @@ spelled_agree slots f p table before after other left answer reply held also zon
     let one = end_says table slots f p before after answer held told h in
     let next = end_says table slots f p other left reply also too x in
     let both = ends_agree table before.zones slots f p one.made next.made answer reply one.end
-        (subst (λ (z : Zones). IsEndOf table z slots f p next.made reply) zones next.end) in
+    (subst (λ (z : Zones). IsEndOf table z slots f p next.made reply) zones next.end) in
     record {
       answers = both.answers;
       made = one.made;
