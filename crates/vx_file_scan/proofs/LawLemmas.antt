@@ -19,11 +19,13 @@ use Rattle.vx_scan.specs.declared.errors.ScanError.TheVariants as errors
 use Rattle.vx_scan.specs.declared.reports.ScanReport.{ScanReport}
 use Rattle.vx_scan.proofs.KindLemmas.{memory_alone}
 use Rattle.vx_scan.proofs.TextLemmas.{texts_so}
+use Rattle.vx_scan.proofs.LawLemmas.{honest_texts_so}
 use Rattle.vx_file.specs.FileStates.{FileState, file_seen, held_at}
 use Rattle.vx_file_scan.specs.FileScans.{reads_over, StopShows, AnswerShows, IsFileScan}
 use Rattle.vx_file_scan.specs.TableScans.{IsOfTable}
 use Rattle.vx_file_scan.specs.FileScanLaws.{IsToldScan, MeetsDamage, AreTypedOver, MeetNoDamage, memory_of}
 use Rattle.vx_file_scan.specs.FileScanLaws.{FaultsShowDamage, DamageIsAFault, UndamagedScansReport, UndamagedScansBreak, UndamagedScansEndAsInMemory}
+use Rattle.vx_file_scan.specs.FileScanLaws.{HonestFileScansAreWhole}
 use Rattle.vx_file_scan.proofs.FileScanLemmas.{bytes_here, file_held, told_here}
 use Rattle.vx_file_scan.proofs.TableScanLemmas.{stop_says, scans_agree}
 
@@ -107,6 +109,12 @@ breaks_so holds ft pt bytes f p s t (Ok report) h typed none quiet broken =
 breaks_so holds ft pt bytes f p s t (Err e) h typed none quiet broken =
     by_undamaged s t bytes f p OnlyOfBreaks h.told typed none quiet (λ broken c. tt) tt (kind_of e) e
     (ended holds ft pt bytes f p s t (Err e) h) (shown holds ft pt bytes f p s t (Err e) h)
+
+-- ---- honest statistics
+
+pub honest_so : HonestFileScansAreWhole
+honest_so holds ft pt bytes f p s t report h honest =
+    honest_texts_so holds ft pt f p (file_seen s) (file_seen t) report (held_at s.header bytes) h.spelled h.scanned.ends (file_held s bytes h.told) honest
 
 -- ---- as in memory
 

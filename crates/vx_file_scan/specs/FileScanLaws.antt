@@ -3,7 +3,8 @@ use Rattle.std.specs.Prelude.{◌≡◌, ◌≢◌, ◌<◌, Bool, true, false, 
 use Rattle.vx_dtype.specs.Types.{Bytes, Ty}
 use Rattle.vx_expr.specs.Trees.{Tree}
 use Rattle.vx_semantics.specs.Tables.{row_type}
-use Rattle.vx_semantics.specs.Scans.{some_phase_breaks}
+use Rattle.vx_semantics.specs.Honest.{IsHonest}
+use Rattle.vx_semantics.specs.Scans.{rows_of, some_phase_breaks}
 use Rattle.vx_io.specs.Counts.{one_more}
 use Rattle.vx_wire.specs.declared.encodings.ExprEncoding.{ExprEncoding}
 use Rattle.vx_laws_file.specs.HeldTables.{held_blocks}
@@ -11,6 +12,7 @@ use Rattle.vx_scan.specs.Stores.{IsSameStore}
 use Rattle.vx_scan.specs.StoreViews.{StoreState, store_seen}
 use Rattle.vx_scan.specs.StoreAnswers.{new_store}
 use Rattle.vx_scan.specs.Texts.{SpellBoth}
+use Rattle.vx_scan.specs.Reports.{report_view}
 use Rattle.vx_scan.specs.Scanning.{scan_type, IsScan}
 use Rattle.vx_scan.specs.ScanLaws.{RefusesBy, ReportsUnlessNoMemory, BreaksUnlessNoMemory}
 use Rattle.vx_scan.specs.declared.errors.ScanError.{ScanError}
@@ -65,6 +67,13 @@ UndamagedScansBreak =
     (answer : Result ScanReport ScanError) → IsToldScan holds filter_text projection_text bytes filter_expr projection before after answer
     → AreTypedOver before filter_expr projection → ¬ (MeetsDamage before bytes filter_expr projection) → after.count < one_more before.count
     → some_phase_breaks (held_at before.header bytes) before.header.zones [] filter_expr projection ≡ true → BreaksUnlessNoMemory answer
+
+-- where the statistics of a file are honest for the table that it holds, the rows of a report are those of all its blocks, the skipped ones too
+abbrev pub HonestFileScansAreWhole : Type 0
+HonestFileScansAreWhole =
+    (holds : ExprEncoding → Bool) (filter_text projection_text bytes : Bytes) (filter_expr projection : Tree) (before after : FileState)
+    (report : ScanReport) → IsToldScan holds filter_text projection_text bytes filter_expr projection before after (Ok report)
+    → IsHonest before.header.zones (held_at before.header bytes) → (report_view report).rows ≡ rows_of (held_at before.header bytes) [] filter_expr projection
 
 -- whatever two expressions the texts spell, they meet no damage
 abbrev pub MeetNoDamage : (ExprEncoding → Bool) → Bytes → Bytes → FileState → Bytes → Type 0

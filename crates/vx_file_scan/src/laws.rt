@@ -2,7 +2,7 @@
 
 ghost use Rattle.vx_file_scan.specs.TableScans.{ScansOfOneTableEndTheSame};
 ghost use Rattle.vx_file_scan.specs.FileScanLaws.{FaultsShowDamage, DamageIsAFault, UndamagedScansReport, UndamagedScansBreak};
-ghost use Rattle.vx_file_scan.specs.FileScanLaws.{UndamagedScansEndAsInMemory};
+ghost use Rattle.vx_file_scan.specs.FileScanLaws.{HonestFileScansAreWhole, UndamagedScansEndAsInMemory};
 
 /// Two scans by the same texts over stores that tell one table, with the same statistics, answer the same and make the same reads, where neither answer is
 /// want of memory or a read that failed. Of two breaks one may be by a sum and the other by a cast.
@@ -22,6 +22,11 @@ pub fn damage_is_a_store_fault()
 pub fn undamaged_scans_end_by_their_phases()
     ensures reports { UndamagedScansReport }
     ensures breaks { UndamagedScansBreak }
+{}
+
+/// Where a file's statistics are honest for the table that it holds, the rows of a report are those of all its blocks, the skipped ones too.
+pub fn honest_file_scans_are_whole()
+    ensures { HonestFileScansAreWhole }
 {}
 
 /// Where none of the reads is of a damaged pair and the source counted no fault, the scan of a file answers what that of a store in memory does which

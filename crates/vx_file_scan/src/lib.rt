@@ -6,7 +6,7 @@ mod laws;
 mod scanning;
 
 pub use laws::{
-    damage_is_a_store_fault, scans_of_one_table_end_the_same, undamaged_scans_end_as_in_memory,
-    undamaged_scans_end_by_their_phases,
+    damage_is_a_store_fault, honest_file_scans_are_whole, scans_of_one_table_end_the_same,
+    undamaged_scans_end_as_in_memory, undamaged_scans_end_by_their_phases,
 };
 pub use scanning::{FileScan, scan_file};
