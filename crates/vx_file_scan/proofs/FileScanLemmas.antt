@@ -1,5 +1,5 @@
 -- What the scan of a block file shows of damage, by what it left.
-use Rattle.std.proofs.Common.{◌≡◌, refl, sym, ap, ◌∙◌, subst, ◌⊎◌, inl, inr, ℕ, ◌+◌, ◌≤◌, Bool, false, cond, Option, Some, None, option_map, List, [], ◌∷◌, ◌++◌, length, arith}
+use Rattle.std.proofs.Common.{◌≡◌, refl, sym, ap, ◌∙◌, subst, ◌⊎◌, inl, inr, ◌≤◌, Bool, false, cond, Option, Some, None, option_map, List, [], ◌∷◌, ◌++◌}
 use Rattle.std.specs.Prelude.{Result, Ok, Err}
 use Rattle.std.specs.List.{AllByRecursion, list_any}
 use Rattle.std.proofs.lemmas.Bool.{or_parts}
@@ -22,9 +22,9 @@ use Rattle.vx_scan.specs.declared.reports.ScanReport.{ScanReport}
 use Rattle.vx_scan.proofs.TextLemmas.{texts_so}
 use Rattle.vx_file_open.specs.Layouts.{content_at, WhereBytes}
 use Rattle.vx_file.specs.FileStates.{FileState, file_seen, held_at, IsSound, IsSpoilt, IsKept}
-use Rattle.vx_file_scan.specs.FirstFailures.{IsUnread, file_entries, behind, once_seen, FailedOnce}
+use Rattle.vx_file_scan.specs.FirstFailures.{IsUnread, file_entries, once_counted, behind, once_seen, FailedOnce}
 use Rattle.vx_file_scan.specs.FileScans.{SomeSpoilt, reads_over, StopShows, AnswerShows, IsFileScan}
-use Rattle.vx_file_scan.proofs.StoreLemmas.{one_front, same_entries, Grown, scan_grows, scan_without, same_store_without}
+use Rattle.vx_file_scan.proofs.StoreLemmas.{one_front, same_entries, Grown, scan_grows, scan_without, same_store_without, Counts, counts_of, faults_later, file_tells}
 
 -- ---- damaged reads
 
@@ -81,7 +81,7 @@ pub record IsLeft (s t : FileState) (bytes : Bytes) (made : List Read) : Type 0 
   pub sound : AllByRecursion (IsSound s.header bytes) t.reads
   pub spoilt : AllByRecursion (IsSpoilt s.header bytes) t.damaged
   pub once : FailedOnce t.failed t.damaged
-  pub fresh : s.damaged ≡ []
+  pub counts : Counts s t
 
 -- the reads that were made aren't damaged
 made_sound : (s t : FileState) (bytes : Bytes) (made reads : List Read) → IsLeft s t bytes made → made ≡ reads → ¬ (SomeSpoilt s bytes reads)
@@ -90,16 +90,11 @@ made_sound s t bytes made reads left e =
 
 -- a read that failed
 failed_shows : (s t : FileState) (bytes : Bytes) (made : List Read) (read : Read) (reads : List Read) → IsLeft s t bytes made → t.failed ≡ Some read
-    → one_more (s.count + length s.damaged) ≤ t.count + length t.damaged → (left : List Read) × (reads ≡ made ++ (read ∷ left))
-    → (one_more s.count ≤ t.count) ⊎ SomeSpoilt s bytes reads
-failed_shows s t bytes made read reads left failed risen next =
-    by (subst (λ (o : Option Read). FailedOnce o t.damaged) failed left.once)
+    → (left : List Read) × (reads ≡ made ++ (read ∷ left)) → (one_more s.count ≤ t.count) ⊎ SomeSpoilt s bytes reads
+failed_shows s t bytes made read reads left failed next = by (subst (λ (o : Option Read). FailedOnce o t.damaged) failed left.once)
   where
     by : (t.damaged ≡ []) ⊎ (t.damaged ≡ read ∷ []) → (one_more s.count ≤ t.count) ⊎ SomeSpoilt s bytes reads
-    by (inl none) =
-        let before : s.count + length s.damaged ≡ s.count = ap (λ (rs : List Read). s.count + length rs) left.fresh ∙ omega arith in
-        let after : t.count + length t.damaged ≡ t.count = ap (λ (rs : List Read). t.count + length rs) none ∙ omega arith in
-        inl (subst (λ (n : ℕ). one_more s.count ≤ n) after (subst (λ (n : ℕ). one_more n ≤ t.count + length t.damaged) before risen))
+    by (inl none) = inl (left.counts.risen read failed none)
     by (inr one) =
         let here : IsSpoilt s.header bytes read × Unit {0} = subst (AllByRecursion (IsSpoilt s.header bytes)) one left.spoilt in
         inr (subst (SomeSpoilt s bytes) (sym next.1) (spoilt_among s bytes made next.0 read here.0))
@@ -111,7 +106,7 @@ made_reads s t made none grown = grown ∙ ap (λ (rs : List Read). rs ++ made) 
 -- what a scan left, once it is known of which reads
 with_made : (s t : FileState) (bytes : Bytes) (made more : List Read) → IsLeft s t bytes made → s.reads ≡ [] → t.reads ≡ s.reads ++ more → IsLeft s t bytes more
 with_made s t bytes made more left none grown =
-    record { reads = made_reads s t more none grown; sound = left.sound; spoilt = left.spoilt; once = left.once; fresh = left.fresh }
+    record { reads = made_reads s t more none grown; sound = left.sound; spoilt = left.spoilt; once = left.once; counts = left.counts }
 
 -- what a scan of two expressions shows by its end
 stop_shows : (k : ErrorKind) (s t : FileState) (bytes : Bytes) (made : List Read) (f p : Tree) (e : ScanError) → s.bytes ≡ Some bytes → s.reads ≡ []
@@ -124,7 +119,7 @@ stop_shows (of_break cause) s t bytes made f p e told none left h =
     made_sound s t bytes h.reads.made (reads_over s bytes f p) (with_made s t bytes made h.reads.made left none h.reads.grown)
     (told_here (file_seen s).held (held_at s.header bytes) (λ table. h.reads.made ≡ reads_to_break table s.header.zones [] f p) (file_held s bytes told) h.reads.told)
 stop_shows of_read s t bytes made f p e told none left h =
-    failed_shows s t bytes h.reads.made h.read (reads_over s bytes f p) (with_made s t bytes made h.reads.made left none h.reads.grown) h.failed h.risen
+    failed_shows s t bytes h.reads.made h.read (reads_over s bytes f p) (with_made s t bytes made h.reads.made left none h.reads.grown) h.failed
     (told_here (file_seen s).held (held_at s.header bytes)
     (λ table. (rest : List Read) × (reads_to_break table s.header.zones [] f p ≡ h.reads.made ++ (h.read ∷ rest))) (file_held s bytes told) h.reads.told)
 
@@ -150,32 +145,34 @@ file_scanned holds ft pt s t answer unread same ends once kept =
     let front = one_front s t (s.reads ++ grown.0) t.reads (grown.1 ∙ append_assoc (file_entries s) s.reads grown.0) in
     let header : t.header ≡ s.header = λ i. record { zones = same.zones i; range_lengths = front.range_lengths i } in
     let entries = same_entries s t header front.bytes in
+    let counts = counts_of s t unread.failed once same.later in
     let as_any : IsScan holds ft pt (file_seen s) (file_seen t) answer =
-    scan_without (file_entries s) holds ft pt (file_seen s) (file_seen t) answer
-    (subst (λ (es : List Read). IsScan holds ft pt (once_seen s) (behind es (file_seen t)) answer) entries ends) in
+    scan_without (file_entries s) _ _ holds ft pt (file_seen s) (file_seen t) answer (file_tells s t unread.failed unread.damaged once counts)
+    (subst (λ (es : List Read). IsScan holds ft pt (once_seen s) (behind es (once_counted t.failed t.damaged t.count) (file_seen t)) answer) entries ends) in
     let shown : (o : Option Bytes) → s.bytes ≡ o
     → WhereBytes o (λ bytes. (f p : Tree) → SpellBoth holds ft pt f p
-    → AnswerShows answer s t bytes (reads_over s bytes f p)) = by header front.bytes grown.0 (made_reads s t grown.0 unread.reads front.rest) as_any in
+    → AnswerShows answer s t bytes (reads_over s bytes f p)) = by header front.bytes counts grown.0 (made_reads s t grown.0 unread.reads front.rest) as_any in
     record {
       header = header;
       bytes = front.bytes;
-      same = same_store_without (file_entries s) (file_entries t) (file_seen s) (file_seen t) same;
+      later = counts.later;
+      same = same_store_without (file_entries s) (file_entries t) _ _ (file_seen s) (file_seen t) (faults_later s t unread.damaged counts) refl same;
       ends = as_any;
       shows = shown s.bytes refl;
     }
   where
-    by : t.header ≡ s.header → t.bytes ≡ s.bytes → (made : List Read) → t.reads ≡ made → IsScan holds ft pt (file_seen s) (file_seen t) answer
+    by : t.header ≡ s.header → t.bytes ≡ s.bytes → Counts s t → (made : List Read) → t.reads ≡ made → IsScan holds ft pt (file_seen s) (file_seen t) answer
         → (o : Option Bytes) → s.bytes ≡ o
         → WhereBytes o (λ bytes. (f p : Tree) → SpellBoth holds ft pt f p
         → AnswerShows answer s t bytes (reads_over s bytes f p))
-    by header bytes made reads any None e = tt
-    by header bytes made reads any (Some bs) e = λ f p spelled.
+    by header bytes counts made reads any None e = tt
+    by header bytes counts made reads any (Some bs) e = λ f p spelled.
         let known : IsKept t bs = bytes_here t.bytes bs (IsKept t) (bytes ∙ e) kept in
         let left : IsLeft s t bs made = record {
           reads = reads;
           sound = subst (λ (h : Header). AllByRecursion (IsSound h bs) t.reads) header known.sound;
           spoilt = subst (λ (h : Header). AllByRecursion (IsSpoilt h bs) t.damaged) header known.spoilt;
           once = once;
-          fresh = unread.damaged;
+          counts = counts;
         } in
         answer_shows s t bs made f p answer e unread.reads left (texts_so holds ft pt f p (file_seen s) (file_seen t) answer spelled any)

@@ -1,14 +1,16 @@
 -- A block file as a scan of it alone sees it: what its first entries stand for stays, and what holds of it holds of the file as any store.
-use Rattle.std.proofs.Common.{◌≡◌, refl, sym, ap, ◌∙◌, subst, ◌⊎◌, inl, inr, ℕ, Bool, Option, Some, None, List, [], ◌∷◌, ◌++◌, map, length, arith}
+use Rattle.std.proofs.Common.{◌≡◌, refl, sym, ap, ◌∙◌, subst, ◌⊎◌, inl, inr, ℕ, ◌+◌, ◌-◌, ◌*◌, ◌^◌, ◌≤◌, min, Bool, false, Option, Some, None, List, [], ◌∷◌, ◌++◌, map, length, arith}
 use Rattle.std.specs.Prelude.{Result, Ok, Err}
 use Rattle.std.proofs.lemmas.List.{append_cancel_left, append_assoc, append-nil, length-map}
 use Rattle.std.proofs.lemmas.Option.{none-some}
+use Rattle.std.proofs.lemmas.Bool.{both_ways, cases_lt}
 use Rattle.vx_dtype.specs.Types.{Bytes}
 use Rattle.vx_expr.specs.Trees.{Tree}
 use Rattle.vx_semantics.specs.Meaning.{Slots}
 use Rattle.vx_semantics.specs.Breaks.{Cause}
 use Rattle.vx_semantics.specs.Tables.{Table}
 use Rattle.vx_column.specs.declared.columns.ColumnRef.{ColumnRef}
+use Rattle.vx_io.specs.Counts.{one_more}
 use Rattle.vx_wire.specs.declared.encodings.ExprEncoding.{ExprEncoding}
 use Rattle.vx_laws_file.specs.FileForms.{Header}
 use Rattle.vx_scan.specs.ErrorKinds.{ErrorKind, of_memory, of_text, of_types, of_break, of_read, kind_of}
@@ -20,7 +22,7 @@ use Rattle.vx_scan.specs.declared.errors.StoreError.{StoreError}
 use Rattle.vx_scan.specs.declared.errors.StoreError.TheVariants as errors
 use Rattle.vx_scan.specs.declared.reports.ScanReport.{ScanReport}
 use Rattle.vx_file.specs.FileStates.{FileState, file_seen, IsSameFile, ReadsFile, FailsByFault, FailsByDamage}
-use Rattle.vx_file_scan.specs.FirstFailures.{bytes_or_none, lengths_entry, file_entries, behind, once_seen, FailedOnce}
+use Rattle.vx_file_scan.specs.FirstFailures.{bytes_or_none, lengths_entry, file_entries, once_counted, behind, once_seen, FailedOnce}
 
 -- ---- what the first entries stand for
 
@@ -110,30 +112,36 @@ scan_grows holds ft pt s t answer (inr h) = grown_of [] h.0 h.1 s t answer h.3
 
 -- ---- a scan of a store with entries before all others is one of the store without them
 
-same_without : (entries : List Read) (s t : StoreSeen) → behind entries t ≡ behind entries s → t ≡ s
-same_without entries s t e =
+-- what a count of faults beside those entries tells of the store's own count
+pub record Tells (entries : List Read) (m n : ℕ) (s t : StoreSeen) : Type 0 where
+  pub same : behind entries n t ≡ behind entries m s → t.faults ≡ s.faults
+  pub risen : (read : Read) → t.failed ≡ Some read → one_more s.faults ≤ t.faults
+
+same_without : (entries : List Read) (m n : ℕ) (s t : StoreSeen) → Tells entries m n s t → behind entries n t ≡ behind entries m s → t ≡ s
+same_without entries m n s t tells e =
     let logs : t.log ≡ s.log = append_cancel_left entries t.log s.log (ap (λ (u : StoreSeen). u.log) e) in
+    let faults : t.faults ≡ s.faults = tells.same e in
     λ i. record {
       zones = StoreSeen.zones (e i);
       held = StoreSeen.held (e i);
       log = logs i;
-      faults = StoreSeen.faults (e i);
+      faults = faults i;
       failed = StoreSeen.failed (e i);
       faultless = StoreSeen.faultless (e i);
     }
 
-grows_without : (entries : List Read) (slots : Slots) (f p : Tree) (s t : StoreSeen) (J : Table → List Read → Type 0)
-    → GrowsLog slots f p (behind entries s) (behind entries t) J → GrowsLog slots f p s t J
-grows_without entries slots f p s t J h = record {
+grows_without : (entries : List Read) (m n : ℕ) (slots : Slots) (f p : Tree) (s t : StoreSeen) (J : Table → List Read → Type 0)
+    → GrowsLog slots f p (behind entries m s) (behind entries n t) J → GrowsLog slots f p s t J
+grows_without entries m n slots f p s t J h = record {
   made = h.made;
   grown = append_cancel_left entries t.log (s.log ++ h.made) (h.grown ∙ append_assoc entries s.log h.made);
   asked = h.asked;
   told = h.told;
 }
 
-report_without : (entries : List Read) (slots : Slots) (f p : Tree) (s t : StoreSeen) (report : Report)
-    → IsReport slots f p (behind entries s) (behind entries t) report → IsReport slots f p s t report
-report_without entries slots f p s t report h = record {
+report_without : (entries : List Read) (m n : ℕ) (slots : Slots) (f p : Tree) (s t : StoreSeen) (report : Report)
+    → IsReport slots f p (behind entries m s) (behind entries n t) report → IsReport slots f p s t report
+report_without entries m n slots f p s t report h = record {
   typed = h.typed;
   rows = h.rows;
   unbroken = h.unbroken;
@@ -141,71 +149,73 @@ report_without entries slots f p s t report h = record {
   skipped = h.skipped;
   filter_columns = h.filter_columns;
   projection_columns = h.projection_columns;
-  reads = grows_without entries slots f p s t _ h.reads;
+  reads = grows_without entries m n slots f p s t _ h.reads;
   unfailed = h.unfailed;
 }
 
-broken_without : (entries : List Read) (cause : Cause) (slots : Slots) (f p : Tree) (s t : StoreSeen)
-    → IsScanBroken cause slots f p (behind entries s) (behind entries t) → IsScanBroken cause slots f p s t
-broken_without entries cause slots f p s t h = record {
+broken_without : (entries : List Read) (m n : ℕ) (cause : Cause) (slots : Slots) (f p : Tree) (s t : StoreSeen)
+    → IsScanBroken cause slots f p (behind entries m s) (behind entries n t) → IsScanBroken cause slots f p s t
+broken_without entries m n cause slots f p s t h = record {
   ty = h.ty;
   typed = h.typed;
   asks = h.asks;
   kept = h.kept;
   first_breaks = h.first_breaks;
-  reads = grows_without entries slots f p s t _ h.reads;
+  reads = grows_without entries m n slots f p s t _ h.reads;
   unfailed = h.unfailed;
 }
 
-fault_without : (entries : List Read) (slots : Slots) (f p : Tree) (s t : StoreSeen)
-    → IsStoreFault slots f p (behind entries s) (behind entries t) → IsStoreFault slots f p s t
+fault_without : (entries : List Read) (m n : ℕ) (slots : Slots) (f p : Tree) (s t : StoreSeen) → Tells entries m n s t
+    → IsStoreFault slots f p (behind entries m s) (behind entries n t) → IsStoreFault slots f p s t
 unfolding grows_without
-fault_without entries slots f p s t h = record {
+fault_without entries m n slots f p s t tells h = record {
   ty = h.ty;
   typed = h.typed;
-  risen = h.risen;
+  risen = tells.risen h.read h.failed;
   read = h.read;
   failed = h.failed;
-  reads = grows_without entries slots f p s t _ h.reads;
+  reads = grows_without entries m n slots f p s t _ h.reads;
   next_asked = h.next_asked;
 }
 
-cut_without : (entries : List Read) (slots : Slots) (f p : Tree) (s t : StoreSeen)
-    → IsCutOff slots f p (behind entries s) (behind entries t) → IsCutOff slots f p s t
-cut_without entries slots f p s t h =
-    record { ty = h.ty; typed = h.typed; reads = grows_without entries slots f p s t _ h.reads; unfailed = h.unfailed }
+cut_without : (entries : List Read) (m n : ℕ) (slots : Slots) (f p : Tree) (s t : StoreSeen)
+    → IsCutOff slots f p (behind entries m s) (behind entries n t) → IsCutOff slots f p s t
+cut_without entries m n slots f p s t h =
+    record { ty = h.ty; typed = h.typed; reads = grows_without entries m n slots f p s t _ h.reads; unfailed = h.unfailed }
 
-stopped_without : (k : ErrorKind) (entries : List Read) (slots : Slots) (f p : Tree) (s t : StoreSeen) (e : ScanError)
-    → IsScanStopped k slots f p (behind entries s) (behind entries t) e → IsScanStopped k slots f p s t e
-stopped_without of_memory entries slots f p s t e (inl h) = inl (same_without entries s t h)
-stopped_without of_memory entries slots f p s t e (inr h) = inr (cut_without entries slots f p s t h)
-stopped_without of_text entries slots f p s t e h = h
-stopped_without of_types entries slots f p s t e h = (same_without entries s t h.0, h.1)
-stopped_without (of_break cause) entries slots f p s t e h = broken_without entries cause slots f p s t h
-stopped_without of_read entries slots f p s t e h = fault_without entries slots f p s t h
+stopped_without : (k : ErrorKind) (entries : List Read) (m n : ℕ) (slots : Slots) (f p : Tree) (s t : StoreSeen) (e : ScanError) → Tells entries m n s t
+    → IsScanStopped k slots f p (behind entries m s) (behind entries n t) e → IsScanStopped k slots f p s t e
+stopped_without of_memory entries m n slots f p s t e tells (inl h) = inl (same_without entries m n s t tells h)
+stopped_without of_memory entries m n slots f p s t e tells (inr h) = inr (cut_without entries m n slots f p s t h)
+stopped_without of_text entries m n slots f p s t e tells h = h
+stopped_without of_types entries m n slots f p s t e tells h = (same_without entries m n s t tells h.0, h.1)
+stopped_without (of_break cause) entries m n slots f p s t e tells h = broken_without entries m n cause slots f p s t h
+stopped_without of_read entries m n slots f p s t e tells h = fault_without entries m n slots f p s t tells h
 
-of_without : (entries : List Read) (slots : Slots) (f p : Tree) (s t : StoreSeen) (answer : Result ScanReport ScanError)
-    → IsScanOf slots f p (behind entries s) (behind entries t) answer → IsScanOf slots f p s t answer
-of_without entries slots f p s t (Ok report) h = report_without entries slots f p s t (report_view report) h
-of_without entries slots f p s t (Err e) h = stopped_without (kind_of e) entries slots f p s t e h
+of_without : (entries : List Read) (m n : ℕ) (slots : Slots) (f p : Tree) (s t : StoreSeen) (answer : Result ScanReport ScanError) → Tells entries m n s t
+    → IsScanOf slots f p (behind entries m s) (behind entries n t) answer → IsScanOf slots f p s t answer
+of_without entries m n slots f p s t (Ok report) tells h = report_without entries m n slots f p s t (report_view report) h
+of_without entries m n slots f p s t (Err e) tells h = stopped_without (kind_of e) entries m n slots f p s t e tells h
 
-unspelled_without : (entries : List Read) (holds : ExprEncoding → Bool) (ft pt : Bytes) (s t : StoreSeen) (answer : Result ScanReport ScanError)
-    → IsUnspelled holds ft pt (behind entries s) (behind entries t) answer → IsUnspelled holds ft pt s t answer
-unspelled_without entries holds ft pt s t (Ok report) h = h
-unspelled_without entries holds ft pt s t (Err e) h = (same_without entries s t h.0, h.1)
+unspelled_without : (entries : List Read) (m n : ℕ) (holds : ExprEncoding → Bool) (ft pt : Bytes) (s t : StoreSeen) (answer : Result ScanReport ScanError) → Tells entries m n s t
+    → IsUnspelled holds ft pt (behind entries m s) (behind entries n t) answer → IsUnspelled holds ft pt s t answer
+unspelled_without entries m n holds ft pt s t (Ok report) tells h = h
+unspelled_without entries m n holds ft pt s t (Err e) tells h = (same_without entries m n s t tells h.0, h.1)
 
-pub scan_without : (entries : List Read) (holds : ExprEncoding → Bool) (ft pt : Bytes) (s t : StoreSeen) (answer : Result ScanReport ScanError)
-    → IsScan holds ft pt (behind entries s) (behind entries t) answer → IsScan holds ft pt s t answer
-scan_without entries holds ft pt s t answer (inl h) = inl (unspelled_without entries holds ft pt s t answer h)
-scan_without entries holds ft pt s t answer (inr h) = inr (h.0, h.1, h.2, of_without entries [] h.0 h.1 s t answer h.3)
+pub scan_without : (entries : List Read) (m n : ℕ) (holds : ExprEncoding → Bool) (ft pt : Bytes) (s t : StoreSeen) (answer : Result ScanReport ScanError) → Tells entries m n s t
+    → IsScan holds ft pt (behind entries m s) (behind entries n t) answer → IsScan holds ft pt s t answer
+scan_without entries m n holds ft pt s t answer tells (inl h) = inl (unspelled_without entries m n holds ft pt s t answer tells h)
+scan_without entries m n holds ft pt s t answer tells (inr h) = inr (h.0, h.1, h.2, of_without entries m n [] h.0 h.1 s t answer tells h.3)
 
-pub same_store_without : (front back : List Read) (s t : StoreSeen) → IsSameStore (behind front s) (behind back t) → IsSameStore s t
-same_store_without front back s t h =
-    record { zones = h.zones; held = h.held; faultless = h.faultless; later = h.later; quiet = h.quiet }
+pub same_store_without : (front back : List Read) (m n : ℕ) (s t : StoreSeen) → s.faults ≤ t.faults → s.faultless ≡ false
+    → IsSameStore (behind front m s) (behind back n t) → IsSameStore s t
+same_store_without front back m n s t later faulty h =
+    record { zones = h.zones; held = h.held; faultless = h.faultless; later = later; quiet = λ e. absurd (both_ways s.faultless faulty e) }
 
-same_store_with : (front back : List Read) (s t : StoreSeen) → IsSameStore s t → IsSameStore (behind front s) (behind back t)
-same_store_with front back s t h =
-    record { zones = h.zones; held = h.held; faultless = h.faultless; later = h.later; quiet = h.quiet }
+pub same_store_with : (front back : List Read) (m n : ℕ) (s t : StoreSeen) → m ≤ n → s.faultless ≡ false → IsSameStore s t
+    → IsSameStore (behind front m s) (behind back n t)
+same_store_with front back m n s t later faulty h =
+    record { zones = h.zones; held = h.held; faultless = h.faultless; later = later; quiet = λ e. absurd (both_ways s.faultless faulty e) }
 
 -- ---- a read up to the first that fails
 
@@ -241,27 +251,143 @@ log_with s t more entries log = (λ i. entries i ++ log i) ∙ sym (append_assoc
 log_same : (s t : FileState) → file_entries t ≡ file_entries s → t.reads ≡ s.reads → file_entries t ++ t.reads ≡ file_entries s ++ s.reads
 log_same s t entries log = λ i. entries i ++ log i
 
+-- the counts
+counted_unfailed : (s : FileState) → s.failed ≡ None → once_counted s.failed s.damaged s.count ≡ 2 * s.count + 1
+counted_unfailed s none = ap (λ (o : Option Read). once_counted o s.damaged s.count) none
+
+counted_fault : (s : FileState) (read : Read) → s.failed ≡ Some read → s.damaged ≡ []
+    → once_counted s.failed s.damaged s.count ≡ 2 * s.count + min 1 (s.count - (2 ^ 64 - 2))
+counted_fault s read failed damaged = λ i. once_counted (failed i) (damaged i) s.count
+
+counted_damage : (s : FileState) (read : Read) → s.failed ≡ Some read → s.damaged ≡ read ∷ [] → once_counted s.failed s.damaged s.count ≡ 2 * s.count + 2
+counted_damage s read failed damaged = λ i. once_counted (failed i) (damaged i) s.count
+
+later_unfailed : (a b m n : ℕ) → m ≡ 2 * a + 1 → n ≡ 2 * b + 1 → a ≤ b → m ≤ n
+later_unfailed a b m n is are later = omega (arith, is, are, later)
+
+later_damage : (a b m n : ℕ) → m ≡ 2 * a + 1 → n ≡ 2 * b + 2 → b ≡ a → (m ≤ n) × (one_more m ≤ n)
+later_damage a b m n is are same = (omega (arith, is, are, same), omega (arith, is, are, same))
+
+later_fault : (a b m n : ℕ) → m ≡ 2 * a + 1 → n ≡ 2 * b + min 1 (b - (2 ^ 64 - 2)) → a ≤ b → one_more a ≤ b → (m ≤ n) × (one_more m ≤ n)
+later_fault a b m n is are later risen = elim (cases_lt b (2 ^ 64 - 1)) [
+  | inl lt ↦ (omega (arith, is, are, later, risen, lt), omega (arith, is, are, later, risen, lt))
+  | inr ge ↦ (omega (arith, is, are, later, risen, ge), omega (arith, is, are, later, risen, ge))
+]
+
+-- how the count of faults goes where a read fails
+failed_counts : (s t : FileState) (read : Read) → s.failed ≡ None → s.damaged ≡ [] → t.failed ≡ Some read → IsSameFile s t
+    → FailsByFault s t ⊎ FailsByDamage s t read
+    → (once_counted s.failed s.damaged s.count ≤ once_counted t.failed t.damaged t.count)
+    × (one_more (once_counted s.failed s.damaged s.count) ≤ once_counted t.failed t.damaged t.count)
+failed_counts s t read none fresh failed file (inl h) =
+    later_fault s.count t.count _ _ (counted_unfailed s none) (counted_fault t read failed (h.damaged ∙ fresh)) file.later h.risen
+failed_counts s t read none fresh failed file (inr h) =
+    later_damage s.count t.count _ _ (counted_unfailed s none)
+    (counted_damage t read failed (h.damaged ∙ ap (λ (rs : List Read). rs ++ read ∷ []) fresh)) h.same
+
 pub read_once : (s t : FileState) (block : ℕ) (name : Bytes) (answer : Result ColumnRef StoreError) → s.failed ≡ None → FailedOnce s.failed s.damaged
     → IsSameStore (file_seen s) (file_seen t) → Reads (file_seen s) (file_seen t) block name answer → IsSameFile s t → ReadsFile s t block name answer
     → IsOnceRead s t block name answer
 read_once s t block name (Ok c) none once same reads file kind =
     let entries = same_entries s t file.header file.bytes in
+    let later = later_unfailed s.count t.count _ _ (counted_unfailed s none) (counted_unfailed t (reads.2 ∙ none)) file.later in
     record {
       once = stays_once s t reads.2 kind.damaged once;
-      same = same_store_with (file_entries s) (file_entries t) (file_seen s) (file_seen t) same;
+      same = same_store_with (file_entries s) (file_entries t) _ _ (file_seen s) (file_seen t) later refl same;
       reads = (record { ty = reads.0.ty; len = reads.0.len; rows = reads.0.rows }, log_with s t ((block, name) ∷ []) entries reads.1, reads.2);
     }
 read_once s t block name (Err errors.Failed) none once same reads file kind =
     let entries = same_entries s t file.header file.bytes in
+    let fresh = none_damaged s.failed s.damaged none once in
+    let counts = failed_counts s t (block, name) none fresh reads.2 file kind in
     record {
-      once = failed_first s t (block, name) reads.2 (by_fault_or_damage s t (block, name) kind) (none_damaged s.failed s.damaged none once);
-      same = same_store_with (file_entries s) (file_entries t) (file_seen s) (file_seen t) same;
-      reads = (reads.0, log_same s t entries reads.1, reads.2);
+      once = failed_first s t (block, name) reads.2 (by_fault_or_damage s t (block, name) kind) fresh;
+      same = same_store_with (file_entries s) (file_entries t) _ _ (file_seen s) (file_seen t) counts.0 refl same;
+      reads = (counts.1, log_same s t entries reads.1, reads.2);
     }
 read_once s t block name (Err errors.NoMemory) none once same reads file kind =
     let entries = same_entries s t file.header file.bytes in
+    let later = later_unfailed s.count t.count _ _ (counted_unfailed s none) (counted_unfailed t (reads.1 ∙ none)) file.later in
     record {
       once = stays_once s t reads.1 (ap (λ (u : FileState). u.damaged) kind) once;
-      same = same_store_with (file_entries s) (file_entries t) (file_seen s) (file_seen t) same;
+      same = same_store_with (file_entries s) (file_entries t) _ _ (file_seen s) (file_seen t) later refl same;
       reads = (log_same s t entries reads.0, reads.1);
     }
+
+-- ---- the counts after a scan
+
+-- what is known of the source's count
+pub record Counts (s t : FileState) : Type 0 where
+  pub later : s.count ≤ t.count
+  pub risen : (read : Read) → t.failed ≡ Some read → t.damaged ≡ [] → one_more s.count ≤ t.count
+
+count_unfailed : (a b m n : ℕ) → m ≡ 2 * a + 1 → n ≡ 2 * b + 1 → m ≤ n → a ≤ b
+count_unfailed a b m n is are later = omega (arith, is, are, later)
+
+count_damage : (a b m n : ℕ) → m ≡ 2 * a + 1 → n ≡ 2 * b + 2 → m ≤ n → a ≤ b
+count_damage a b m n is are later = omega (arith, is, are, later)
+
+count_fault : (a b m n : ℕ) → m ≡ 2 * a + 1 → n ≡ 2 * b + min 1 (b - (2 ^ 64 - 2)) → m ≤ n → (a ≤ b) × (one_more a ≤ b)
+count_fault a b m n is are later = elim (cases_lt b (2 ^ 64 - 1)) [
+  | inl lt ↦ (omega (arith, is, are, later, lt), omega (arith, is, are, later, lt))
+  | inr ge ↦ (omega (arith, is, are, later, ge), omega (arith, is, are, later, ge))
+]
+
+pub counts_of : (s t : FileState) → s.failed ≡ None → FailedOnce t.failed t.damaged
+    → once_counted s.failed s.damaged s.count ≤ once_counted t.failed t.damaged t.count → Counts s t
+counts_of s t none once later = by t.failed refl once
+  where
+    before : once_counted s.failed s.damaged s.count ≡ 2 * s.count + 1
+    before = counted_unfailed s none
+
+    never_nil : (read : Read) → read ∷ [] ≡ [] → ⊥
+    never_nil read k = cc
+
+    by : (o : Option Read) → t.failed ≡ o → FailedOnce o t.damaged → Counts s t
+    by None e h = record {
+      later = count_unfailed s.count t.count _ _ before (counted_unfailed t e) later;
+      risen = λ read failed fresh. absurd (none-some read (sym e ∙ failed));
+    }
+    by (Some read) e (inl h) =
+        let both = count_fault s.count t.count _ _ before (counted_fault t read e h) later in
+        record { later = both.0; risen = λ other failed fresh. both.1 }
+    by (Some read) e (inr h) = record {
+      later = count_damage s.count t.count _ _ before (counted_damage t read e h) later;
+      risen = λ other failed fresh. absurd (never_nil read (sym h ∙ fresh));
+    }
+
+-- what it tells of the faults of the file as any store
+pub faults_later : (s t : FileState) → s.damaged ≡ [] → Counts s t → (file_seen s).faults ≤ (file_seen t).faults
+faults_later s t fresh counts =
+    let none : length s.damaged ≡ 0 = ap (λ (rs : List Read). length rs) fresh in omega (arith, none, counts.later)
+
+risen_damage : (a b d n : ℕ) → d ≡ 0 → n ≡ 1 → a ≤ b → one_more (a + d) ≤ b + n
+risen_damage a b d n none one later = omega (arith, none, one, later)
+
+risen_fault : (a b d n : ℕ) → d ≡ 0 → n ≡ 0 → one_more a ≤ b → one_more (a + d) ≤ b + n
+risen_fault a b d n none also risen = omega (arith, none, also, risen)
+
+pub file_tells : (s t : FileState) → s.failed ≡ None → s.damaged ≡ [] → FailedOnce t.failed t.damaged → Counts s t
+    → Tells (file_entries s) (once_counted s.failed s.damaged s.count) (once_counted t.failed t.damaged t.count) (file_seen s) (file_seen t)
+file_tells s t unfailed fresh once counts = record {
+  same = λ e. same_faults (ap (λ (u : StoreSeen). u.failed) e ∙ unfailed) (ap (λ (u : StoreSeen). u.faults) e);
+  risen = λ read failed. by read failed (subst (λ (o : Option Read). FailedOnce o t.damaged) failed once);
+}
+  where
+    none : length s.damaged ≡ 0
+    none = ap (λ (rs : List Read). length rs) fresh
+
+    same_count : (a b m n c d : ℕ) → m ≡ 2 * a + 1 → n ≡ 2 * b + 1 → n ≡ m → c ≡ 0 → d ≡ 0 → b + d ≡ a + c
+    same_count a b m n c d is are e zero also = omega (arith, is, are, e, zero, also)
+
+    same_faults : t.failed ≡ None → once_counted t.failed t.damaged t.count ≡ once_counted s.failed s.damaged s.count
+        → (file_seen t).faults ≡ (file_seen s).faults
+    same_faults still e =
+        same_count s.count t.count _ _ (length s.damaged) (length t.damaged) (counted_unfailed s unfailed) (counted_unfailed t still) e none
+        (ap (λ (rs : List Read). length rs) (none_damaged t.failed t.damaged still once))
+
+    by : (read : Read) → t.failed ≡ Some read → (t.damaged ≡ []) ⊎ (t.damaged ≡ read ∷ []) → one_more (file_seen s).faults ≤ (file_seen t).faults
+    by read failed (inl h) =
+        risen_fault s.count t.count (length s.damaged) (length t.damaged) none (ap (λ (rs : List Read). length rs) h) (counts.risen read failed h)
+    by read failed (inr h) =
+        risen_damage s.count t.count (length s.damaged) (length t.damaged) none (ap (λ (rs : List Read). length rs) h) counts.later

@@ -73,7 +73,8 @@ abbrev pub HonestFileScansAreWhole : Type 0
 HonestFileScansAreWhole =
     (holds : ExprEncoding → Bool) (filter_text projection_text bytes : Bytes) (filter_expr projection : Tree) (before after : FileState)
     (report : ScanReport) → IsToldScan holds filter_text projection_text bytes filter_expr projection before after (Ok report)
-    → IsHonest before.header.zones (held_at before.header bytes) → (report_view report).rows ≡ rows_of (held_at before.header bytes) [] filter_expr projection
+    → IsHonest before.header.zones (held_at before.header bytes)
+    → (report_view report).rows ≡ rows_of (held_at before.header bytes) [] filter_expr projection
 
 -- whatever two expressions the texts spell, they meet no damage
 abbrev pub MeetNoDamage : (ExprEncoding → Bool) → Bytes → Bytes → FileState → Bytes → Type 0

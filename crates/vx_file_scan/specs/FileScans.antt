@@ -40,6 +40,7 @@ pub record IsFileScan (holds : ExprEncoding → Bool) (filter_text projection_te
     (answer : Result ScanReport ScanError) : Type 0 where
   pub header : after.header ≡ before.header
   pub bytes : after.bytes ≡ before.bytes
+  pub later : before.count ≤ after.count
   pub same : IsSameStore (file_seen before) (file_seen after)
   pub ends : IsScan holds filter_text projection_text (file_seen before) (file_seen after) answer
   pub shows : WhereBytes before.bytes
