@@ -20,9 +20,11 @@ pub struct FileScan<R: Ranged> {
     pub file: BlockFile<R>,
 }
 
-/// Scans a block file that wasn't read yet by two byte texts, as [`scan`] does any store. Where the source tells its bytes, StoreFault comes only where the
-/// source counted a fault, or a read up to the end of the first phase that breaks is of a damaged pair; where one is, the answer is neither a report nor
-/// Overflow nor BadCast.
+/// Scans a block file that wasn't read yet by two byte texts, as [`scan`] does any store. Its bytes stay, and the count of its source's faults never falls.
+///
+/// Where the source tells the bytes, and the texts spell expressions, StoreFault comes only where the source counted a fault in this call, or where one of
+/// the reads of the scan, up to the end of the first phase that breaks, is of a damaged pair. Where one is, the answer is neither a report nor Overflow nor
+/// BadCast. A damaged pair that the scan doesn't read is never met.
 pub fn scan_file<R: Ranged>(
     alloc: Global,
     registry: &ExprRegistry,
