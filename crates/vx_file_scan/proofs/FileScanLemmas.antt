@@ -1,5 +1,5 @@
 -- What the scan of a block file shows of damage, by what it left.
-use Rattle.std.proofs.Common.{◌≡◌, refl, sym, ap, ◌∙◌, subst, ◌⊎◌, inl, inr, ◌≤◌, Bool, false, cond, Option, Some, None, option_map, List, [], ◌∷◌, ◌++◌}
+use Rattle.std.proofs.Common.{◌≡◌, refl, sym, ap, ◌∙◌, subst, ◌⊎◌, inl, inr, ℕ, ◌≤◌, Bool, false, cond, Option, Some, None, option_map, List, [], ◌∷◌, ◌++◌, length}
 use Rattle.std.specs.Prelude.{Result, Ok, Err}
 use Rattle.std.specs.List.{AllByRecursion, list_any}
 use Rattle.std.proofs.lemmas.Bool.{or_parts}
@@ -22,9 +22,10 @@ use Rattle.vx_scan.specs.declared.reports.ScanReport.{ScanReport}
 use Rattle.vx_scan.proofs.TextLemmas.{texts_so}
 use Rattle.vx_file_open.specs.Layouts.{content_at, WhereBytes}
 use Rattle.vx_file.specs.FileStates.{FileState, file_seen, held_at, IsSound, IsSpoilt, IsKept}
-use Rattle.vx_file_scan.specs.FirstFailures.{IsUnread, file_entries, once_counted, behind, once_seen, FailedOnce}
-use Rattle.vx_file_scan.specs.FileScans.{SomeSpoilt, reads_over, StopShows, AnswerShows, IsFileScan}
-use Rattle.vx_file_scan.proofs.StoreLemmas.{one_front, same_entries, Grown, scan_grows, scan_without, same_store_without, Counts, counts_of, faults_later, file_tells}
+use Rattle.vx_file_scan.specs.FirstFailures.{IsUnread, file_entries, once_counted, once_failed, behind, once_seen, FailedOnce}
+use Rattle.vx_file_scan.specs.FileScans.{DamagedOnce, SomeSpoilt, reads_over, StopShows, AnswerShows, IsFileScan}
+use Rattle.vx_file_scan.proofs.StoreLemmas.{one_front, same_entries, Grown, scan_grows, scan_without, same_store_without, Counts, counts_of, faults_later, stays, file_tells, answer_counts}
+use Rattle.vx_file_scan.proofs.AskedLemmas.{one_of}
 
 -- ---- damaged reads
 
@@ -41,10 +42,6 @@ pub none_spoilt : (s : FileState) (bytes : Bytes) (reads : List Read) → AllByR
 none_spoilt s bytes reads sound some = some (sound_unspoilt s.header bytes reads sound)
 
 -- one that is damaged is one of those that it stands among
-one_of : (P : Read → Type 0) (before after : List Read) (read : Read) → AllByRecursion P (before ++ read ∷ after) → P read
-one_of P [] after read all = all.0
-one_of P (r ∷ before) after read all = one_of P before after read all.1
-
 pub spoilt_among : (s : FileState) (bytes : Bytes) (before after : List Read) (read : Read) → IsSpoilt s.header bytes read
     → SomeSpoilt s bytes (before ++ read ∷ after)
 spoilt_among s bytes before after read here none = one_of (λ r. ¬ (IsSpoilt s.header bytes r)) before after read none here
@@ -80,7 +77,7 @@ pub record IsLeft (s t : FileState) (bytes : Bytes) (made : List Read) : Type 0 
   pub reads : t.reads ≡ made
   pub sound : AllByRecursion (IsSound s.header bytes) t.reads
   pub spoilt : AllByRecursion (IsSpoilt s.header bytes) t.damaged
-  pub once : FailedOnce t.failed t.damaged
+  pub once : FailedOnce (length t.header.zones.lengths) t.failed t.damaged
   pub counts : Counts s t
 
 -- the reads that were made aren't damaged
@@ -91,7 +88,7 @@ made_sound s t bytes made reads left e =
 -- a read that failed
 failed_shows : (s t : FileState) (bytes : Bytes) (made : List Read) (read : Read) (reads : List Read) → IsLeft s t bytes made → t.failed ≡ Some read
     → (left : List Read) × (reads ≡ made ++ (read ∷ left)) → (one_more s.count ≤ t.count) ⊎ SomeSpoilt s bytes reads
-failed_shows s t bytes made read reads left failed next = by (subst (λ (o : Option Read). FailedOnce o t.damaged) failed left.once)
+failed_shows s t bytes made read reads left failed next = by (subst (λ (o : Option Read). FailedOnce (length t.header.zones.lengths) o t.damaged) failed left.once).1
   where
     by : (t.damaged ≡ []) ⊎ (t.damaged ≡ read ∷ []) → (one_more s.count ≤ t.count) ⊎ SomeSpoilt s bytes reads
     by (inl none) = inl (left.counts.risen read failed none)
@@ -137,8 +134,14 @@ answer_shows s t bytes made f p (Err e) told none left h = stop_shows (kind_of e
 
 -- ---- the scan
 
+-- at most one read failed by damage
+damaged_once : (blocks : ℕ) (failed : Option Read) (damaged : List Read) → FailedOnce blocks failed damaged → DamagedOnce failed damaged
+damaged_once blocks None damaged h = inl h
+damaged_once blocks (Some read) damaged (_, inl h) = inl h
+damaged_once blocks (Some read) damaged (_, inr h) = inr (read, refl, h)
+
 pub file_scanned : (holds : ExprEncoding → Bool) (ft pt : Bytes) (s t : FileState) (answer : Result ScanReport ScanError) → IsUnread s
-    → IsSameStore (once_seen s) (once_seen t) → IsScan holds ft pt (once_seen s) (once_seen t) answer → FailedOnce t.failed t.damaged
+    → IsSameStore (once_seen s) (once_seen t) → IsScan holds ft pt (once_seen s) (once_seen t) answer → FailedOnce (length t.header.zones.lengths) t.failed t.damaged
     → WhereBytes t.bytes (IsKept t) → IsFileScan holds ft pt s t answer
 file_scanned holds ft pt s t answer unread same ends once kept =
     let grown : Grown (once_seen s) (once_seen t) = scan_grows holds ft pt (once_seen s) (once_seen t) answer ends in
@@ -147,16 +150,19 @@ file_scanned holds ft pt s t answer unread same ends once kept =
     let entries = same_entries s t header front.bytes in
     let counts = counts_of s t unread.failed once same.later in
     let as_any : IsScan holds ft pt (file_seen s) (file_seen t) answer =
-    scan_without (file_entries s) _ _ holds ft pt (file_seen s) (file_seen t) answer (file_tells s t unread.failed unread.damaged once counts)
-    (subst (λ (es : List Read). IsScan holds ft pt (once_seen s) (behind es (once_counted t.failed t.damaged t.count) (file_seen t)) answer) entries ends) in
+    scan_without (file_entries s) _ _ _ _ holds ft pt (file_seen s) (file_seen t) answer (file_tells s t header unread.failed unread.damaged once counts)
+    (subst (λ (es : List Read). IsScan holds ft pt (once_seen s)
+    (behind es (once_counted t.failed t.damaged t.count) (once_failed t.header.zones t.failed t.count) (file_seen t)) answer) entries ends) in
     let shown : (o : Option Bytes) → s.bytes ≡ o
     → WhereBytes o (λ bytes. (f p : Tree) → SpellBoth holds ft pt f p
     → AnswerShows answer s t bytes (reads_over s bytes f p)) = by header front.bytes counts grown.0 (made_reads s t grown.0 unread.reads front.rest) as_any in
     record {
       header = header;
       bytes = front.bytes;
-      later = counts.later;
-      same = same_store_without (file_entries s) (file_entries t) _ _ (file_seen s) (file_seen t) (faults_later s t unread.damaged counts) refl same;
+      counts = answer_counts holds ft pt (once_seen s) (once_seen t) answer s.count t.count counts.later
+          (λ e. (stays s t header unread.failed once e).1) ends;
+      damaged = damaged_once (length t.header.zones.lengths) t.failed t.damaged once;
+      same = same_store_without (file_entries s) (file_entries t) _ _ _ _ (file_seen s) (file_seen t) (faults_later s t unread.damaged counts) refl same;
       ends = as_any;
       shows = shown s.bytes refl;
     }

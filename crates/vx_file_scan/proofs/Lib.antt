@@ -1,3 +1,4 @@
+pub mod AskedLemmas
 pub mod StoreLemmas
 pub mod FileScanLemmas
 pub mod TableScanLemmas

@@ -1,5 +1,5 @@
 -- How the scan of a block file ends, beside what holds of any store: which damage it met, or that it met none.
-use Rattle.std.specs.Prelude.{◌≡◌, ◌⊎◌, ◌≤◌, Bool, List, [], Result, Ok, Err}
+use Rattle.std.specs.Prelude.{◌≡◌, ◌⊎◌, ℕ, ◌≤◌, Bool, List, [], ◌∷◌, Option, Some, Result, Ok, Err}
 use Rattle.std.specs.List.{AllByRecursion}
 use Rattle.vx_dtype.specs.Types.{Bytes}
 use Rattle.vx_expr.specs.Trees.{Tree}
@@ -34,13 +34,28 @@ abbrev pub AnswerShows : Result ScanReport ScanError → FileState → FileState
 AnswerShows (Ok report) before after bytes reads = ¬ (SomeSpoilt before bytes reads)
 AnswerShows (Err e) before after bytes reads = StopShows (kind_of e) before after bytes reads
 
+-- how the source's count went from one number to another by an error of a kind: it stays, but where a read failed
+abbrev pub StopCounts : ErrorKind → ℕ → ℕ → Type 0
+StopCounts of_read before now = before ≤ now
+StopCounts _ before now = now ≡ before
+
+-- and by an answer
+abbrev pub AnswerCounts : Result ScanReport ScanError → ℕ → ℕ → Type 0
+AnswerCounts (Ok report) before now = now ≡ before
+AnswerCounts (Err e) before now = StopCounts (kind_of e) before now
+
+-- no read failed by damage, or the one that failed last did and no other
+abbrev pub DamagedOnce : Option Read → List Read → Type 0
+DamagedOnce failed damaged = (damaged ≡ []) ⊎ ((read : Read) × (failed ≡ Some read) × (damaged ≡ read ∷ []))
+
 -- how the scan of a file ends by two texts: as that of any store; and where the bytes are told and the texts spell expressions it shows whether one of the
 -- reads is of a damaged pair
 pub record IsFileScan (holds : ExprEncoding → Bool) (filter_text projection_text : Bytes) (before after : FileState)
     (answer : Result ScanReport ScanError) : Type 0 where
   pub header : after.header ≡ before.header
   pub bytes : after.bytes ≡ before.bytes
-  pub later : before.count ≤ after.count
+  pub counts : AnswerCounts answer before.count after.count
+  pub damaged : DamagedOnce after.failed after.damaged
   pub same : IsSameStore (file_seen before) (file_seen after)
   pub ends : IsScan holds filter_text projection_text (file_seen before) (file_seen after) answer
   pub shows : WhereBytes before.bytes

@@ -29,11 +29,12 @@ impl<R: Ranged> Model for FirstFailure<R> {
 
     ghost coded = { coded_file };
 
+    ghost use Rattle.std.specs.Prelude.{length};
     ghost use Rattle.vx_file_scan.specs.FirstFailures.{FailedOnce};
 
     ghost view = { λ s. s.file };
 
-    ghost invariant = { λ s. FailedOnce s.file.failed s.file.damaged };
+    ghost invariant = { λ s. FailedOnce (length s.file.header.zones.lengths) s.file.failed s.file.damaged };
 }
 
 impl<R: Ranged> FirstFailure<R> {
@@ -48,7 +49,7 @@ impl<R: Ranged> FirstFailure<R> {
     /// The file as it was left.
     pub(crate) fn into_file(self) -> BlockFile<R>
         ensures file { result ≡ self }
-        ensures once { FailedOnce self.failed self.damaged }
+        ensures once { FailedOnce (length self.header.zones.lengths) self.failed self.damaged }
         ensures kept { WhereBytes self.bytes (IsKept self) }
     {
         let FirstFailure { file } = self;

@@ -20,7 +20,8 @@ pub struct FileScan<R: Ranged> {
     pub file: BlockFile<R>,
 }
 
-/// Scans a block file that wasn't read yet by two byte texts, as [`scan`] does any store. Its bytes stay, and the count of its source's faults never falls.
+/// Scans a block file that wasn't read yet by two byte texts, as [`scan`] does any store. Its bytes stay, and its source's count of faults is what it was but
+/// for StoreFault, where it may have risen. No read is of a damaged pair but the last one that failed.
 ///
 /// Where the source tells the bytes, and the texts spell expressions, StoreFault comes only where the source counted a fault in this call, or where one of
 /// the reads of the scan, up to the end of the first phase that breaks, is of a damaged pair. Where one is, the answer is neither a report nor Overflow nor
