@@ -34,13 +34,23 @@ fn made(alloc: Global, levels: usize, words: &Value) -> Result<ColumnRef, CaseEr
         return Err(CaseError::NotAsked);
     }
     let columns = all_made(alloc, levels - 1, words)?;
-    if text_in(words, "call") == "struct" {
-        return structs(alloc, words, columns);
+    match text_in(words, "call") {
+        "struct" => structs(alloc, words, columns),
+        call => of_columns(alloc, words, call, columns.as_slice()),
     }
-    match columns.as_slice() {
+}
+
+/// What a call makes of columns.
+fn of_columns(
+    alloc: Global,
+    words: &Value,
+    call: &str,
+    columns: &[ColumnRef],
+) -> Result<ColumnRef, CaseError> {
+    match columns {
         [] => of_told(alloc, words),
         [column] => of_one(alloc, words, column),
-        [left, right] => of_two(alloc, text_in(words, "call"), left, right),
+        [left, right] => of_two(alloc, call, left, right),
         [column, lower, upper] => ranged(alloc, words, column, lower, upper),
         _ => Err(CaseError::NotAsked),
     }
@@ -52,9 +62,9 @@ fn of_one(alloc: Global, words: &Value, column: &ColumnRef) -> Result<ColumnRef,
         "clone" => Ok(column.clone()?),
         "not" => negated(alloc, column),
         "is_null" => Ok(is_null(alloc, column)?),
-        "cast" => cast_to(alloc, column, &type_in(alloc, text_in(words, "type"))?),
+        "cast" => cast_to(alloc, column, text_in(words, "type")),
         "field" => field_of(alloc, column, text_in(words, "name")),
-        "project" => projected(alloc, column, names_in(alloc, words)?.as_slice()),
+        "project" => projected(alloc, column, words),
         "append" => appended(
             alloc,
             column,
@@ -74,11 +84,12 @@ fn negated(alloc: Global, column: &ColumnRef) -> Result<ColumnRef, CaseError> {
 }
 
 /// Values in another type.
-fn cast_to(alloc: Global, column: &ColumnRef, target: &DType) -> Result<ColumnRef, CaseError> {
-    if !takes_cast(column.dtype(), target) {
+fn cast_to(alloc: Global, column: &ColumnRef, dtype: &str) -> Result<ColumnRef, CaseError> {
+    let target = type_in(alloc, dtype)?;
+    if !takes_cast(column.dtype(), &target) {
         return Err(CaseError::NotAsked);
     }
-    Ok(cast(alloc, column, target)?)
+    Ok(cast(alloc, column, &target)?)
 }
 
 /// A field of structs.
@@ -90,15 +101,11 @@ fn field_of(alloc: Global, column: &ColumnRef, name: &str) -> Result<ColumnRef, 
 }
 
 /// Structs of some of their fields.
-fn projected(
-    alloc: Global,
-    column: &ColumnRef,
-    names: &[FieldName],
-) -> Result<ColumnRef, CaseError> {
+fn projected(alloc: Global, column: &ColumnRef, words: &Value) -> Result<ColumnRef, CaseError> {
     if !column.dtype().is_struct() {
         return Err(CaseError::NotAsked);
     }
-    Ok(column.project(alloc, names)?)
+    Ok(column.project(alloc, &names_in(alloc, words)?)?)
 }
 
 /// The column of values of a type with those of a column behind them.

@@ -56,23 +56,44 @@ const TYPES: [PType; 8] = [
 
 /// The answer to the call of a row, as a text.
 pub(crate) fn answer(alloc: Global, row: &Value) -> Result<String, CaseError> {
-    Ok(answer_to(alloc, row)?)
+    let call = text_in(row, "call");
+    if let Some(on) = list_call(call) {
+        return Ok(on_list(alloc, row, on)?);
+    }
+    match pair_call(call) {
+        Some(on) => Ok(on_pair(alloc, row, on)?),
+        None => Ok(other(alloc, row, call)?),
+    }
 }
 
-/// As above, where only memory can be missing.
-fn answer_to(alloc: Global, row: &Value) -> Mem<String> {
-    match text_in(row, "call") {
-        "numbers" => on_list(alloc, row, OnList::Numbers),
-        "copy" => on_list(alloc, row, OnList::Copy),
-        "is_null" => on_list(alloc, row, OnList::IsNull),
-        "bounds" => on_list(alloc, row, OnList::Bounds),
-        "filter" => on_list(alloc, row, OnList::Filter),
-        "compare_with" => on_list(alloc, row, OnList::CompareWith),
-        "cast" => on_list(alloc, row, OnList::Cast),
-        "compare" => on_pair(alloc, row, OnPair::Compare),
-        "add" => on_pair(alloc, row, OnPair::Add),
-        "sub" => on_pair(alloc, row, OnPair::Sub),
-        "add_equals" => on_pair(alloc, row, OnPair::AddEquals),
+/// The call on one list with this name.
+fn list_call(name: &str) -> Option<OnList> {
+    match name {
+        "numbers" => Some(OnList::Numbers),
+        "copy" => Some(OnList::Copy),
+        "is_null" => Some(OnList::IsNull),
+        "bounds" => Some(OnList::Bounds),
+        "filter" => Some(OnList::Filter),
+        "compare_with" => Some(OnList::CompareWith),
+        "cast" => Some(OnList::Cast),
+        _ => None,
+    }
+}
+
+/// The call on two lists with this name.
+fn pair_call(name: &str) -> Option<OnPair> {
+    match name {
+        "compare" => Some(OnPair::Compare),
+        "add" => Some(OnPair::Add),
+        "sub" => Some(OnPair::Sub),
+        "add_equals" => Some(OnPair::AddEquals),
+        _ => None,
+    }
+}
+
+/// The answer to any other call.
+fn other(alloc: Global, row: &Value, call: &str) -> Mem<String> {
+    match call {
         "equal" => equal(alloc, row, "left", "right"),
         "same" => equal(alloc, row, "list", "list"),
         "repeated" => repeated(alloc, row),
@@ -87,26 +108,43 @@ fn not_asked(alloc: Global) -> Mem<String> {
 
 /// A call on the list of a row.
 fn on_list(alloc: Global, row: &Value, call: OnList) -> Mem<String> {
-    let Some(list) = numbers_in(alloc, row, "list")? else {
-        return not_asked(alloc);
-    };
-    match call {
-        OnList::Numbers => numbers_text(alloc, &list),
-        OnList::Copy => numbers_text(alloc, &list.clone()?),
-        OnList::IsNull => truths_text(alloc, &list.is_null(alloc)?),
-        OnList::Bounds => bounds_text(alloc, &list),
-        OnList::Filter => kept(alloc, &list, list_in(row, "keep")),
-        OnList::CompareWith => comparisons_with(alloc, &list, number_in(row, "number")),
-        OnList::Cast => casts(alloc, &list),
+    match &numbers_in(alloc, row, "list")? {
+        Some(list) => of_list(alloc, row, list, call),
+        None => not_asked(alloc),
     }
+}
+
+/// A call on a list.
+fn of_list(alloc: Global, row: &Value, list: &Numbers, call: OnList) -> Mem<String> {
+    match call {
+        OnList::Numbers => numbers_text(alloc, list),
+        OnList::Copy => copy_text(alloc, list),
+        OnList::IsNull => nulls_text(alloc, list),
+        OnList::Bounds => bounds_text(alloc, list),
+        OnList::Filter => kept(alloc, list, list_in(row, "keep")),
+        OnList::CompareWith => comparisons_with(alloc, list, number_in(row, "number")),
+        OnList::Cast => casts(alloc, list),
+    }
+}
+
+/// The text of a copy of a list.
+fn copy_text(alloc: Global, list: &Numbers) -> Mem<String> {
+    numbers_text(alloc, &list.clone()?)
+}
+
+/// Where a list has no number.
+fn nulls_text(alloc: Global, list: &Numbers) -> Mem<String> {
+    truths_text(alloc, &list.is_null(alloc)?)
 }
 
 /// The least number and the greatest, each or `null`, and at how many places there is none.
 fn bounds_text(alloc: Global, list: &Numbers) -> Mem<String> {
     let (least, greatest) = list.bounds();
-    let least = number_text(alloc, least)?;
-    let greatest = number_text(alloc, greatest)?;
-    Ok(format!(in alloc; "{least} {greatest} {}", list.null_count())?)
+    let mut text = number_text(alloc, least)?;
+    text.push_str(" ")?;
+    text.push_str(number_text(alloc, greatest)?.as_str())?;
+    text.push_str(format!(in alloc; " {}", list.null_count())?.as_str())?;
+    Ok(text)
 }
 
 /// A number, or `null`.
@@ -119,11 +157,15 @@ fn number_text(alloc: Global, number: Option<i128>) -> Mem<String> {
 
 /// The numbers at the places where these truths are true.
 fn kept(alloc: Global, list: &Numbers, keep: &[Value]) -> Mem<String> {
-    let keep = truths_of(alloc, keep)?;
+    kept_by(alloc, list, &truths_of(alloc, keep)?)
+}
+
+/// The same, by a list of truths.
+fn kept_by(alloc: Global, list: &Numbers, keep: &Truths) -> Mem<String> {
     if keep.len() != list.len() {
         return not_asked(alloc);
     }
-    numbers_text(alloc, &list.filter(alloc, &keep)?)
+    numbers_text(alloc, &list.filter(alloc, keep)?)
 }
 
 /// The list's comparisons with a number, one text for each operator.
@@ -155,7 +197,7 @@ fn push_comparison(
 fn casts(alloc: Global, list: &Numbers) -> Mem<String> {
     let mut text = String::new(alloc);
     for target in TYPES {
-        let made = total_text(alloc, list.cast(alloc, target)?)?;
+        let made = total_text(alloc, &list.cast(alloc, target)?)?;
         text.push_str(format!(in alloc; "{made};")?.as_str())?;
     }
     Ok(text)
@@ -163,19 +205,35 @@ fn casts(alloc: Global, list: &Numbers) -> Mem<String> {
 
 /// A call on the two lists of a row.
 fn on_pair(alloc: Global, row: &Value, call: OnPair) -> Mem<String> {
-    let Some(left) = numbers_in(alloc, row, "left")? else {
-        return not_asked(alloc);
-    };
-    let Some(right) = numbers_in(alloc, row, "right")? else {
-        return not_asked(alloc);
-    };
+    match &numbers_in(alloc, row, "left")? {
+        Some(left) => with_right(alloc, row, left, call),
+        None => not_asked(alloc),
+    }
+}
+
+/// A call on a list and the right one of a row.
+fn with_right(alloc: Global, row: &Value, left: &Numbers, call: OnPair) -> Mem<String> {
+    match &numbers_in(alloc, row, "right")? {
+        Some(right) => on_both(alloc, row, left, right, call),
+        None => not_asked(alloc),
+    }
+}
+
+/// A call on two lists.
+fn on_both(
+    alloc: Global,
+    row: &Value,
+    left: &Numbers,
+    right: &Numbers,
+    call: OnPair,
+) -> Mem<String> {
     if left.ptype() != right.ptype() {
         return not_asked(alloc);
     }
     if left.len() != right.len() {
         return not_asked(alloc);
     }
-    of_pair(alloc, row, &left, &right, call)
+    of_pair(alloc, row, left, right, call)
 }
 
 /// A call on two lists of one type and length.
@@ -185,19 +243,15 @@ fn of_pair(alloc: Global, row: &Value, left: &Numbers, right: &Numbers, call: On
 {
     match call {
         OnPair::Compare => comparisons(alloc, left, right),
-        OnPair::Add => total_text(alloc, left.checked_add(alloc, right)?),
-        OnPair::Sub => total_text(alloc, left.checked_sub(alloc, right)?),
-        OnPair::AddEquals => is_sum(alloc, row, left, right),
+        OnPair::Add => total_text(alloc, &left.checked_add(alloc, right)?),
+        OnPair::Sub => total_text(alloc, &left.checked_sub(alloc, right)?),
+        OnPair::AddEquals => is_total(alloc, row, &left.checked_add(alloc, right)?),
     }
 }
 
-/// Whether the sum of two lists is the total that a row holds.
-fn is_sum(alloc: Global, row: &Value, left: &Numbers, right: &Numbers) -> Mem<String>
-    requires types { right.now.ptype ≡ left.now.ptype }
-    requires lengths { length right.now.numbers ≡ length left.now.numbers }
-{
-    let sum = left.checked_add(alloc, right)?;
-    equality(alloc, sum, numbers_in(alloc, row, "total")?)
+/// Whether a sum is the total that a row holds.
+fn is_total(alloc: Global, row: &Value, sum: &Option<Numbers>) -> Mem<String> {
+    equality(alloc, sum, &numbers_in(alloc, row, "total")?)
 }
 
 /// The comparisons of two lists, one text for each operator.
@@ -215,14 +269,17 @@ fn comparisons(alloc: Global, left: &Numbers, right: &Numbers) -> Mem<String>
 
 /// Whether two lists of a row are equal.
 fn equal(alloc: Global, row: &Value, left: &str, right: &str) -> Mem<String> {
-    let left = numbers_in(alloc, row, left)?;
-    let right = numbers_in(alloc, row, right)?;
-    equality(alloc, left, right)
+    equals(alloc, &numbers_in(alloc, row, left)?, row, right)
+}
+
+/// Whether a list is equal to one of a row.
+fn equals(alloc: Global, left: &Option<Numbers>, row: &Value, right: &str) -> Mem<String> {
+    equality(alloc, left, &numbers_in(alloc, row, right)?)
 }
 
 /// Whether two lists are equal.
-fn equality(alloc: Global, left: Option<Numbers>, right: Option<Numbers>) -> Mem<String> {
-    match (&left, &right) {
+fn equality(alloc: Global, left: &Option<Numbers>, right: &Option<Numbers>) -> Mem<String> {
+    match (left, right) {
         (Some(left), Some(right)) => Ok(format!(in alloc; "{}", *left == *right)?),
         _ => not_asked(alloc),
     }
@@ -237,9 +294,18 @@ fn repeated(alloc: Global, row: &Value) -> Mem<String> {
     if !fits(ptype, number) {
         return not_asked(alloc);
     }
-    let list = Numbers::repeated(alloc, ptype, number, word_in(row, "times") as usize)?;
+    let times = word_in(row, "times") as usize;
+    counted(
+        alloc,
+        &Numbers::repeated(alloc, ptype, number, times)?,
+        number,
+    )
+}
+
+/// The type of a list, its length, and at how many places a number stands, or null.
+fn counted(alloc: Global, list: &Numbers, number: Option<i128>) -> Mem<String> {
     let name = list.ptype().name();
-    let count = places_of(&list, number);
+    let count = places_of(list, number);
     Ok(format!(in alloc; "{name} {} {count}", list.len())?)
 }
 
@@ -264,13 +330,11 @@ fn numbers_in(alloc: Global, row: &Value, name: &str) -> Mem<Option<Numbers>> {
     let Some(member) = row.get(name) else {
         return Ok(None);
     };
-    let Some(list) = unmasked(alloc, member)? else {
-        return Ok(None);
-    };
-    if member.get("mask").is_none() {
-        return Ok(Some(list));
+    let list = unmasked(alloc, member)?;
+    match (&list, member.get("mask")) {
+        (Some(list), Some(_)) => masked(alloc, list, list_in(member, "mask")),
+        _ => Ok(list),
     }
-    masked(alloc, list, list_in(member, "mask"))
 }
 
 /// The list of a type and numbers, none where one of them leaves the type.
@@ -289,12 +353,16 @@ fn unmasked(alloc: Global, member: &Value) -> Mem<Option<Numbers>> {
 }
 
 /// The list, null where these truths are true. None where there isn't a truth for each number.
-fn masked(alloc: Global, list: Numbers, mask: &[Value]) -> Mem<Option<Numbers>> {
-    let nulls = truths_of(alloc, mask)?;
+fn masked(alloc: Global, list: &Numbers, mask: &[Value]) -> Mem<Option<Numbers>> {
+    masked_by(alloc, list, &truths_of(alloc, mask)?)
+}
+
+/// The same, by a list of truths.
+fn masked_by(alloc: Global, list: &Numbers, nulls: &Truths) -> Mem<Option<Numbers>> {
     if nulls.len() != list.len() {
         return Ok(None);
     }
-    Ok(Some(list.mask(alloc, &nulls)?))
+    Ok(Some(list.mask(alloc, nulls)?))
 }
 
 /// Whether each number is null or one of the type.
@@ -315,8 +383,8 @@ fn fits(ptype: PType, number: Option<i128>) -> bool
 }
 
 /// The text of a list, or `none`.
-fn total_text(alloc: Global, list: Option<Numbers>) -> Mem<String> {
-    match &list {
+fn total_text(alloc: Global, list: &Option<Numbers>) -> Mem<String> {
+    match list {
         Some(list) => numbers_text(alloc, list),
         None => Ok(String::from_str(alloc, "none")?),
     }

@@ -3,6 +3,7 @@ use crate::errors::CaseError;
 use crate::{columns, numbers, words};
 use serde_json::Value;
 use std::alloc::Global;
+use vx_dtype::Mem;
 
 /// The crate whose calls the rows of a table ask.
 #[derive(Clone, Copy)]
@@ -30,17 +31,29 @@ pub(crate) fn try_rows(alloc: Global, text: &str, rows: Rows) -> Result<Tried, C
         differences: Vec::new(alloc),
     };
     for row in list_of(Some(&table)) {
-        let found = answer_to(alloc, row, rows)?;
-        let want = text_in(row, "want");
-        if found.as_str() == want {
-            tried.agreed = tried.agreed.saturating_add(1);
-        } else {
-            let call = row.to_string(alloc)?;
-            let line = format!(in alloc; "{found} in place of {want}: {call}")?;
-            tried.differences.push(line)?;
-        }
+        try_row(alloc, row, rows, &mut tried)?;
     }
     Ok(tried)
+}
+
+/// Tries a row.
+fn try_row(alloc: Global, row: &Value, rows: Rows, tried: &mut Tried) -> Result<(), CaseError> {
+    let found = answer_to(alloc, row, rows)?;
+    let want = text_in(row, "want");
+    if found.as_str() == want {
+        tried.agreed = tried.agreed.saturating_add(1);
+        return Ok(());
+    }
+    tried
+        .differences
+        .push(difference(alloc, row, found, want)?)?;
+    Ok(())
+}
+
+/// A line for a row whose answer differs.
+fn difference(alloc: Global, row: &Value, found: String, want: &str) -> Mem<String> {
+    let call = row.to_string(alloc)?;
+    Ok(format!(in alloc; "{found} in place of {want}: {call}")?)
 }
 
 /// The answer to the call of a row, as a text.

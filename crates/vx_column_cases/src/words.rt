@@ -1,4 +1,6 @@
 // Calls on words of bits and on lists of truths.
+ghost use Rattle.std.specs.Prelude.{◌≡◌, length};
+
 use crate::errors::CaseError;
 use crate::rows::{list_in, text_in};
 use serde_json::Value;
@@ -16,6 +18,7 @@ enum OnList {
     TrueCount,
     NextTrue,
     IsRepeated,
+    Repeated,
 }
 
 /// A call on two lists of truths of one length.
@@ -25,75 +28,144 @@ enum OnPair {
     Or,
     Filter,
     Mask,
+    Kept,
+}
+
+/// A call on words of bits.
+#[derive(Clone, Copy)]
+enum OnWords {
+    And,
+    Or,
+    Not,
 }
 
 /// The answer to the call of a row, as a text.
 pub(crate) fn answer(alloc: Global, row: &Value) -> Result<String, CaseError> {
-    Ok(answer_to(alloc, row)?)
+    let call = text_in(row, "call");
+    if let Some(on) = list_call(call) {
+        return Ok(on_list(alloc, row, on)?);
+    }
+    if let Some(on) = pair_call(call) {
+        return Ok(on_pair(alloc, row, on)?);
+    }
+    match words_call(call) {
+        Some(on) => Ok(words_text(alloc, on_words(row, on))?),
+        None => Ok(format!(in alloc; "no call {call}")?),
+    }
 }
 
-/// As above, where only memory can be missing.
-fn answer_to(alloc: Global, row: &Value) -> Mem<String> {
-    match text_in(row, "call") {
-        "truths" => on_list(alloc, row, OnList::Truths),
-        "copy" => on_list(alloc, row, OnList::Copy),
-        "not" => on_list(alloc, row, OnList::Not),
-        "is_null" => on_list(alloc, row, OnList::IsNull),
-        "true_count" => on_list(alloc, row, OnList::TrueCount),
-        "next_true" => on_list(alloc, row, OnList::NextTrue),
-        "is_repeated" => on_list(alloc, row, OnList::IsRepeated),
-        "repeated" => truths_text(alloc, &repeated(alloc, row)?),
-        "and" => on_pair(alloc, row, OnPair::And),
-        "or" => on_pair(alloc, row, OnPair::Or),
-        "filter" => on_pair(alloc, row, OnPair::Filter),
-        "mask" => on_pair(alloc, row, OnPair::Mask),
-        "kept" => kept(alloc, row),
-        "and_words" => words_text(alloc, conjunction(row)),
-        "or_words" => words_text(alloc, disjunction(row)),
-        "not_words" => words_text(alloc, negation(row)),
-        call => Ok(format!(in alloc; "no call {call}")?),
+/// The call on one list with this name.
+fn list_call(name: &str) -> Option<OnList> {
+    match name {
+        "truths" => Some(OnList::Truths),
+        "copy" => Some(OnList::Copy),
+        "not" => Some(OnList::Not),
+        "is_null" => Some(OnList::IsNull),
+        "true_count" => Some(OnList::TrueCount),
+        "next_true" => Some(OnList::NextTrue),
+        "is_repeated" => Some(OnList::IsRepeated),
+        "repeated" => Some(OnList::Repeated),
+        _ => None,
+    }
+}
+
+/// The call on two lists with this name.
+fn pair_call(name: &str) -> Option<OnPair> {
+    match name {
+        "and" => Some(OnPair::And),
+        "or" => Some(OnPair::Or),
+        "filter" => Some(OnPair::Filter),
+        "mask" => Some(OnPair::Mask),
+        "kept" => Some(OnPair::Kept),
+        _ => None,
+    }
+}
+
+/// The call on words of bits with this name.
+fn words_call(name: &str) -> Option<OnWords> {
+    match name {
+        "and_words" => Some(OnWords::And),
+        "or_words" => Some(OnWords::Or),
+        "not_words" => Some(OnWords::Not),
+        _ => None,
     }
 }
 
 /// A call on the truths of a row.
 fn on_list(alloc: Global, row: &Value, call: OnList) -> Mem<String> {
-    let truths = truths_of(alloc, list_in(row, "truths"))?;
+    of_list(alloc, row, &truths_of(alloc, list_in(row, "truths"))?, call)
+}
+
+/// A call on a list of truths.
+fn of_list(alloc: Global, row: &Value, truths: &Truths, call: OnList) -> Mem<String> {
     match call {
-        OnList::Truths => truths_text(alloc, &truths),
-        OnList::Copy => truths_text(alloc, &truths.clone()?),
-        OnList::Not => truths_text(alloc, &truths.not(alloc)?),
-        OnList::IsNull => truths_text(alloc, &truths.is_null(alloc)?),
+        OnList::Truths => truths_text(alloc, truths),
         OnList::TrueCount => Ok(format!(in alloc; "{}", truths.true_count())?),
-        OnList::NextTrue => next_places(alloc, &truths, list_in(row, "from")),
-        OnList::IsRepeated => Ok(format!(in alloc; "{}", truths == repeated(alloc, row)?)?),
+        OnList::NextTrue => next_places(alloc, truths, list_in(row, "from")),
+        OnList::IsRepeated => is_repeated(alloc, row, truths),
+        _ => truths_text(alloc, &list_of(alloc, row, truths, call)?),
     }
+}
+
+/// The list that a call makes of a list.
+fn list_of(alloc: Global, row: &Value, truths: &Truths, call: OnList) -> Mem<Truths> {
+    match call {
+        OnList::Not => truths.not(alloc),
+        OnList::IsNull => truths.is_null(alloc),
+        OnList::Repeated => repeated(alloc, row),
+        _ => Ok(truths.clone()?),
+    }
+}
+
+/// Whether a list is that of the row's one truth, as many times as it says.
+fn is_repeated(alloc: Global, row: &Value, truths: &Truths) -> Mem<String> {
+    let is_same = *truths == repeated(alloc, row)?;
+    Ok(format!(in alloc; "{is_same}")?)
 }
 
 /// A call on the two lists of a row.
 fn on_pair(alloc: Global, row: &Value, call: OnPair) -> Mem<String> {
-    let left = truths_of(alloc, list_in(row, "left"))?;
-    let right = truths_of(alloc, list_in(row, "right"))?;
+    with_right(alloc, &truths_of(alloc, list_in(row, "left"))?, row, call)
+}
+
+/// A call on a list and the right one of a row.
+fn with_right(alloc: Global, left: &Truths, row: &Value, call: OnPair) -> Mem<String> {
+    of_pair(
+        alloc,
+        left,
+        &truths_of(alloc, list_in(row, "right"))?,
+        row,
+        call,
+    )
+}
+
+/// A call on two lists of truths.
+fn of_pair(alloc: Global, left: &Truths, right: &Truths, row: &Value, call: OnPair) -> Mem<String> {
     if left.len() != right.len() {
         return Ok(String::from_str(alloc, "not asked")?);
     }
-    let made = match call {
-        OnPair::And => left.and(alloc, &right),
-        OnPair::Or => left.or(alloc, &right),
-        OnPair::Filter => left.filter(alloc, &right),
-        OnPair::Mask => left.mask(alloc, &right),
-    };
-    truths_text(alloc, &made?)
+    truths_text(alloc, &pair_of(alloc, left, right, row, call)?)
 }
 
-/// The items of the left list at the places where the right one is true.
-fn kept(alloc: Global, row: &Value) -> Mem<String> {
-    let items = options_of(alloc, list_in(row, "left"))?;
-    let truths = truths_of(alloc, list_in(row, "right"))?;
-    if items.len() != truths.len() {
-        return Ok(String::from_str(alloc, "not asked")?);
+/// The list that a call makes of two lists of one length.
+fn pair_of(alloc: Global, left: &Truths, right: &Truths, row: &Value, call: OnPair) -> Mem<Truths>
+    requires { length right.now ≡ length left.now }
+{
+    match call {
+        OnPair::And => left.and(alloc, right),
+        OnPair::Or => left.or(alloc, right),
+        OnPair::Filter => left.filter(alloc, right),
+        OnPair::Mask => left.mask(alloc, right),
+        OnPair::Kept => kept(alloc, &options_of(alloc, list_in(row, "left"))?, right),
     }
-    let kept = truths.kept(alloc, items.as_slice())?;
-    truths_text(alloc, &Truths::from_options(alloc, kept.as_slice())?)
+}
+
+/// The items at the places where a list of truths is true, none where there are more or fewer items.
+fn kept(alloc: Global, items: &Vec<Option<bool>>, truths: &Truths) -> Mem<Truths> {
+    if items.len() != truths.len() {
+        return Truths::from_options(alloc, &[]);
+    }
+    Truths::from_options(alloc, &truths.kept(alloc, items.as_slice())?)
 }
 
 /// The list of the row's one truth, as many times as it says.
@@ -151,6 +223,15 @@ fn letter(truth: Option<bool>) -> &'static str {
 /// A whole number of 64 bits, 0 where the row has none.
 pub(crate) fn word_in(row: &Value, name: &str) -> u64 {
     row.get(name).and_then(Value::as_u64).unwrap_or(0)
+}
+
+/// The words that a call makes of those of a row.
+fn on_words(row: &Value, call: OnWords) -> (u64, u64) {
+    match call {
+        OnWords::And => conjunction(row),
+        OnWords::Or => disjunction(row),
+        OnWords::Not => negation(row),
+    }
 }
 
 /// The words of validity and of values of one side of a row.

@@ -72,7 +72,12 @@ fn tracked(alloc: Global, stat: Stat) -> Mem<(Option<ExprRef>, usize)> {
 fn scoped(alloc: Global, stat: Stat) -> Mem<(Option<ExprRef>, usize)> {
     let mut available = FieldPathSet::new(alloc);
     available.insert(statistic(alloc, "max")?)?;
-    let mut scope = ScopeStatsCatalog::new(alloc, &available);
+    scoped_in(alloc, &available, stat)
+}
+
+/// The same in a catalog that has these statistics.
+fn scoped_in(alloc: Global, available: &FieldPathSet, stat: Stat) -> Mem<(Option<ExprRef>, usize)> {
+    let mut scope = ScopeStatsCatalog::new(alloc, available);
     let found = found_in(alloc, &mut scope, stat)?;
     Ok((found, scope.into_required(alloc)?.map().len()))
 }
@@ -130,14 +135,24 @@ fn relations(rt: HostRuntime) -> Result<(), Fail> {
     Ok(())
 }
 
-/// How many values stand beside the number 1 in the relation of a map from 1 to the numbers 2 and 3.
-fn values_beside_one(alloc: Global) -> Mem<usize> {
+/// The numbers 2 and 3.
+fn two_and_three(alloc: Global) -> Mem<HashSet<u64>> {
     let mut values = HashSet::new(alloc);
     values.insert(2u64)?;
     values.insert(3u64)?;
+    Ok(values)
+}
+
+/// The map from 1 to these numbers.
+fn one_to(alloc: Global, values: HashSet<u64>) -> Mem<HashMap<u64, HashSet<u64>>> {
     let mut map = HashMap::new(alloc);
     map.insert(1u64, values)?;
-    let relation = Relation::from_map(map);
+    Ok(map)
+}
+
+/// How many values stand beside the number 1 in the relation of a map from 1 to the numbers 2 and 3.
+fn values_beside_one(alloc: Global) -> Mem<usize> {
+    let relation = Relation::from_map(one_to(alloc, two_and_three(alloc)?)?);
     Ok(match relation.map().get(&1) {
         Some(beside) => beside.len(),
         None => 0,

@@ -68,12 +68,17 @@ fn ample(rt: HostRuntime) -> Result<(), Fail> {
     Ok(())
 }
 
+/// The name of these characters and a number.
+fn numbered_name(alloc: Global, start: &str, number: usize) -> Mem<FieldName> {
+    let text = format!(in alloc; "{start}{number}")?;
+    FieldName::new(alloc, text.as_str())
+}
+
 /// Fields of these types under names that begin with these characters and end with a number.
 fn numbered(alloc: Global, start: &str, dtypes: Vec<DType>) -> Mem<StructFields> {
     let mut names = Vec::new(alloc);
     for i in 0..dtypes.len() {
-        let text = format!(in alloc; "{start}{i}")?;
-        names.push(FieldName::new(alloc, text.as_str())?)?;
+        names.push(numbered_name(alloc, start, i)?)?;
     }
     StructFields::new(alloc, FieldNames::new(alloc, names)?, dtypes)
 }
@@ -95,12 +100,18 @@ fn wide(alloc: Global) -> Mem<StructFields> {
 /// Adds the three statistics of a path, without values.
 fn add_three(alloc: Global, stats: &mut Vec<ZoneStat>, path: &FieldPath) -> Mem<()> {
     for stat in [Stat::Min, Stat::Max, Stat::NullCount] {
+        let path = path.clone()?;
         let values = Scalars::new(Vec::new(alloc));
-        stats.push(ZoneStat {
-            path: path.clone()?,
-            stat,
-            values,
-        })?;
+        stats.push(ZoneStat { path, stat, values })?;
+    }
+    Ok(())
+}
+
+/// Adds the three statistics of each number in a column.
+fn add_column(alloc: Global, stats: &mut Vec<ZoneStat>, column: &FieldPath) -> Mem<()> {
+    for field in 0..131usize {
+        let path = column.push(alloc, numbered_name(alloc, "field", field)?)?;
+        add_three(alloc, stats, &path)?;
     }
     Ok(())
 }
@@ -108,14 +119,9 @@ fn add_three(alloc: Global, stats: &mut Vec<ZoneStat>, path: &FieldPath) -> Mem<
 /// The three statistics of each number in each column.
 fn many(alloc: Global) -> Mem<Vec<ZoneStat>> {
     let mut stats = Vec::new(alloc);
-    for column in 0..1024u32 {
-        let text = format!(in alloc; "column{column}")?;
-        let column = FieldPath::from_name(alloc, FieldName::new(alloc, text.as_str())?)?;
-        for field in 0..131u32 {
-            let text = format!(in alloc; "field{field}")?;
-            let path = column.push(alloc, FieldName::new(alloc, text.as_str())?)?;
-            add_three(alloc, &mut stats, &path)?;
-        }
+    for column in 0..1024usize {
+        let column = FieldPath::from_name(alloc, numbered_name(alloc, "column", column)?)?;
+        add_column(alloc, &mut stats, &column)?;
     }
     Ok(stats)
 }

@@ -39,14 +39,24 @@ fn is_struct_of<V: VTable>(alloc: Global, node: &V::Expr, expr: &ExprRef) -> boo
 
 /// Whether a struct has so many children, and stays as it is with its own.
 fn has_children<V: VTable>(alloc: Global, node: &V::Expr, expr: &ExprRef, count: usize) -> bool {
-    let Ok(list) = V::children(node, alloc) else {
-        return false;
-    };
-    let Ok(own) = own_children(alloc, expr) else {
-        return false;
-    };
+    match V::children(node, alloc) {
+        Ok(list) => list.len() == count && stays::<V>(alloc, node, expr),
+        Err(_) => false,
+    }
+}
+
+/// Whether a struct stays as it is with its own children.
+fn stays<V: VTable>(alloc: Global, node: &V::Expr, expr: &ExprRef) -> bool {
+    match own_children(alloc, expr) {
+        Ok(own) => stays_with::<V>(alloc, node, expr, own),
+        Err(_) => false,
+    }
+}
+
+/// Whether a struct stays as it is with these children.
+fn stays_with<V: VTable>(alloc: Global, node: &V::Expr, expr: &ExprRef, own: Vec<ExprRef>) -> bool {
     match V::with_children(node, alloc, own) {
-        Ok(same) => list.len() == count && is_struct_of::<V>(alloc, &same, expr),
+        Ok(same) => is_struct_of::<V>(alloc, &same, expr),
         Err(_) => false,
     }
 }
@@ -72,68 +82,112 @@ fn is_another<V: VTable>(expr: &ExprRef) -> bool {
 
 /// Whether the first query is of the kind of this name with so many children, and the other is of another.
 fn views<V: VTable>(alloc: Global, query: &str, id: &str, count: usize, other: &str) -> bool {
-    let Ok(expr) = read_query(alloc, query) else {
-        return false;
-    };
-    match read_query(alloc, other) {
-        Ok(other) => is_viewed::<V>(alloc, &expr, id, count) && is_another::<V>(&other),
+    match read_query(alloc, query) {
+        Ok(expr) => is_viewed::<V>(alloc, &expr, id, count) && names_another::<V>(alloc, other),
+        Err(_) => false,
+    }
+}
+
+/// Whether a query is of another kind.
+fn names_another<V: VTable>(alloc: Global, query: &str) -> bool {
+    match read_query(alloc, query) {
+        Ok(expr) => is_another::<V>(&expr),
         Err(_) => false,
     }
 }
 
 /// Whether a column holds the scalar twice.
-fn is_twice(alloc: Global, column: ColumnRef, want: &Scalar) -> bool {
+fn is_twice(alloc: Global, column: &ColumnRef, want: &Scalar) -> bool {
     match ColumnRef::constant(alloc, want, 2) {
-        Ok(wanted) => column == wanted,
+        Ok(wanted) => *column == wanted,
         Err(_) => false,
     }
 }
 
 /// Whether an expression of the kind gives the scalar at each of two rows, and has its type.
 fn gives<V: VTableEval>(alloc: Global, expr: &ExprRef, want: &Scalar) -> bool {
-    let Ok(scope) = Scope::empty(alloc, 2) else {
-        return false;
+    match (Scope::empty(alloc, 2), expr.as_opt::<V>()) {
+        (Ok(scope), Some(node)) => gives_over::<V>(alloc, node, &scope, want),
+        _ => false,
+    }
+}
+
+/// The same of the expression's struct, over two rows.
+fn gives_over<V: VTableEval>(alloc: Global, node: &V::Expr, scope: &Scope, want: &Scalar) -> bool {
+    let is_typed = match V::return_dtype(node, alloc, scope.root().dtype()) {
+        Ok(dtype) => dtype == *want.dtype(),
+        Err(_) => false,
     };
-    let Some(node) = expr.as_opt::<V>() else {
-        return false;
-    };
-    let Ok(dtype) = V::return_dtype(node, alloc, scope.root().dtype()) else {
-        return false;
-    };
-    match V::evaluate(node, alloc, &scope) {
-        Ok(column) => dtype == *want.dtype() && is_twice(alloc, column, want),
+    is_typed && evaluates_to::<V>(alloc, node, scope, want)
+}
+
+/// Whether a struct gives the scalar at each of two rows.
+fn evaluates_to<V: VTableEval>(
+    alloc: Global,
+    node: &V::Expr,
+    scope: &Scope,
+    want: &Scalar,
+) -> bool {
+    match V::evaluate(node, alloc, scope) {
+        Ok(column) => is_twice(alloc, &column, want),
         Err(_) => false,
     }
 }
 
 /// Whether a query of the kind gives the constant that the other one names.
 fn answers<V: VTableEval>(alloc: Global, query: &str, want: &str) -> bool {
-    let Ok(expr) = read_query(alloc, query) else {
-        return false;
-    };
-    let Ok(constant) = read_query(alloc, want) else {
-        return false;
-    };
-    match LiteralVTable::pick(&constant) {
-        Some(node) => gives::<V>(alloc, &expr, node.value()),
+    match read_query(alloc, query) {
+        Ok(expr) => gives_named::<V>(alloc, &expr, want),
+        Err(_) => false,
+    }
+}
+
+/// Whether an expression of the kind gives the constant that a query names.
+fn gives_named<V: VTableEval>(alloc: Global, expr: &ExprRef, want: &str) -> bool {
+    match read_query(alloc, want) {
+        Ok(constant) => gives_constant::<V>(alloc, expr, &constant),
+        Err(_) => false,
+    }
+}
+
+/// Whether an expression of the kind gives the constant that another one is.
+fn gives_constant<V: VTableEval>(alloc: Global, expr: &ExprRef, constant: &ExprRef) -> bool {
+    match LiteralVTable::pick(constant) {
+        Some(node) => gives::<V>(alloc, expr, node.value()),
         None => false,
     }
 }
 
 /// Whether the metadata builds the expression over its children, and nothing over none unless it has none.
 fn builds<V: VTableWire>(alloc: Global, expr: &ExprRef, metadata: &[u8]) -> bool {
-    let Ok(own) = own_children(alloc, expr) else {
-        return false;
-    };
+    match own_children(alloc, expr) {
+        Ok(own) => builds_over::<V>(alloc, expr, metadata, own),
+        Err(_) => false,
+    }
+}
+
+/// The same over these children.
+fn builds_over<V: VTableWire>(
+    alloc: Global,
+    expr: &ExprRef,
+    metadata: &[u8],
+    own: Vec<ExprRef>,
+) -> bool {
     let has_none = own.is_empty();
-    let Ok(built) = V::build(alloc, metadata, own) else {
-        return false;
-    };
-    match V::build(alloc, metadata, Vec::new(alloc)) {
-        Ok(_) => has_none && is_struct_of::<V>(alloc, &built, expr),
-        Err(refusal) => {
-            refusal == BuildError::WrongChildren && is_struct_of::<V>(alloc, &built, expr)
+    match V::build(alloc, metadata, own) {
+        Ok(built) => {
+            is_struct_of::<V>(alloc, &built, expr)
+                && builds_over_none::<V>(alloc, metadata, has_none)
         }
+        Err(_) => false,
+    }
+}
+
+/// Whether the metadata builds something over no children where there are none, and nothing else.
+fn builds_over_none<V: VTableWire>(alloc: Global, metadata: &[u8], has_none: bool) -> bool {
+    match V::build(alloc, metadata, Vec::new(alloc)) {
+        Ok(_) => has_none,
+        Err(refusal) => refusal == BuildError::WrongChildren,
     }
 }
 
@@ -147,16 +201,19 @@ fn refuses<V: VTableWire>(alloc: Global) -> bool {
 
 /// Whether a query of the kind has this metadata, and is built of it.
 fn writes<V: VTableWire>(alloc: Global, query: &str, want: &[u8]) -> bool {
-    let Ok(expr) = read_query(alloc, query) else {
-        return false;
-    };
+    match read_query(alloc, query) {
+        Ok(expr) => is_written::<V>(alloc, &expr, want) && builds::<V>(alloc, &expr, want),
+        Err(_) => false,
+    }
+}
+
+/// Whether an expression of the kind has this metadata, and bytes that are none are refused.
+fn is_written<V: VTableWire>(alloc: Global, expr: &ExprRef, want: &[u8]) -> bool {
     if !expr.is::<V>() {
         return false;
     }
     match V::metadata(expr.as_::<V>(), alloc) {
-        Ok(metadata) => {
-            metadata.as_slice() == want && builds::<V>(alloc, &expr, want) && refuses::<V>(alloc)
-        }
+        Ok(metadata) => metadata.as_slice() == want && refuses::<V>(alloc),
         Err(_) => false,
     }
 }

@@ -75,6 +75,6 @@ fn comparisons_with_a_slot_have_no_form(rt: HostRuntime) -> Result<(), Fail> {
 #[test]
 fn want_of_memory_prints_as_its_name(rt: HostRuntime) -> Result<(), Fail> {
     let text = BuildError::NoMemory.to_string(rt.alloc())?;
-    assert_eq!(rt; text.as_str(), "NoMemory");
+    assert!(rt; text.as_str() == "NoMemory");
     Ok(())
 }
