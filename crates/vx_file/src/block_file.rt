@@ -104,6 +104,14 @@ impl<R: Ranged> BlockFile<R> {
         self.damaged.as_slice().first()
     }
 
+    /// The source, which tells the file's bytes, with the faults that it has counted.
+    pub fn source(&self) -> &R
+        ensures bytes { R.bytes result.now ≡ self.now.bytes }
+        ensures faults { R.faults result.now ≡ self.now.count }
+    {
+        &self.source
+    }
+
     /// Reads the column of a block and a name that exist, of its range. None where it is damaged. Of the file only the source's count may change.
     fn fetch(&mut self, block: u32, name: &FieldName) -> Result<Option<ColumnRef>, PieceError>
         requires block { block < length self.old.header.zones.lengths }
