@@ -4,3 +4,5 @@ pub mod RequestMembers
 pub mod Cells
 pub mod Requests
 pub mod RequestViews
+pub mod FileRequests
+pub mod FileRequestViews

@@ -1,4 +1,4 @@
-// Why bytes are no request.
+// Why bytes are no request, and why they are none of a block file.
 ghost use Rattle.std.specs.Prelude.{◌≡◌};
 
 use std::alloc::{AllocError, AllocFailed};
@@ -107,5 +107,48 @@ impl From<ZoneError> for RequestError {
             ZoneError::WrongStatCount => RequestError::BadTable(TableRefusal::WrongStatCount),
             ZoneError::WrongStatType => RequestError::BadTable(TableRefusal::WrongStatType),
         }
+    }
+}
+
+/// A place of a request of a block file, in the order in which they are read.
+#[derive(Clone, Copy, PartialEq, Eq, Debug)]
+pub enum FilePlace {
+    /// The request itself: an object of exactly the other places.
+    Top,
+    File,
+    Filter,
+    Projection,
+}
+
+/// One of the three texts of a request of a block file.
+#[derive(Clone, Copy, PartialEq, Eq, Debug)]
+pub enum FileText {
+    File,
+    Filter,
+    Projection,
+}
+
+/// Why bytes are no request of a block file: the first reason, in this order.
+#[derive(PartialEq, Eq, Debug, Drop)]
+pub enum FileRequestError {
+    /// There was no memory.
+    NoMemory,
+    /// There are more than 16,777,216 bytes.
+    InputTooLong,
+    /// The bytes aren't a text of JSON that nests at most 127 levels.
+    BadJson,
+    /// A place doesn't hold what it has to.
+    BadRequest(FilePlace),
+    /// A text isn't of two hexadecimal digits for each byte.
+    BadHex(FileText),
+}
+
+impl From<NoMemory> for FileRequestError {
+    ghost use Rattle.vx_request.specs.declared.errors.FileRequestError.TheVariants.{NoMemory as OutOfMemory};
+
+    ghost from_gives = { λ _ e. e ≡ OutOfMemory };
+
+    fn from(_error: NoMemory) -> FileRequestError {
+        FileRequestError::NoMemory
     }
 }

@@ -36,7 +36,7 @@ pub struct ScanRequest {
 }
 
 /// The value that bytes are the JSON text of.
-fn value_in(alloc: Global, input: &[u8]) -> Mem<Option<Value>>
+pub(crate) fn value_in(alloc: Global, input: &[u8]) -> Mem<Option<Value>>
     ensures { IfOk result (λ value. option_map view value ≡ value_in input.now) }
 {
     match Value::from_slice(alloc, input) {
