@@ -1,0 +1,2 @@
+pub mod FileScanLemmas
+pub mod FileEndLemmas
