@@ -431,6 +431,85 @@ FILES = [
     *(("a file by %s" % " ".join(words), words, FIRST, "error: Usage", 2) for words in [["files"], ["file", "file"], ["file", "x", "1"], ["built", "file"]]),
 ]
 
+# the scan of block files: of files whose bytes are written out or are those of requests, with damaged ranges
+HELD = ["scan", "file"]
+HELD_TWO = 'rows 2 / 12 / 20 / skipped - / columns "x" / reads 2'
+XY = [("x", "i8"), ("y", "i8")]
+Y = item("y")
+Y_POSITIVE = binary(Y, ">", lit("i8", 0))
+
+
+def held(file, filter_bytes=ABOVE_TEN, projection=X):
+    """A request of the block file of these digits."""
+    return {"file": file, "filter": filter_bytes.hex(), "projection": projection.hex()}
+
+
+def held_of(asked):
+    """That of the file of a request's table, by its expressions."""
+    return {"file": block_files.answer(asked), "filter": asked["filter"], "projection": asked["projection"]}
+
+
+def damaged(columns, blocks, sound, broken, stats=()):
+    """The file of a table, of which the bytes at its end are replaced by as many."""
+    file = block_files.answer(request(columns, blocks, TRUE, X, stats))
+    assert file.endswith(sound) and len(sound) == len(broken)
+    return file[:len(file) - len(sound)] + broken
+
+
+# the columns x and y of a row, and of two blocks of a row each; 02 begins no value
+ONE_ROW = damaged(XY, [[[127], [5]]], "017f" "0105", "017f" "0205")
+NO_X = damaged(XY, [[[127], [5]]], "017f" "0105", "027f" "0105")
+TWO_ROWS = damaged(XY, [[[127], [5]], [[1], [5]]], "017f" "0105" "0101" "0105", "017f" "0105" "0201" "0105")
+LATE_DAMAGE = damaged(XY, [[[1], [5]], [[127], [5]]], "0101" "0105" "017f" "0105", "0101" "0205" "017f" "0105")
+SKIPPED = damaged(X32, TWO, FIRST_FILE[-30:], "0201000000" "010c000000" "0114000000", [(["x"], "max", [10, 20])])
+FRONT = "5658424c4b303031"
+TWICE_HELD = FRONT + "0f" "0400" "02" "0178" "010006" "0178" "010006" "00" "00"
+NO_COLUMN = FRONT + "0e" "0400" "01" "0178" "010006" "00" "01" "01" "0179" "00"
+SCANNED = [
+    ("a small file that is scanned", HELD, held(FIRST_FILE), HELD_TWO, 0),
+    ("a file whose last byte is cut", HELD, held(FIRST_FILE[:-2]), "error: BadFile end", 3),
+    ("a file with a byte behind it", HELD, held(FIRST_FILE + "00"), "error: BadFile end", 3),
+    ("a file of another mark", HELD, held("57" + FIRST_FILE[2:]), "error: BadFile magic", 3),
+    ("no bytes as a file", HELD, held(""), "error: BadFile magic", 3),
+    ("a mark alone", HELD, held(FRONT), "error: BadFile header", 3),
+    ("a cut header", HELD, held(FIRST_FILE[:30]), "error: BadFile header", 3),
+    ("a header of a column twice", HELD, held(TWICE_HELD), "error: BadFile zones", 3),
+    ("a header with a statistic of no column", HELD, held(NO_COLUMN), "error: BadFile header", 3),
+    ("a file whose last range is damaged", HELD, held(FIRST_FILE[:-10] + "0214000000"), "error: BadFile column", 3),
+    ("a damaged file by a filter of another type", HELD, held(FIRST_FILE[:-10] + "0214000000", binary(X, ">", lit("i64", 10))),
+     "error: TypeMismatch filter", 4),
+    ("damage in a column that isn't asked", HELD, held(ONE_ROW, TRUE, X), 'rows 1 / 127 / skipped - / columns "x" / reads 1', 0),
+    ("damage in a column that is", HELD, held(ONE_ROW, TRUE, Y), "error: BadFile column", 3),
+    ("a break before damage", HELD, held(ONE_ROW, NEXT_POSITIVE, Y), "error: Overflow", 5),
+    ("damage beside a break", HELD, held(ONE_ROW, binary(NEXT_POSITIVE, "and", Y_POSITIVE), X), "error: BadFile column", 3),
+    ("damage of what would break", HELD, held(NO_X, NEXT_POSITIVE, X), "error: BadFile column", 3),
+    ("damage that no row asks", HELD, held(ONE_ROW, binary(X, "<", lit("i8", 0)), Y), 'rows 0 / skipped - / columns "x" / reads 1', 0),
+    ("a break in a block before a damaged one", HELD, held(TWO_ROWS, NEXT_POSITIVE, X), "error: Overflow", 5),
+    ("damage in a block behind another", HELD, held(TWO_ROWS, TRUE, X), "error: BadFile column", 3),
+    ("damage before a break in a later block", HELD, held(LATE_DAMAGE, NEXT_POSITIVE, Y), "error: BadFile column", 3),
+    ("damage in a block that is skipped", HELD, held(SKIPPED), 'rows 1 / 20 / skipped 0 / columns "x" / reads 1', 0),
+    ("a cast that has no value in a file", HELD, held(block_files.answer(request(X8, [[[-1]]], TRUE, X)), TRUE, cast(X, "u8")), "error: BadCast", 5),
+    ("a file without blocks that is scanned", HELD, held(UNBLOCKED_FILE), "rows 0 / skipped - / columns - / reads 0", 0),
+    ("a catalog as a file", HELD, held_of(realistic()), REALISTIC, 0),
+    ("a file of lying statistics", HELD, held_of(LYING), NO_FIVE, 0),
+    *(("no scan of a file of %s" % name, HELD, asked, "error: " + told, status)
+      for name, asked, told, status in [
+          ("a cut request", b"{", "BadJson", 3), ("a list", b"[]", "BadRequest top", 3), ("16,777,217 spaces", b" " * LONG, "InputTooLong", 3),
+          ("a request", FIRST, "BadRequest top", 3), ("a member more", {**held(FIRST_FILE), "stats": []}, "BadRequest top", 3),
+          ("a member less", {"file": FIRST_FILE, "filter": X.hex()}, "BadRequest top", 3),
+          ("a number", {**held(FIRST_FILE), "file": 7, "filter": 7}, "BadRequest file", 3),
+          ("no filter", {**held("0"), "filter": 7, "projection": 7}, "BadRequest filter", 3),
+          ("no projection", {**held("0"), "projection": None}, "BadRequest projection", 3),
+          ("half a byte", {**held("0"), "filter": "0"}, "BadHex file", 3),
+          ("half a byte of filter", {**held("00"), "filter": "0", "projection": "0"}, "BadHex filter", 3),
+          ("half a byte of projection", {**held("00"), "projection": "zz"}, "BadHex projection", 3),
+          ("other bytes and no expression", held("00", b"\0"), "BadFile magic", 3), ("no expression", held(FIRST_FILE, b"\0"), "BadWire filter", 4),
+          ("no second expression", held(FIRST_FILE, X, b"\0"), "BadWire projection", 4), ("a filter of numbers", held(FIRST_FILE, X), "FilterNotBool", 4),
+          ("another column", held(FIRST_FILE, TRUE, Y), "UnknownField projection", 4)]),
+    *(("the scan of a file by %s" % " ".join(words), words, held(FIRST_FILE), "error: Usage", 2)
+      for words in [["scan", "files"], ["scan", "file", "x"], ["file", "scan"], ["explain", "file"], ["scan", "built", "file"]]),
+]
+
 
 def rows():
     """All rows: a name, arguments, what is taken, the answer and the exit status."""
@@ -439,6 +518,7 @@ def rows():
     yield from WORDS
     yield from TOPS
     yield from FILES
+    yield from SCANNED
 
 
 def main():

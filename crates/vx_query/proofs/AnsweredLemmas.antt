@@ -8,7 +8,7 @@ use Rattle.vx_query.specs.RefusalViews.{IsUnanswered, IsUnscanned}
 use Rattle.vx_query.specs.Running.{Statistics, scan_by}
 use Rattle.vx_query.specs.declared.endings.Ending.{Ending}
 use Rattle.vx_query.specs.declared.refusals.Refusal.{Refusal}
-use Rattle.vx_query.specs.declared.refusals.Refusal.TheVariants.{NoMemory, ReadFault, InputTooLong, BadJson, BadRequest, BadHex, BadTable, BadHexText, Scan, Query, NotSerializable, LongPart, UnknownKey, BadKey, LongTable}
+use Rattle.vx_query.specs.declared.refusals.Refusal.TheVariants.{NoMemory, ReadFault, InputTooLong, BadJson, BadRequest, BadHex, BadTable, BadHexText, Scan, Query, NotSerializable, LongPart, UnknownKey, BadKey, LongTable, FileScan}
 use Rattle.vx_query.proofs.StatisticsLemmas.{holds_by, refused_as}
 
 -- an input that holds a scan whose expressions are typed is answered by how it ends
@@ -39,4 +39,5 @@ unscanned_by chosen input a LongPart found none = absurd none
 unscanned_by chosen input a UnknownKey found none = absurd none
 unscanned_by chosen input a BadKey found none = absurd none
 unscanned_by chosen input a LongTable found none = absurd none
+unscanned_by chosen input a (FileScan e) found none = absurd none
 unscanned_by chosen input a (Scan e) found refused = record { asked = a; held = found; refused = refused_as chosen a e refused }

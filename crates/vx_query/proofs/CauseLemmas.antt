@@ -22,7 +22,7 @@ use Rattle.vx_request.specs.declared.errors.RequestError.{RequestError}
 use Rattle.vx_request.specs.declared.errors.RequestError.TheVariants.{InputTooLong}
 use Rattle.vx_query.specs.Reports.{report_text}
 use Rattle.vx_query.specs.Refusals.{request_refusal_name, scan_refusal_name, key_refusal_name, break_name, refusal_line}
-use Rattle.vx_query.specs.Running.{End, Form, Statistics, HoldsScan, HoldsRefused, scan_by, scan_table, scan_reads, scan_phases, scan_breaks, scan_breaks_by, scan_report, scanned_store, broken_store, scan_form, explain_form, top_form, reads_request, uses_expressions, asked_statistics, asked_top, HoldsNoKey, HasNoKey, IsTaken, IsRun}
+use Rattle.vx_query.specs.Running.{End, Form, Statistics, HoldsScan, HoldsRefused, scan_by, scan_table, scan_reads, scan_phases, scan_breaks, scan_breaks_by, scan_report, scanned_store, broken_store, scan_form, explain_form, top_form, reads_request, uses_expressions, scans_file, asked_statistics, asked_top, HoldsNoKey, HasNoKey, IsTaken, IsRun}
 use Rattle.vx_query.specs.TopWords.{AskedTop, KeyRefusal}
 use Rattle.vx_query.specs.Exclusions.{IsSameScan}
 use Rattle.vx_query.specs.WireLaws.{WireLaws}
@@ -146,9 +146,9 @@ unspelled form i i' o o' used reads none run = by (request_end form i i' o o' us
     by (files input a s is taken holds written held) = absurd (omega (arith, s))
 
 -- a scan that broke
-pub stopped : (form : Option Form) (i i' o o' : End) (used : Option StoreSeen) → asked_top form ≡ None
+pub stopped : (form : Option Form) (i i' o o' : End) (used : Option StoreSeen) → asked_top form ≡ None → scans_file form ≡ false
     → IsRun form i i' o o' used 5 → IsStopped form i i' o o' used
-stopped form i i' o o' used none run = by (request_end form i i' o o' used 5 (broken_reads form i i' o o' used run) run)
+stopped form i i' o o' used none scans_none run = by (request_end form i i' o o' used 5 (broken_reads form i i' o o' used scans_none run) run)
   where
     by : RequestEnd form i i' o o' used 5 → IsStopped form i i' o o' used
     by (cut_off s risen) = absurd (omega (arith, s))
@@ -226,11 +226,11 @@ told_expressions e form i i' o o' used reads tells = by (request_end form i i' o
     by (files input a s is taken holds written held) = absurd (omega (arith, s))
 
 -- one that tells a break
-pub told_break : (cause : Cause) (form : Option Form) (i i' o o' : End) (used : Option StoreSeen) → asked_top form ≡ None
+pub told_break : (cause : Cause) (form : Option Form) (i i' o o' : End) (used : Option StoreSeen) → asked_top form ≡ None → scans_file form ≡ false
     → Tells form i i' o o' used 5 (refusal_line (break_name cause))
     → HasBroken cause form i i'
-told_break cause form i i' o o' used none tells =
-    let found = stopped form i i' o o' used none tells.run in
+told_break cause form i i' o o' used none scans_none tells =
+    let found = stopped form i i' o o' used none scans_none tells.run in
     let same : found.cause ≡ cause =
     one_cause found.cause cause
     (told_name o.bytes o'.bytes tells.before (break_name cause) (break_name found.cause) tells.stood tells.written found.written) in

@@ -3,10 +3,10 @@ use Rattle.std.proofs.Common.{◌≡◌, sym, ap, refl, ℕ, ◌-◌, ◌^◌, �
 use Rattle.vx_dtype.specs.Types.{Bytes}
 use Rattle.vx_scan.specs.Stores.{StoreSeen}
 use Rattle.vx_query.specs.Refusals.{text_refusal_name}
-use Rattle.vx_query.specs.Running.{End, Form, scan_form, explain_form, show_form, text_form, gen_form, top_form, file_form, help_form, version_form, help_text, version_text, reads_request, shown_word, asked_rows, asked_statistics, asked_top, Outcome, misused, helped, versioned, out_of_memory, unread, refused, unscanned, broken, answered, explained, undecoded, unshown, shown, unnamed, unserialized, overlong, named, summed, unkeyed, top_broken, topped, unfiled, filed, Writing, whole, cut, IsOutcome, IsWriting, IsRun, status_of, outcome_text, used_by}
+use Rattle.vx_query.specs.Running.{End, Form, scan_form, explain_form, show_form, text_form, gen_form, top_form, file_form, scan_file_form, help_form, version_form, help_text, version_text, reads_request, reads_input, shown_word, asked_rows, asked_statistics, asked_top, Outcome, misused, helped, versioned, out_of_memory, unread, refused, unscanned, broken, answered, explained, undecoded, unshown, shown, unnamed, unserialized, overlong, named, summed, unkeyed, top_broken, topped, unfiled, filed, file_ended, Writing, whole, cut, IsOutcome, IsWriting, IsRun, status_of, outcome_text, used_by}
 use Rattle.vx_query.specs.Causes.{HasRisen, IsCut, IsUnread, IsWithoutMemory, IsTold, IsUndigited, IsUnshown, IsUnnamed}
 use Rattle.vx_query.proofs.FormLemmas.{scans_hold, others_take_nothing}
-use Rattle.vx_query.proofs.RequestEnds.{not_none}
+use Rattle.vx_query.proofs.RequestEnds.{not_none, no_sixth, no_seventh, no_eighth}
 use Rattle.vx_query.proofs.WordEnds as words
 use Rattle.vx_query.proofs.QueryEnds as queries
 
@@ -42,6 +42,7 @@ source_unread form i i' o o' used run = by run.outcome run.writing run.comes run
     by (topped input a ask) whole comes written held = absurd (omega (arith, written.0))
     by (unfiled input) whole comes written held = absurd (omega (arith, written.0))
     by (filed input a) whole comes written held = absurd (omega (arith, written.0))
+    by (file_ended input ending) whole comes written held = absurd (no_sixth ending written.0)
 
 -- a sink that failed
 pub sink_cut : (form : Option Form) (i i' o o' : End) (used : Option StoreSeen) → IsRun form i i' o o' used 7 → IsCut form i i' o o' used
@@ -73,6 +74,7 @@ sink_cut form i i' o o' used run = by run.outcome run.writing run.comes run.writ
     by (topped input a ask) whole comes written held = absurd (omega (arith, written.0))
     by (unfiled input) whole comes written held = absurd (omega (arith, written.0))
     by (filed input a) whole comes written held = absurd (omega (arith, written.0))
+    by (file_ended input ending) whole comes written held = absurd (no_seventh ending written.0)
 
 -- want of memory
 pub without_any : (form : Option Form) (i i' o o' : End) (used : Option StoreSeen) → IsRun form i i' o o' used 8 → IsWithoutMemory form i i' o o' used
@@ -104,6 +106,7 @@ without_any form i i' o o' used run = by run.outcome run.writing run.comes run.w
     by (topped input a ask) whole comes written held = absurd (omega (arith, written.0))
     by (unfiled input) whole comes written held = absurd (omega (arith, written.0))
     by (filed input a) whole comes written held = absurd (omega (arith, written.0))
+    by (file_ended input ending) whole comes written held = absurd (no_eighth ending written.0)
 
 -- a count that stayed hasn't risen, where it isn't at its last value
 stayed : (i i' : End) → i.faults < 2 ^ 64 - 1 → i'.faults ≡ i.faults → ¬ (HasRisen i i')
@@ -146,6 +149,7 @@ risen_unread form i i' o o' used status below risen quiet run = by run.outcome r
     by (topped input a ask) whole comes written = unrisen comes.taken.quiet
     by (unfiled input) whole comes written = unrisen comes.taken.quiet
     by (filed input a) whole comes written = unrisen comes.taken.quiet
+    by (file_ended input ending) whole comes written = unrisen comes.taken.quiet
 
 -- ---- help, and the version
 
@@ -194,6 +198,7 @@ help_told i i' o o' used status run quiet = by run.outcome run.writing run.comes
     by (topped input a ask) whole comes written held = absurd (true≢false (sym (ap reads_request comes.asks)))
     by (unfiled input) whole comes written held = absurd (true≢false (sym (ap reads_request comes.asks)))
     by (filed input a) whole comes written held = absurd (true≢false (sym (ap reads_request comes.asks)))
+    by (file_ended input ending) whole comes written held = absurd (true≢false (sym (ap reads_input comes.asks)))
 
 pub version_told : (i i' o o' : End) (used : Option StoreSeen) (status : ℕ) → IsRun (Some version_form) i i' o o' used status → ¬ (HasRisen o o')
     → IsTold version_text i i' o o' used status
@@ -232,11 +237,12 @@ version_told i i' o o' used status run quiet = by run.outcome run.writing run.co
     by (topped input a ask) whole comes written held = absurd (true≢false (sym (ap reads_request comes.asks)))
     by (unfiled input) whole comes written held = absurd (true≢false (sym (ap reads_request comes.asks)))
     by (filed input a) whole comes written held = absurd (true≢false (sym (ap reads_request comes.asks)))
+    by (file_ended input ending) whole comes written held = absurd (true≢false (sym (ap reads_input comes.asks)))
 
 -- ---- words and queries that are refused
 
 -- a form with a word takes nothing and holds nothing
-word_reads_none : (form : Option Form) (word : Bytes) → shown_word form ≡ Some word → reads_request form ≡ false
+word_reads_none : (form : Option Form) (word : Bytes) → shown_word form ≡ Some word → reads_input form ≡ false
 word_reads_none None word shows = refl
 word_reads_none (Some (scan_form chosen)) word shows = absurd (not_none (sym shows))
 word_reads_none (Some explain_form) word shows = absurd (not_none (sym shows))
@@ -245,6 +251,7 @@ word_reads_none (Some (text_form other)) word shows = refl
 word_reads_none (Some (gen_form rows)) word shows = absurd (not_none (sym shows))
 word_reads_none (Some (top_form top)) word shows = absurd (not_none (sym shows))
 word_reads_none (Some file_form) word shows = absurd (not_none (sym shows))
+word_reads_none (Some scan_file_form) word shows = absurd (not_none (sym shows))
 word_reads_none (Some help_form) word shows = refl
 word_reads_none (Some version_form) word shows = refl
 
@@ -257,6 +264,7 @@ word_scans_none (Some (text_form other)) word shows = refl
 word_scans_none (Some (gen_form rows)) word shows = refl
 word_scans_none (Some (top_form top)) word shows = refl
 word_scans_none (Some file_form) word shows = refl
+word_scans_none (Some scan_file_form) word shows = refl
 word_scans_none (Some help_form) word shows = refl
 word_scans_none (Some version_form) word shows = refl
 
@@ -269,6 +277,7 @@ word_asks_none (Some (text_form other)) word shows = refl
 word_asks_none (Some (gen_form rows)) word shows = absurd (not_none (sym shows))
 word_asks_none (Some (top_form top)) word shows = refl
 word_asks_none (Some file_form) word shows = refl
+word_asks_none (Some scan_file_form) word shows = refl
 word_asks_none (Some help_form) word shows = refl
 word_asks_none (Some version_form) word shows = refl
 
@@ -281,6 +290,7 @@ word_tops_none (Some (text_form other)) word shows = refl
 word_tops_none (Some (gen_form rows)) word shows = refl
 word_tops_none (Some (top_form top)) word shows = absurd (not_none (sym shows))
 word_tops_none (Some file_form) word shows = refl
+word_tops_none (Some scan_file_form) word shows = refl
 word_tops_none (Some help_form) word shows = refl
 word_tops_none (Some version_form) word shows = refl
 

@@ -8,7 +8,7 @@ use Rattle.vx_scan.specs.Stores.{StoreSeen}
 use Rattle.vx_request.specs.Requests.{RequestedScan, request_of, most_bytes}
 use Rattle.vx_request.specs.declared.errors.RequestError.{RequestError}
 use Rattle.vx_query.specs.Refusals.{request_refusal_name, refusal_line}
-use Rattle.vx_query.specs.Running.{End, Form, Statistics, scan_form, explain_form, show_form, text_form, gen_form, top_form, file_form, help_form, version_form, asks_file, IsTaken, IsRun, HoldsFile, HoldsLongTable, file_line}
+use Rattle.vx_query.specs.Running.{End, Form, Statistics, scan_form, explain_form, show_form, text_form, gen_form, top_form, file_form, scan_file_form, help_form, version_form, asks_file, IsTaken, IsRun, HoldsFile, HoldsLongTable, file_line}
 use Rattle.vx_query.specs.TopWords.{AskedTop}
 use Rattle.vx_query.specs.Causes.{HasRisen, IsUnasked}
 use Rattle.vx_query.specs.FileCauses.{IsFiled, IsUnfiled, TellsTable}
@@ -157,6 +157,7 @@ is_file (Some (text_form query)) asks = absurd (true≢false (sym asks))
 is_file (Some (gen_form rows)) asks = absurd (true≢false (sym asks))
 is_file (Some (top_form top)) asks = absurd (true≢false (sym asks))
 is_file (Some file_form) asks = refl
+is_file (Some scan_file_form) asks = absurd (true≢false (sym asks))
 is_file (Some help_form) asks = absurd (true≢false (sym asks))
 is_file (Some version_form) asks = absurd (true≢false (sym asks))
 

@@ -11,7 +11,7 @@ use Rattle.vx_request.specs.declared.errors.RequestError.TheVariants as requests
 use Rattle.vx_query.specs.RefusalViews.{IsFileUnanswered, IsWithoutFile, request_refusal}
 use Rattle.vx_query.specs.TextViews.{FilesInput}
 use Rattle.vx_query.specs.declared.refusals.Refusal.{Refusal}
-use Rattle.vx_query.specs.declared.refusals.Refusal.TheVariants.{NoMemory, ReadFault, InputTooLong, BadJson, BadRequest, BadHex, BadTable, BadHexText, Scan, Query, NotSerializable, LongPart, UnknownKey, BadKey, LongTable}
+use Rattle.vx_query.specs.declared.refusals.Refusal.TheVariants.{NoMemory, ReadFault, InputTooLong, BadJson, BadRequest, BadHex, BadTable, BadHexText, Scan, Query, NotSerializable, LongPart, UnknownKey, BadKey, LongTable, FileScan}
 
 -- an answer that is a refusal
 pub file_err : (input : Bytes) (r : Refusal) (result : Result (String Global) Refusal) → IsErrAnd result (λ x. x ≡ r) → IsFileUnanswered input r
@@ -44,4 +44,5 @@ unfiled_table input a NotSerializable found none = absurd none
 unfiled_table input a LongPart found none = absurd none
 unfiled_table input a UnknownKey found none = absurd none
 unfiled_table input a BadKey found none = absurd none
+unfiled_table input a (FileScan e) found none = absurd none
 unfiled_table input a LongTable found long = record { asked = a; held = found; long = long }

@@ -2,9 +2,9 @@
 use Rattle.std.proofs.Common.{◌≡◌, ◌⊎◌, ◌∙◌, sym, ap, refl, ℕ, true, false, Option, Some, None, inl, inr, arith, true≢false}
 use Rattle.vx_scan.specs.Stores.{StoreSeen}
 use Rattle.vx_query.specs.TopWords.{AskedTop}
-use Rattle.vx_query.specs.Running.{End, Form, Statistics, scan_form, explain_form, top_form, file_form, words_of, reads_request, asked_rows, asked_statistics, asked_top, Outcome, misused, helped, versioned, out_of_memory, unread, refused, unscanned, broken, answered, explained, undecoded, unshown, shown, unnamed, unserialized, overlong, named, summed, unkeyed, top_broken, topped, unfiled, filed, Writing, whole, cut, IsOutcome, IsWriting, IsRun, status_of, outcome_text, used_by}
+use Rattle.vx_query.specs.Running.{End, Form, Statistics, scan_form, explain_form, top_form, file_form, scan_file_form, words_of, reads_request, reads_input, scans_file, asked_rows, asked_statistics, asked_top, Outcome, misused, helped, versioned, out_of_memory, unread, refused, unscanned, broken, answered, explained, undecoded, unshown, shown, unnamed, unserialized, overlong, named, summed, unkeyed, top_broken, topped, unfiled, filed, file_ended, Writing, whole, cut, IsOutcome, IsWriting, IsRun, status_of, outcome_text, used_by}
 use Rattle.vx_query.specs.Causes.{HasRisen, IsMisuse}
-use Rattle.vx_query.proofs.RequestEnds.{not_none, uses_reads}
+use Rattle.vx_query.proofs.RequestEnds.{not_none, uses_reads, requests_read, no_second}
 
 -- ---- arguments of no form
 
@@ -36,6 +36,7 @@ unformed form i i' o o' used run = by run.outcome run.writing run.comes run.writ
     by (topped input a ask) whole comes written = absurd (omega (arith, written.0))
     by (unfiled input) whole comes written = absurd (omega (arith, written.0))
     by (filed input a) whole comes written = absurd (omega (arith, written.0))
+    by (file_ended input ending) whole comes written = absurd (no_second ending written.0)
 
 pub misuses : (i i' o o' : End) (used : Option StoreSeen) (status : ℕ) → IsRun None i i' o o' used status → ¬ (HasRisen o o')
     → IsMisuse i i' o o' used status
@@ -75,12 +76,13 @@ misuses i i' o o' used status run quiet = by run.outcome run.writing run.comes r
     by (topped input a ask) whole comes written held = absurd (not_none (sym comes.asks))
     by (unfiled input) whole comes written held = absurd (not_none (sym comes.asks))
     by (filed input a) whole comes written held = absurd (not_none (sym comes.asks))
+    by (file_ended input ending) whole comes written held = absurd (not_none (sym comes.asks))
 
 -- ---- which forms break, hold stores and take nothing
 
--- arguments of a scan, or of first rows
+-- arguments of a scan, of first rows, or of the scan of a block file
 abbrev pub BreaksSo : Option Form → Type 0
-BreaksSo form = ((s : Statistics) × (form ≡ Some (scan_form s))) ⊎ ((top : AskedTop) × (form ≡ Some (top_form top)))
+BreaksSo form = ((s : Statistics) × (form ≡ Some (scan_form s))) ⊎ (((top : AskedTop) × (form ≡ Some (top_form top))) ⊎ (form ≡ Some scan_file_form))
 
 pub broken_scans : (form : Option Form) (i i' o o' : End) (used : Option StoreSeen) → IsRun form i i' o o' used 5
     → BreaksSo form
@@ -109,14 +111,19 @@ broken_scans form i i' o o' used run = by run.outcome run.writing run.comes run.
     by (named e) whole comes written = absurd (omega (arith, written.0))
     by (summed rows) whole comes written = absurd (omega (arith, written.0))
     by (unkeyed top input r) whole comes written = absurd (omega (arith, written.0))
-    by (top_broken cause input a ask) whole comes written = inr (words_of ask, comes.asks)
+    by (top_broken cause input a ask) whole comes written = inr (inl (words_of ask, comes.asks))
     by (topped input a ask) whole comes written = absurd (omega (arith, written.0))
     by (unfiled input) whole comes written = absurd (omega (arith, written.0))
     by (filed input a) whole comes written = absurd (omega (arith, written.0))
+    by (file_ended input ending) whole comes written = inr (inr comes.asks)
 
-pub broken_reads : (form : Option Form) (i i' o o' : End) (used : Option StoreSeen) → IsRun form i i' o o' used 5 → reads_request form ≡ true
-broken_reads form i i' o o' used run =
-    elim (broken_scans form i i' o o' used run) [ inl scans ↦ ap reads_request scans.1 | inr asks ↦ ap reads_request asks.1 ]
+pub broken_reads : (form : Option Form) (i i' o o' : End) (used : Option StoreSeen) → scans_file form ≡ false → IsRun form i i' o o' used 5
+    → reads_request form ≡ true
+broken_reads form i i' o o' used no_file run =
+    elim (broken_scans form i i' o o' used run) [
+      | inl scans ↦ ap reads_request scans.1
+      | inr others ↦ elim others [ inl asks ↦ ap reads_request asks.1 | inr is ↦ absurd (true≢false (sym (ap scans_file is) ∙ no_file)) ]
+    ]
 
 pub scans_hold : (form : Option Form) (i i' o o' : End) (used : Option StoreSeen) (status : ℕ) → asked_statistics form ≡ None → asked_rows form ≡ None
     → asked_top form ≡ None → IsRun form i i' o o' used status → used ≡ None
@@ -146,13 +153,14 @@ scans_hold form i i' o o' used status no_scan none no_top run = by run.outcome r
     by (topped input a ask) comes held = absurd (not_none (sym (ap asked_top comes.asks) ∙ no_top))
     by (unfiled input) comes held = held
     by (filed input a) comes held = held
+    by (file_ended input ending) comes held = held
 
-pub others_take_nothing : (form : Option Form) (i i' o o' : End) (used : Option StoreSeen) (status : ℕ) → reads_request form ≡ false
+pub others_take_nothing : (form : Option Form) (i i' o o' : End) (used : Option StoreSeen) (status : ℕ) → reads_input form ≡ false
     → IsRun form i i' o o' used status → i' ≡ i
 others_take_nothing form i i' o o' used status none run = by run.outcome run.comes
   where
-    differs : (other : Option Form) → reads_request other ≡ true → ¬ (form ≡ other)
-    differs other reads same = true≢false (sym reads ∙ sym (ap reads_request same) ∙ none)
+    differs : (other : Option Form) → reads_input other ≡ true → ¬ (form ≡ other)
+    differs other reads same = true≢false (sym reads ∙ sym (ap reads_input same) ∙ none)
 
     by : (outcome : Outcome) → IsOutcome form i i' outcome → i' ≡ i
     by misused comes = comes.1
@@ -160,8 +168,8 @@ others_take_nothing form i i' o o' used status none run = by run.outcome run.com
     by versioned comes = comes.1
     by out_of_memory comes = elim comes [ inl part ↦ absurd (true≢false (sym part.0 ∙ none)) | inr word ↦ word.1 ]
     by unread comes = absurd (true≢false (sym comes.reads ∙ none))
-    by (refused input e) comes = absurd (true≢false (sym comes.asks ∙ none))
-    by (unscanned input e) comes = absurd (true≢false (sym (uses_reads form comes.asks) ∙ none))
+    by (refused input e) comes = absurd (true≢false (sym (requests_read form comes.asks) ∙ none))
+    by (unscanned input e) comes = absurd (true≢false (sym (requests_read form (uses_reads form comes.asks)) ∙ none))
     by (broken chosen cause input a f p) comes = absurd (differs (Some (scan_form chosen)) refl comes.asks)
     by (answered chosen input a f p) comes = absurd (differs (Some (scan_form chosen)) refl comes.asks)
     by (explained input a f p) comes = absurd (differs (Some explain_form) refl comes.asks)
@@ -178,3 +186,4 @@ others_take_nothing form i i' o o' used status none run = by run.outcome run.com
     by (topped input a ask) comes = absurd (differs (Some (top_form (words_of ask))) refl comes.asks)
     by (unfiled input) comes = absurd (differs (Some file_form) refl comes.asks)
     by (filed input a) comes = absurd (differs (Some file_form) refl comes.asks)
+    by (file_ended input ending) comes = absurd (differs (Some scan_file_form) refl comes.asks)

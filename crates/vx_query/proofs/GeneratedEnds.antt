@@ -17,7 +17,7 @@ use Rattle.vx_request.specs.Requests.{RequestedScan}
 use Rattle.vx_laws_generated.specs.GeneratedTable.{block_numbers, block_length, generated_block, generated_table, generated_zones, generated_filter, generated_projection}
 use Rattle.vx_laws_generated.specs.GeneratedLine.{gen_line}
 use Rattle.vx_generated.specs.GeneratedBlocks.{generated_blocks, generated_reads, generated_store}
-use Rattle.vx_query.specs.Running.{End, Form, scan_form, explain_form, show_form, gen_form, top_form, words_of, file_form, help_form, version_form, asked_rows, Outcome, misused, helped, versioned, out_of_memory, unread, refused, unscanned, broken, answered, explained, undecoded, unshown, shown, unnamed, unserialized, overlong, named, summed, unkeyed, top_broken, topped, unfiled, filed, Writing, whole, cut, IsOutcome, IsWriting, IsRun, status_of, outcome_text, used_by}
+use Rattle.vx_query.specs.Running.{End, Form, scan_form, explain_form, show_form, gen_form, top_form, words_of, file_form, scan_file_form, help_form, version_form, asked_rows, Outcome, misused, helped, versioned, out_of_memory, unread, refused, unscanned, broken, answered, explained, undecoded, unshown, shown, unnamed, unserialized, overlong, named, summed, unkeyed, top_broken, topped, unfiled, filed, file_ended, Writing, whole, cut, IsOutcome, IsWriting, IsRun, status_of, outcome_text, used_by}
 use Rattle.vx_query.specs.Exactly.{RunsWell, EndsWith}
 use Rattle.vx_query.specs.GeneratedCauses.{GeneratedEnd, with_line, cut_off, without_memory, HasGeneratedReads}
 use Rattle.vx_query.proofs.FormLemmas.{others_take_nothing}
@@ -69,6 +69,7 @@ generated_end rows i i' o o' used status run =
     by (topped input a ask) whole comes written held untaken = absurd (asks_other rows (Some (top_form (words_of ask))) refl comes.asks)
     by (unfiled input) whole comes written held untaken = absurd (asks_other rows (Some file_form) refl comes.asks)
     by (filed input a) whole comes written held untaken = absurd (asks_other rows (Some file_form) refl comes.asks)
+    by (file_ended input ending) whole comes written held untaken = absurd (asks_other rows (Some scan_file_form) refl comes.asks)
 
 -- where there is memory, and the sink counts no fault, it ends with the line
 pub was_summed_whole : (rows : ℕ) (i i' o o' : End) (used : Option StoreSeen) (status : ℕ) → RunsWell (Some (gen_form rows)) i i' o o' used status
@@ -124,6 +125,7 @@ store_of rows i i' o o' store status run = by run.outcome run.comes run.held
     by (topped input a ask) comes held = absurd (asks_other rows (Some (top_form (words_of ask))) refl comes.asks)
     by (unfiled input) comes held = absurd (not_none held)
     by (filed input a) comes held = absurd (not_none held)
+    by (file_ended input ending) comes held = absurd (not_none held)
 
 pub generated_reads_asked : KeptNumbersAreKeptBlocks → (rows : ℕ) (i i' o o' : End) (store : StoreSeen) (status : ℕ)
     → IsRun (Some (gen_form rows)) i i' o o' (Some store) status → HasGeneratedReads rows store

@@ -10,7 +10,7 @@ use Rattle.vx_scan.proofs.TextLemmas.{both_are_taken}
 use Rattle.vx_laws_topk.specs.TopRows.{TopAsk}
 use Rattle.vx_request.specs.Requests.{RequestedScan, request_of}
 use Rattle.vx_query.specs.TopWords.{KeyRefusal, unknown_key, bad_key, IsNoKey}
-use Rattle.vx_query.specs.Running.{Form, HoldsNoKey, HasNoKey, HoldsTop, words_of, scan_form, explain_form, show_form, text_form, gen_form, top_form, file_form, help_form, version_form}
+use Rattle.vx_query.specs.Running.{Form, HoldsNoKey, HasNoKey, HoldsTop, words_of, scan_form, explain_form, show_form, text_form, gen_form, top_form, file_form, scan_file_form, help_form, version_form}
 use Rattle.vx_query.specs.ExpressionCauses.{HoldsBadText}
 use Rattle.vx_query.specs.Exclusions.{KeysMeanOne, IsSameTop}
 use Rattle.vx_query.specs.WireLaws.{WireLaws}
@@ -61,6 +61,7 @@ text_free e (Some (text_form query)) input h k = k
 text_free e (Some (gen_form rows)) input h k = k
 text_free e (Some (top_form top)) input h k = text_keyed top.key input e k.0 h k.1
 text_free e (Some file_form) input h k = k
+text_free e (Some scan_file_form) input h k = k
 text_free e (Some help_form) input h k = k
 text_free e (Some version_form) input h k = k
 

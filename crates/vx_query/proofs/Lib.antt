@@ -14,7 +14,9 @@ mod WordEnds
 mod QueryEnds
 mod FormLemmas
 mod CauseLemmas
+mod StopLemmas
 mod RequestCauseLemmas
+mod FileRequestLemmas
 mod ExpressionCauseLemmas
 mod WordLemmas
 mod ReadLemmas
@@ -32,3 +34,5 @@ mod TopReadLemmas
 mod TopCauseLemmas
 mod FileLemmas
 mod FileCauseLemmas
+mod FileScanLemmas
+mod FileScanCauseLemmas

@@ -15,9 +15,16 @@ use Rattle.vx_request.specs.declared.errors.Side.TheVariants as sides
 use Rattle.vx_request.specs.declared.errors.TableRefusal.TheVariants as tables
 use Rattle.vx_request.specs.declared.errors.RequestError.{RequestError}
 use Rattle.vx_request.specs.declared.errors.RequestError.TheVariants as requests
+use Rattle.vx_request.specs.declared.errors.FilePlace.TheVariants as file_places
+use Rattle.vx_request.specs.declared.errors.FileText.TheVariants as file_texts
+use Rattle.vx_request.specs.declared.errors.FileRequestError.{FileRequestError}
+use Rattle.vx_request.specs.declared.errors.FileRequestError.TheVariants as file_requests
+use Rattle.vx_file_query.specs.declared.errors.FilePart.{FilePart}
+use Rattle.vx_file_query.specs.declared.errors.FilePart.TheVariants as parts
 use Rattle.vx_text.specs.declared.errors.TextError.{TextError}
 use Rattle.vx_text.specs.declared.errors.TextError.TheVariants as texts
 use Rattle.vx_query.specs.Refusals.{request_refusal_name, scan_refusal_name, text_refusal_name, key_refusal_name, break_name, refusal_line}
+use Rattle.vx_query.specs.Refusals.{file_request_refusal_name, bad_file_name}
 use Rattle.vx_query.specs.TopWords.{KeyRefusal, unknown_key, bad_key}
 use Rattle.vx_query.proofs.RequestEnds.{not_none}
 
@@ -158,7 +165,57 @@ finds_no_request = refl
 pub no_long_name : (e : RequestError) → ¬ (request_refusal_name e ≡ codes "TooLong")
 no_long_name e same = not_none (sym (finds_request e) ∙ ap (named_so request_refusal_name all_requests) same ∙ finds_no_request)
 
+-- the refusals of a request of a block file, and the parts of one
+all_file_requests : List FileRequestError
+all_file_requests =
+    file_requests.NoMemory ∷ file_requests.InputTooLong ∷ file_requests.BadJson ∷ file_requests.BadRequest file_places.Top
+    ∷ file_requests.BadRequest file_places.File ∷ file_requests.BadRequest file_places.Filter ∷ file_requests.BadRequest file_places.Projection
+    ∷ file_requests.BadHex file_texts.File ∷ file_requests.BadHex file_texts.Filter ∷ file_requests.BadHex file_texts.Projection ∷ []
+
+finds_file_request : (e : FileRequestError) → named_so file_request_refusal_name all_file_requests (file_request_refusal_name e) ≡ Some e
+unfolding named_so all_file_requests
+finds_file_request file_requests.NoMemory = refl
+finds_file_request file_requests.InputTooLong = refl
+finds_file_request file_requests.BadJson = refl
+finds_file_request (file_requests.BadRequest file_places.Top) = refl
+finds_file_request (file_requests.BadRequest file_places.File) = refl
+finds_file_request (file_requests.BadRequest file_places.Filter) = refl
+finds_file_request (file_requests.BadRequest file_places.Projection) = refl
+finds_file_request (file_requests.BadHex file_texts.File) = refl
+finds_file_request (file_requests.BadHex file_texts.Filter) = refl
+finds_file_request (file_requests.BadHex file_texts.Projection) = refl
+
+all_parts : List FilePart
+all_parts = parts.Magic ∷ parts.Header ∷ parts.Zones ∷ parts.End ∷ parts.Column ∷ []
+
+finds_part : (part : FilePart) → named_so bad_file_name all_parts (bad_file_name part) ≡ Some part
+unfolding named_so all_parts
+finds_part parts.Magic = refl
+finds_part parts.Header = refl
+finds_part parts.Zones = refl
+finds_part parts.End = refl
+finds_part parts.Column = refl
+
+-- no refusal of a request has the name of that of a part
+finds_no_part : (part : FilePart) → named_so file_request_refusal_name all_file_requests (bad_file_name part) ≡ None
+unfolding named_so all_file_requests
+finds_no_part parts.Magic = refl
+finds_no_part parts.Header = refl
+finds_no_part parts.Zones = refl
+finds_no_part parts.End = refl
+finds_no_part parts.Column = refl
+
+pub no_part_name : (e : FileRequestError) (part : FilePart) → ¬ (file_request_refusal_name e ≡ bad_file_name part)
+no_part_name e part same =
+    not_none (sym (finds_file_request e) ∙ ap (named_so file_request_refusal_name all_file_requests) same ∙ finds_no_part part)
+
 -- ---- what a line tells
+
+pub one_file_request : (e g : FileRequestError) → file_request_refusal_name e ≡ file_request_refusal_name g → e ≡ g
+one_file_request = one_named file_request_refusal_name all_file_requests finds_file_request
+
+pub one_part : (part other : FilePart) → bad_file_name part ≡ bad_file_name other → part ≡ other
+one_part = one_named bad_file_name all_parts finds_part
 
 pub one_request : (e g : RequestError) → request_refusal_name e ≡ request_refusal_name g → e ≡ g
 one_request = one_named request_refusal_name all_requests finds_request

@@ -9,24 +9,29 @@ use Rattle.vx_semantics.specs.Breaks.{by_sum, by_cast}
 use Rattle.vx_io.specs.Counts.{one_more}
 use Rattle.vx_io.specs.Ends.{TookUpTo}
 use Rattle.vx_scan.specs.Stores.{StoreSeen}
+use Rattle.vx_scan.specs.declared.errors.ScanError.{ScanError}
+use Rattle.vx_scan.specs.declared.errors.ScanError.TheVariants as scans
 use Rattle.vx_laws_generated.specs.GeneratedLine.{gen_line}
 use Rattle.vx_generated.specs.GeneratedBlocks.{generated_store}
 use Rattle.vx_request.specs.Requests.{most_bytes}
 use Rattle.vx_request.specs.declared.errors.RequestError.TheVariants as requests
+use Rattle.vx_file_query.specs.FileEndings.{misasked, misfiled, file_unscanned, file_broken, file_reported}
+use Rattle.vx_file_query.specs.FileAnswers.{IsFileUnreported}
+use Rattle.vx_file_query.specs.declared.errors.FileScanError.TheVariants as files
 use Rattle.vx_query.specs.EndingViews.{ending_status, ending_text, EndsBy, IsAnswered}
 use Rattle.vx_laws_topk.specs.TopRows.{TopAsk}
 use Rattle.vx_query.specs.TopWords.{AskedTop, unknown_key, bad_key}
 use Rattle.vx_query.specs.TopViews.{ask_of, TopEndsBy, IsTopAnswered, IsTopUnanswered}
-use Rattle.vx_query.specs.Running.{End, Form, HasNoKey, Showing, Statistics, shown_text, scan_form, explain_form, show_form, text_form, gen_form, top_form, file_form, reads_request, uses_expressions, shown_word, scan_by, Outcome, out_of_memory, unread, refused, unscanned, broken, answered, explained, undecoded, unshown, shown, unnamed, unserialized, overlong, named, summed, unkeyed, top_broken, topped, unfiled, filed, Writing, IsOutcome, IsTaken, IsPartTaken, IsWriting, IsRun, status_of, outcome_text, used_by}
-use Rattle.vx_query.specs.RefusalViews.{refusal_status, refusal_text, input_refusal, IsUnanswered, IsFileUnanswered, IsWordUnshown, IsQueryRefused}
-use Rattle.vx_query.specs.TextViews.{answer_status, answer_text, ExplainsInput, FilesInput, ShowsWord, AnswersQuery, IsAnsweredBy}
+use Rattle.vx_query.specs.Running.{End, Form, HasNoKey, Showing, Statistics, shown_text, scan_form, explain_form, show_form, text_form, gen_form, top_form, file_form, scan_file_form, reads_input, uses_expressions, shown_word, scan_by, Outcome, out_of_memory, unread, refused, unscanned, broken, answered, explained, undecoded, unshown, shown, unnamed, unserialized, overlong, named, summed, unkeyed, top_broken, topped, unfiled, filed, file_ended, Writing, IsOutcome, IsTaken, IsPartTaken, IsWriting, IsRun, status_of, outcome_text, used_by}
+use Rattle.vx_query.specs.RefusalViews.{refusal_status, refusal_text, input_refusal, IsUnanswered, IsFileUnanswered, IsFileUnscanned, IsWordUnshown, IsQueryRefused}
+use Rattle.vx_query.specs.TextViews.{answer_status, answer_text, ExplainsInput, FilesInput, ReportsFile, ShowsWord, AnswersQuery, IsAnsweredBy}
 use Rattle.vx_io.specs.declared.reading.InputError.{InputError}
 use Rattle.vx_io.specs.declared.reading.InputError.TheVariants as inputs
 use Rattle.vx_query.specs.declared.endings.Ending.{Ending}
 use Rattle.vx_query.specs.declared.endings.Ending.TheVariants.{Report, Overflow, BadCast}
 use Rattle.vx_query.specs.declared.refusals.Refusal.{Refusal}
-use Rattle.vx_query.specs.declared.refusals.Refusal.TheVariants.{NoMemory, ReadFault, InputTooLong, BadJson, BadRequest, BadHex, BadTable, BadHexText, Scan, Query, NotSerializable, LongPart, UnknownKey, BadKey, LongTable}
-use Rattle.vx_query.proofs.RequestEnds.{uses_reads}
+use Rattle.vx_query.specs.declared.refusals.Refusal.TheVariants.{NoMemory, ReadFault, InputTooLong, BadJson, BadRequest, BadHex, BadTable, BadHexText, Scan, Query, NotSerializable, LongPart, UnknownKey, BadKey, LongTable, FileScan}
+use Rattle.vx_query.proofs.RequestEnds.{uses_reads, requests_read}
 
 -- an outcome that a refusal stands for
 abbrev pub EndsRefused : Option Form → End → End → Refusal → Type 0
@@ -34,7 +39,7 @@ EndsRefused form before after r =
     (o : Outcome) × IsOutcome form before after o × (status_of o ≡ refusal_status r) × (outcome_text o ≡ refusal_text r) × (used_by o ≡ None)
 
 -- an input that isn't read
-pub refused_unread : (form : Option Form) → reads_request form ≡ true → (before after : End) (e : InputError) → IsPartTaken before after
+pub refused_unread : (form : Option Form) → reads_input form ≡ true → (before after : End) (e : InputError) → IsPartTaken before after
     → (e ≡ inputs.NoMemory → after.faults ≡ before.faults) → (e ≡ inputs.ReadFault → one_more before.faults ≤ after.faults) → EndsRefused form before after (input_refusal e)
 refused_unread form reads before after inputs.NoMemory part quiet cause = (out_of_memory, inl (reads, (part, quiet refl)), refl, refl, refl)
 refused_unread form reads before after inputs.ReadFault part quiet cause = (unread, record { reads = reads; part = part; risen = cause refl }, refl, refl, refl)
@@ -42,7 +47,8 @@ refused_unread form reads before after inputs.ReadFault part quiet cause = (unre
 -- an input that is taken and has no report
 pub refused_taken : (form : Option Form) → uses_expressions form ≡ true → (before after : End) (input : Bytes) (r : Refusal) → ¬ (HasNoKey form input)
     → IsPartTaken before after → IsTaken before after input → IsUnanswered input r → EndsRefused form before after r
-refused_taken form uses before after input NoMemory keyed part taken told = (out_of_memory, inl (uses_reads form uses, (part, taken.quiet)), refl, refl, refl)
+refused_taken form uses before after input NoMemory keyed part taken told =
+    (out_of_memory, inl (requests_read form (uses_reads form uses), (part, taken.quiet)), refl, refl, refl)
 refused_taken form uses before after input ReadFault keyed part taken told = absurd told
 refused_taken form uses before after input InputTooLong keyed part taken told = (refused input requests.InputTooLong, record { asks = uses_reads form uses; taken = taken; holds = told }, refl, refl, refl)
 refused_taken form uses before after input BadJson keyed part taken told = (refused input requests.BadJson, record { asks = uses_reads form uses; taken = taken; holds = told }, refl, refl, refl)
@@ -59,6 +65,7 @@ refused_taken form uses before after input LongPart keyed part taken told = absu
 refused_taken form uses before after input UnknownKey keyed part taken told = absurd told
 refused_taken form uses before after input BadKey keyed part taken told = absurd told
 refused_taken form uses before after input LongTable keyed part taken told = absurd told
+refused_taken form uses before after input (FileScan e) keyed part taken told = absurd told
 
 -- an input whose table's block file is asked, and that has none
 unfiled_taken : (before after : End) (input : Bytes) (r : Refusal) → IsPartTaken before after → IsTaken before after input → IsFileUnanswered input r
@@ -80,6 +87,66 @@ unfiled_taken before after input LongPart part taken told = absurd told
 unfiled_taken before after input LongTable part taken told = (unfiled input, record { asks = refl; taken = taken; holds = told }, refl, refl, refl)
 unfiled_taken before after input UnknownKey part taken told = absurd told
 unfiled_taken before after input BadKey part taken told = absurd told
+unfiled_taken before after input (FileScan e) part taken told = absurd told
+
+-- an input that asks the scan of a block file which has no report, by an error of the scan
+stopped_file : (before after : End) (input : Bytes) (e : ScanError) → IsTaken before after input → IsFileUnreported input (files.Scan e)
+    → EndsRefused (Some scan_file_form) before after (FileScan (files.Scan e))
+stopped_file before after input scans.NoMemory taken told = absurd told
+stopped_file before after input (scans.BadWire side) taken told =
+    (file_ended input (file_unscanned (scans.BadWire side)), record { asks = refl; taken = taken; holds = told }, refl, refl, refl)
+stopped_file before after input (scans.TooDeep side) taken told =
+    (file_ended input (file_unscanned (scans.TooDeep side)), record { asks = refl; taken = taken; holds = told }, refl, refl, refl)
+stopped_file before after input (scans.TooManyNodes side) taken told =
+    (file_ended input (file_unscanned (scans.TooManyNodes side)), record { asks = refl; taken = taken; holds = told }, refl, refl, refl)
+stopped_file before after input (scans.UnknownExpr side) taken told =
+    (file_ended input (file_unscanned (scans.UnknownExpr side)), record { asks = refl; taken = taken; holds = told }, refl, refl, refl)
+stopped_file before after input (scans.BadMetadata side) taken told =
+    (file_ended input (file_unscanned (scans.BadMetadata side)), record { asks = refl; taken = taken; holds = told }, refl, refl, refl)
+stopped_file before after input (scans.WrongChildren side) taken told =
+    (file_ended input (file_unscanned (scans.WrongChildren side)), record { asks = refl; taken = taken; holds = told }, refl, refl, refl)
+stopped_file before after input (scans.NotStruct side) taken told =
+    (file_ended input (file_unscanned (scans.NotStruct side)), record { asks = refl; taken = taken; holds = told }, refl, refl, refl)
+stopped_file before after input (scans.NullableSelect side) taken told =
+    (file_ended input (file_unscanned (scans.NullableSelect side)), record { asks = refl; taken = taken; holds = told }, refl, refl, refl)
+stopped_file before after input (scans.UnknownField side) taken told =
+    (file_ended input (file_unscanned (scans.UnknownField side)), record { asks = refl; taken = taken; holds = told }, refl, refl, refl)
+stopped_file before after input (scans.DuplicateField side) taken told =
+    (file_ended input (file_unscanned (scans.DuplicateField side)), record { asks = refl; taken = taken; holds = told }, refl, refl, refl)
+stopped_file before after input (scans.TypeMismatch side) taken told =
+    (file_ended input (file_unscanned (scans.TypeMismatch side)), record { asks = refl; taken = taken; holds = told }, refl, refl, refl)
+stopped_file before after input scans.FilterNotBool taken told =
+    (file_ended input (file_unscanned scans.FilterNotBool), record { asks = refl; taken = taken; holds = told }, refl, refl, refl)
+stopped_file before after input scans.Overflow taken told =
+    (file_ended input (file_broken by_sum), record { asks = refl; taken = taken; holds = told }, refl, refl, refl)
+stopped_file before after input scans.BadCast taken told =
+    (file_ended input (file_broken by_cast), record { asks = refl; taken = taken; holds = told }, refl, refl, refl)
+stopped_file before after input scans.StoreFault taken told = absurd told
+
+-- by any refusal
+unscanned_file : (before after : End) (input : Bytes) (r : Refusal) → IsPartTaken before after → IsTaken before after input → IsFileUnscanned input r
+    → EndsRefused (Some scan_file_form) before after r
+unscanned_file before after input NoMemory part taken told = (out_of_memory, inl (refl, (part, taken.quiet)), refl, refl, refl)
+unscanned_file before after input ReadFault part taken told = absurd told
+unscanned_file before after input InputTooLong part taken told = absurd told
+unscanned_file before after input BadJson part taken told = absurd told
+unscanned_file before after input (BadRequest place) part taken told = absurd told
+unscanned_file before after input (BadHex side) part taken told = absurd told
+unscanned_file before after input (BadTable refusal) part taken told = absurd told
+unscanned_file before after input BadHexText part taken told = absurd told
+unscanned_file before after input (Scan e) part taken told = absurd told
+unscanned_file before after input (Query e) part taken told = absurd told
+unscanned_file before after input NotSerializable part taken told = absurd told
+unscanned_file before after input LongPart part taken told = absurd told
+unscanned_file before after input UnknownKey part taken told = absurd told
+unscanned_file before after input BadKey part taken told = absurd told
+unscanned_file before after input LongTable part taken told = absurd told
+unscanned_file before after input (FileScan files.NoMemory) part taken told = absurd told
+unscanned_file before after input (FileScan (files.Request e)) part taken told =
+    (file_ended input (misasked e), record { asks = refl; taken = taken; holds = told }, refl, refl, refl)
+unscanned_file before after input (FileScan (files.BadFile bad)) part taken told =
+    (file_ended input (misfiled bad), record { asks = refl; taken = taken; holds = told }, refl, refl, refl)
+unscanned_file before after input (FileScan (files.Scan e)) part taken told = stopped_file before after input e taken told
 
 -- a word that is not shown
 word_refused : (form : Option Form) (word : Bytes) → shown_word form ≡ Some word → (source : End) (r : Refusal) → IsWordUnshown word r
@@ -99,6 +166,7 @@ word_refused form word is source LongPart told = absurd told
 word_refused form word is source UnknownKey told = absurd told
 word_refused form word is source BadKey told = absurd told
 word_refused form word is source LongTable told = absurd told
+word_refused form word is source (FileScan e) told = absurd told
 
 -- a query that has no bytes
 query_refused : (query : Bytes) (source : End) (r : Refusal) → IsQueryRefused query r → EndsRefused (Some (text_form query)) source source r
@@ -117,6 +185,7 @@ query_refused query source LongPart told = (overlong, record { word = query; ask
 query_refused query source UnknownKey told = absurd told
 query_refused query source BadKey told = absurd told
 query_refused query source LongTable told = absurd told
+query_refused query source (FileScan e) told = absurd told
 
 -- an answer that is a refusal
 answered_refusal : (form : Option Form) (before after : End) (r : Refusal) → EndsRefused form before after r → IsAnsweredBy form before after (Err r)
@@ -147,6 +216,19 @@ filed_taken before after input (Ok text) part taken h =
     record { outcome = filed input h.0; comes = record { asks = refl; taken = taken; holds = h.1 }; status = refl; text = sym h.2; unheld = refl }
 filed_taken before after input (Err r) part taken h =
     answered_refusal (Some file_form) before after r (unfiled_taken before after input r part taken h)
+
+-- one whose block file is scanned
+pub file_scanned_taken : (before after : End) (input : Bytes) (answer : Result (String Global) Refusal) → IsPartTaken before after → IsTaken before after input
+    → ReportsFile input answer → IsAnsweredBy (Some scan_file_form) before after answer
+file_scanned_taken before after input (Ok text) part taken h = record {
+  outcome = file_ended input (file_reported h.0 h.1 h.2 h.3);
+  comes = record { asks = refl; taken = taken; holds = h.4 };
+  status = refl;
+  text = sym h.5;
+  unheld = refl;
+}
+file_scanned_taken before after input (Err r) part taken h =
+    answered_refusal (Some scan_file_form) before after r (unscanned_file before after input r part taken h)
 
 -- a word that is shown
 pub word_shown : (showing : Showing) (word : Bytes) (source : End) (answer : Result (String Global) Refusal) → ShowsWord (shown_text showing) word answer
@@ -226,6 +308,7 @@ unsearched_taken top before after input (Query e) part taken told = absurd told
 unsearched_taken top before after input NotSerializable part taken told = absurd told
 unsearched_taken top before after input LongPart part taken told = absurd told
 unsearched_taken top before after input LongTable part taken told = absurd told
+unsearched_taken top before after input (FileScan e) part taken told = absurd told
 unsearched_taken top before after input UnknownKey part taken told = (unkeyed top input unknown_key, record { asks = refl; taken = taken; holds = told }, refl, refl, refl)
 unsearched_taken top before after input BadKey part taken told = (unkeyed top input bad_key, record { asks = refl; taken = taken; holds = told }, refl, refl, refl)
 

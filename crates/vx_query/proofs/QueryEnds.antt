@@ -8,7 +8,7 @@ use Rattle.vx_scan.specs.Stores.{StoreSeen}
 use Rattle.vx_text.specs.Reading.{reading_of}
 use Rattle.vx_text.specs.declared.errors.TextError.{TextError}
 use Rattle.vx_query.specs.Refusals.{text_refusal_name, refusal_line}
-use Rattle.vx_query.specs.Running.{End, Form, Names, IsShallow, HasBytes, IsOverlong, bytes_line, scan_form, explain_form, show_form, text_form, gen_form, top_form, words_of, file_form, help_form, version_form, asked_query, Outcome, misused, helped, versioned, out_of_memory, unread, refused, unscanned, broken, answered, explained, undecoded, unshown, shown, unnamed, unserialized, overlong, named, summed, unkeyed, top_broken, topped, unfiled, filed, Writing, whole, cut, IsOutcome, IsWriting, IsRun, status_of, outcome_text, used_by}
+use Rattle.vx_query.specs.Running.{End, Form, Names, IsShallow, HasBytes, IsOverlong, bytes_line, scan_form, explain_form, show_form, text_form, gen_form, top_form, words_of, file_form, scan_file_form, help_form, version_form, asked_query, Outcome, misused, helped, versioned, out_of_memory, unread, refused, unscanned, broken, answered, explained, undecoded, unshown, shown, unnamed, unserialized, overlong, named, summed, unkeyed, top_broken, topped, unfiled, filed, file_ended, Writing, whole, cut, IsOutcome, IsWriting, IsRun, status_of, outcome_text, used_by}
 use Rattle.vx_query.specs.Causes.{HasRisen}
 use Rattle.vx_query.proofs.RequestEnds.{not_none}
 
@@ -67,3 +67,4 @@ query_end query i i' o o' used status run = by run.outcome run.writing run.comes
     by (topped input a ask) whole comes written held = absurd (asks_other query (Some (top_form (words_of ask))) refl comes.asks)
     by (unfiled input) whole comes written held = absurd (asks_other query (Some file_form) refl comes.asks)
     by (filed input a) whole comes written held = absurd (asks_other query (Some file_form) refl comes.asks)
+    by (file_ended input ending) whole comes written held = absurd (asks_other query (Some scan_file_form) refl comes.asks)

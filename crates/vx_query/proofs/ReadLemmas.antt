@@ -27,7 +27,7 @@ use Rattle.vx_scan.proofs.AskedLemmas.{all_so, all_passing, all_here, number_its
 use Rattle.vx_tables.proofs.BlockLemmas.{table_lengths}
 use Rattle.vx_request.specs.Requests.{RequestedScan}
 use Rattle.vx_query.specs.BlockAgreement.{agree}
-use Rattle.vx_query.specs.Running.{End, Form, Statistics, reads_request, asked_top, scan_form, scan_by, IsTaken, HoldsScan, scan_table, scan_reads, scanned_store, broken_store, Outcome, misused, helped, versioned, out_of_memory, unread, refused, unscanned, broken, answered, explained, undecoded, unshown, shown, unnamed, unserialized, overlong, named, summed, unkeyed, top_broken, topped, unfiled, filed, IsOutcome, IsRun, used_by}
+use Rattle.vx_query.specs.Running.{End, Form, Statistics, reads_request, asked_top, scan_form, scan_by, IsTaken, HoldsScan, scan_table, scan_reads, scanned_store, broken_store, Outcome, misused, helped, versioned, out_of_memory, unread, refused, unscanned, broken, answered, explained, undecoded, unshown, shown, unnamed, unserialized, overlong, named, summed, unkeyed, top_broken, topped, unfiled, filed, file_ended, IsOutcome, IsRun, used_by}
 use Rattle.vx_query.specs.Causes.{store_after, is_needed_read, HasAskedReads}
 use Rattle.vx_query.proofs.CellLemmas.{and_left}
 use Rattle.vx_query.proofs.CauseLemmas.{breaks_by_one}
@@ -222,3 +222,4 @@ asked_alone kept form i i' o o' store status reads no_top run = by run.outcome r
     by (topped input a ask) comes held = absurd (not_none (sym (ap asked_top comes.asks) ∙ no_top))
     by (unfiled input) comes held = absurd (not_none held)
     by (filed input a) comes held = absurd (not_none held)
+    by (file_ended input ending) comes held = absurd (not_none held)

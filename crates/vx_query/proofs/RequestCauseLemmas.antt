@@ -23,60 +23,8 @@ use Rattle.vx_request.specs.declared.errors.TableRefusal.{TableRefusal}
 use Rattle.vx_request.specs.declared.errors.TableRefusal.TheVariants as tables
 use Rattle.vx_request.specs.declared.errors.RequestError.{RequestError}
 use Rattle.vx_request.specs.declared.errors.RequestError.TheVariants.{NoMemory, InputTooLong, BadJson, BadRequest, BadHex, BadTable}
+use Rattle.vx_query.proofs.StopLemmas.{Stop, here, later, stop_of, stops_here, goes_on, found_or, none_or, ok_found, some_found, ensured_or, ensured_ok, ensured_so, ensured_not}
 use Rattle.vx_query.specs.RequestCauses.{IsTextOf, IsFormed, HasDigits, formed_zones, has_rectangles, HasBadDigits, IsNoTable, IsNoRequest}
-
--- ---- steps
-
--- a chain of steps is refused by the first of them, or by the next ones after what it gave
-data Stop {A B : Type 0} (r : Result A RequestError) (f : A → Result B RequestError) (e : RequestError) : Type 0 where
-  here : r ≡ Err e → Stop r f e
-  later : (x : A) → r ≡ Ok x → f x ≡ Err e → Stop r f e
-
-stop_of : {A B : Type 0} (r : Result A RequestError) (f : A → Result B RequestError) (e : RequestError) → (r >>= f) ≡ Err e → Stop r f e
-stop_of (Ok x) f e h = later x refl h
-stop_of (Err g) f e h = let same : g ≡ e = cc h in here (ap Err same)
-
-stops_here : {A B : Type 0} (r : Result A RequestError) (f : A → Result B RequestError) (e : RequestError) → r ≡ Err e → (r >>= f) ≡ Err e
-stops_here (Ok x) f e h = absurd (cc h)
-stops_here (Err g) f e h = let same : g ≡ e = cc h in ap Err same
-
-goes_on : {A B : Type 0} (r : Result A RequestError) (f : A → Result B RequestError) (x : A) → r ≡ Ok x → (r >>= f) ≡ f x
-goes_on (Ok y) f x h = let same : y ≡ x = cc h in ap f same
-goes_on (Err g) f x h = absurd (cc h)
-
--- what is found, or else the refusal
-found_or : {A : Type 0} (o : Option A) (g e : RequestError) → ok_or o g ≡ Err e → (o ≡ None) × (g ≡ e)
-found_or None g e h = (refl, cc h)
-found_or (Some x) g e h = absurd (cc h)
-
-none_or : {A : Type 0} (o : Option A) (g : RequestError) → o ≡ None → ok_or o g ≡ Err g
-none_or None g h = refl
-none_or (Some x) g h = absurd (cc h)
-
-ok_found : {A : Type 0} (o : Option A) (g : RequestError) (x : A) → ok_or o g ≡ Ok x → o ≡ Some x
-ok_found None g x h = absurd (cc h)
-ok_found (Some y) g x h = let same : y ≡ x = cc h in ap Some same
-
-some_found : {A : Type 0} (o : Option A) (g : RequestError) (x : A) → o ≡ Some x → ok_or o g ≡ Ok x
-some_found None g x h = absurd (cc h)
-some_found (Some y) g x h = let same : y ≡ x = cc h in ap Ok same
-
--- a condition, or else the refusal
-ensured_or : (b : Bool) (g e : RequestError) → ensured b g ≡ Err e → (b ≡ false) × (g ≡ e)
-ensured_or true g e h = absurd (cc h)
-ensured_or false g e h = (refl, cc h)
-
-ensured_ok : (b : Bool) (g : RequestError) (x : Unit {0}) → ensured b g ≡ Ok x → b ≡ true
-ensured_ok true g x h = refl
-ensured_ok false g x h = absurd (cc h)
-
-ensured_so : (b : Bool) (g : RequestError) → b ≡ true → ensured b g ≡ Ok tt
-ensured_so true g h = refl
-ensured_so false g h = absurd (true≢false (sym h))
-
-ensured_not : (b : Bool) (g : RequestError) → b ≡ false → ensured b g ≡ Err g
-ensured_not true g h = absurd (true≢false h)
-ensured_not false g h = refl
 
 -- ---- the form
 

@@ -1,5 +1,5 @@
 -- How a run ends whose arguments read a request.
-use Rattle.std.proofs.Common.{◌≡◌, ◌∙◌, sym, ap, refl, ℕ, true, false, codes, Option, Some, None, Err, is_some, true≢false}
+use Rattle.std.proofs.Common.{◌≡◌, ◌∙◌, sym, ap, refl, ℕ, true, false, codes, Option, Some, None, Err, is_some, arith, true≢false}
 use Rattle.vx_dtype.specs.Types.{Bytes}
 use Rattle.vx_expr.specs.Trees.{Tree}
 use Rattle.vx_semantics.specs.Breaks.{Cause}
@@ -10,9 +10,10 @@ use Rattle.vx_scan.specs.declared.errors.ScanError.{ScanError}
 use Rattle.vx_explain.specs.Explanations.{explain_text}
 use Rattle.vx_request.specs.Requests.{RequestedScan, request_of}
 use Rattle.vx_request.specs.declared.errors.RequestError.{RequestError}
+use Rattle.vx_file_query.specs.FileEndings.{FileEnding, misasked, misfiled, file_unscanned, file_broken, file_reported}
 use Rattle.vx_query.specs.Refusals.{request_refusal_name, scan_refusal_name, key_refusal_name, break_name, refusal_line}
 use Rattle.vx_query.specs.TopWords.{AskedTop, KeyRefusal}
-use Rattle.vx_query.specs.Running.{End, Form, Statistics, HoldsScan, HoldsRefused, HoldsNoKey, HasNoKey, HoldsTop, words_of, top_breaks, top_breaks_by, top_report, topped_store, top_broken_store, scan_by, scan_breaks, scan_breaks_by, scan_report, scanned_store, broken_store, scan_form, explain_form, show_form, text_form, gen_form, top_form, file_form, help_form, version_form, reads_request, uses_expressions, HoldsLongTable, HoldsFile, file_line, shown_word, asked_query, IsTaken, Outcome, misused, helped, versioned, out_of_memory, unread, refused, unscanned, broken, answered, explained, undecoded, unshown, shown, unnamed, unserialized, overlong, named, summed, unkeyed, top_broken, topped, unfiled, filed, Writing, whole, cut, IsOutcome, IsWriting, IsRun, status_of, outcome_text, used_by}
+use Rattle.vx_query.specs.Running.{End, Form, Statistics, HoldsScan, HoldsRefused, HoldsNoKey, HasNoKey, HoldsTop, words_of, top_breaks, top_breaks_by, top_report, topped_store, top_broken_store, scan_by, scan_breaks, scan_breaks_by, scan_report, scanned_store, broken_store, scan_form, explain_form, show_form, text_form, gen_form, top_form, file_form, scan_file_form, help_form, version_form, reads_request, reads_input, uses_expressions, HoldsLongTable, HoldsFile, file_line, file_status, shown_word, asked_query, IsTaken, Outcome, misused, helped, versioned, out_of_memory, unread, refused, unscanned, broken, answered, explained, undecoded, unshown, shown, unnamed, unserialized, overlong, named, summed, unkeyed, top_broken, topped, unfiled, filed, file_ended, Writing, whole, cut, IsOutcome, IsWriting, IsRun, status_of, outcome_text, used_by}
 use Rattle.vx_query.specs.Causes.{HasRisen}
 
 pub not_none : {X : Type 0} {x : X} → Some x ≡ None → ⊥
@@ -59,17 +60,52 @@ uses_reads (Some (text_form query)) uses = uses
 uses_reads (Some (gen_form rows)) uses = uses
 uses_reads (Some (top_form top)) uses = refl
 uses_reads (Some file_form) uses = refl
+uses_reads (Some scan_file_form) uses = uses
 uses_reads (Some help_form) uses = uses
 uses_reads (Some version_form) uses = uses
 
 pub uses_no_file : (form : Option Form) → uses_expressions form ≡ true → ¬ (form ≡ Some file_form)
 uses_no_file form uses is = true≢false (sym uses ∙ ap uses_expressions is)
 
--- such arguments are of no other form, show no word, and ask no query
+-- arguments that read a request read an input
+pub requests_read : (form : Option Form) → reads_request form ≡ true → reads_input form ≡ true
+requests_read None reads = reads
+requests_read (Some (scan_form chosen)) reads = refl
+requests_read (Some explain_form) reads = refl
+requests_read (Some (show_form showing word)) reads = reads
+requests_read (Some (text_form query)) reads = reads
+requests_read (Some (gen_form rows)) reads = reads
+requests_read (Some (top_form top)) reads = refl
+requests_read (Some file_form) reads = refl
+requests_read (Some scan_file_form) reads = refl
+requests_read (Some help_form) reads = reads
+requests_read (Some version_form) reads = reads
+
+-- the scan of a block file ends with no other exit status
+no_status : (n : ℕ) → ¬ (n ≡ 0) → ¬ (n ≡ 3) → ¬ (n ≡ 4) → ¬ (n ≡ 5) → (ending : FileEnding) → ¬ (n ≡ file_status ending)
+no_status n zeroth third fourth fifth (misasked e) same = third same
+no_status n zeroth third fourth fifth (misfiled part) same = third same
+no_status n zeroth third fourth fifth (file_unscanned e) same = fourth same
+no_status n zeroth third fourth fifth (file_broken cause) same = fifth same
+no_status n zeroth third fourth fifth (file_reported a content f p) same = zeroth same
+
+pub no_second : (ending : FileEnding) → ¬ (2 ≡ file_status ending)
+no_second = no_status 2 (λ h. omega (arith, h)) (λ h. omega (arith, h)) (λ h. omega (arith, h)) (λ h. omega (arith, h))
+
+pub no_sixth : (ending : FileEnding) → ¬ (6 ≡ file_status ending)
+no_sixth = no_status 6 (λ h. omega (arith, h)) (λ h. omega (arith, h)) (λ h. omega (arith, h)) (λ h. omega (arith, h))
+
+pub no_seventh : (ending : FileEnding) → ¬ (7 ≡ file_status ending)
+no_seventh = no_status 7 (λ h. omega (arith, h)) (λ h. omega (arith, h)) (λ h. omega (arith, h)) (λ h. omega (arith, h))
+
+pub no_eighth : (ending : FileEnding) → ¬ (8 ≡ file_status ending)
+no_eighth = no_status 8 (λ h. omega (arith, h)) (λ h. omega (arith, h)) (λ h. omega (arith, h)) (λ h. omega (arith, h))
+
+-- such arguments are of no other form; those that read an input show no word, and ask no query
 reads_other : (form other : Option Form) → reads_request form ≡ true → reads_request other ≡ false → ¬ (form ≡ other)
 reads_other form other reads none same = true≢false (sym reads ∙ ap reads_request same ∙ none)
 
-pub shows_none : (form : Option Form) (word : Bytes) → reads_request form ≡ true → ¬ (shown_word form ≡ Some word)
+pub shows_none : (form : Option Form) (word : Bytes) → reads_input form ≡ true → ¬ (shown_word form ≡ Some word)
 shows_none None word reads h = true≢false (sym reads)
 shows_none (Some (scan_form chosen)) word reads h = not_none (sym h)
 shows_none (Some explain_form) word reads h = not_none (sym h)
@@ -78,10 +114,11 @@ shows_none (Some (text_form other)) word reads h = true≢false (sym reads)
 shows_none (Some (gen_form rows)) word reads h = true≢false (sym reads)
 shows_none (Some (top_form top)) word reads h = not_none (sym h)
 shows_none (Some file_form) word reads h = not_none (sym h)
+shows_none (Some scan_file_form) word reads h = not_none (sym h)
 shows_none (Some help_form) word reads h = true≢false (sym reads)
 shows_none (Some version_form) word reads h = true≢false (sym reads)
 
-pub asks_none : (form : Option Form) (query : Bytes) → reads_request form ≡ true → ¬ (asked_query form ≡ Some query)
+pub asks_none : (form : Option Form) (query : Bytes) → reads_input form ≡ true → ¬ (asked_query form ≡ Some query)
 asks_none None query reads h = true≢false (sym reads)
 asks_none (Some (scan_form chosen)) query reads h = not_none (sym h)
 asks_none (Some explain_form) query reads h = not_none (sym h)
@@ -90,6 +127,7 @@ asks_none (Some (text_form other)) query reads h = true≢false (sym reads)
 asks_none (Some (gen_form rows)) query reads h = true≢false (sym reads)
 asks_none (Some (top_form top)) query reads h = not_none (sym h)
 asks_none (Some file_form) query reads h = not_none (sym h)
+asks_none (Some scan_file_form) query reads h = not_none (sym h)
 asks_none (Some help_form) query reads h = true≢false (sym reads)
 asks_none (Some version_form) query reads h = true≢false (sym reads)
 
@@ -112,13 +150,13 @@ request_end form i i' o o' used status reads run = by run.outcome run.writing ru
     by (answered chosen input a f p) whole comes written held =
         reports chosen input a f p written.0 comes.asks comes.taken comes.holds.0 comes.holds.1 written.1.0 held
     by (explained input a f p) whole comes written held = explains input a f p written.0 comes.asks comes.taken comes.holds written.1.0 held
-    by undecoded whole comes written held = absurd (shows_none form comes.word reads comes.asks)
-    by (unshown e) whole comes written held = absurd (shows_none form comes.word reads comes.asks)
+    by undecoded whole comes written held = absurd (shows_none form comes.word (requests_read form reads) comes.asks)
+    by (unshown e) whole comes written held = absurd (shows_none form comes.word (requests_read form reads) comes.asks)
     by (shown showing e) whole comes written held = absurd (reads_other form (Some (show_form showing comes.word)) reads refl comes.asks)
-    by (unnamed e) whole comes written held = absurd (asks_none form comes.word reads comes.asks)
-    by unserialized whole comes written held = absurd (asks_none form comes.word reads comes.asks)
-    by overlong whole comes written held = absurd (asks_none form comes.word reads comes.asks)
-    by (named e) whole comes written held = absurd (asks_none form comes.word reads comes.asks)
+    by (unnamed e) whole comes written held = absurd (asks_none form comes.word (requests_read form reads) comes.asks)
+    by unserialized whole comes written held = absurd (asks_none form comes.word (requests_read form reads) comes.asks)
+    by overlong whole comes written held = absurd (asks_none form comes.word (requests_read form reads) comes.asks)
+    by (named e) whole comes written held = absurd (asks_none form comes.word (requests_read form reads) comes.asks)
     by (summed rows) whole comes written held = absurd (reads_other form (Some (gen_form rows)) reads refl comes.0)
     by (unkeyed top input r) whole comes written held = no_key top input r written.0 comes.asks comes.taken comes.holds written.1.0 held
     by (top_broken cause input a ask) whole comes written held =
@@ -126,3 +164,4 @@ request_end form i i' o o' used status reads run = by run.outcome run.writing ru
     by (topped input a ask) whole comes written held = tops input a ask written.0 comes.asks comes.taken comes.holds.0 comes.holds.1 written.1.0 held
     by (unfiled input) whole comes written held = no_file input written.0 comes.asks comes.taken comes.holds written.1.0 held
     by (filed input a) whole comes written held = files input a written.0 comes.asks comes.taken comes.holds written.1.0 held
+    by (file_ended input ending) whole comes written held = absurd (reads_other form (Some scan_file_form) reads refl comes.asks)

@@ -40,7 +40,7 @@ use Rattle.vx_query.specs.TopViews.{DecodesBoth, ask_of, TopEndsBy, IsKey, IsSea
 use Rattle.vx_query.specs.declared.endings.Ending.{Ending}
 use Rattle.vx_query.specs.declared.endings.Ending.TheVariants.{Report as Told, Overflow, BadCast}
 use Rattle.vx_query.specs.declared.refusals.Refusal.{Refusal}
-use Rattle.vx_query.specs.declared.refusals.Refusal.TheVariants.{NoMemory, ReadFault, InputTooLong, BadJson, BadRequest, BadHex, BadTable, BadHexText, Scan, Query, NotSerializable, LongPart, UnknownKey, BadKey, LongTable}
+use Rattle.vx_query.specs.declared.refusals.Refusal.TheVariants.{NoMemory, ReadFault, InputTooLong, BadJson, BadRequest, BadHex, BadTable, BadHexText, Scan, Query, NotSerializable, LongPart, UnknownKey, BadKey, LongTable, FileScan}
 use Rattle.vx_query.proofs.AnswerLemmas.{report_text_of_same, fresh, store_after}
 use Rattle.vx_query.proofs.KeyLemmas.{no_key_typed, text_keyed}
 use Rattle.vx_query.proofs.RefusalLemmas.{one_ok}
@@ -200,6 +200,7 @@ unanswered_by top input a b f p r found spelled zones blocks refused =
     by NotSerializable h = absurd h
     by LongPart h = absurd h
     by LongTable h = absurd h
+    by (FileScan e) h = absurd h
     by UnknownKey h = record { asked = a; held = found; filter = f; projection = p; spelled = spelled; no_key = h }
     by BadKey h = record { asked = a; held = found; filter = f; projection = p; spelled = spelled; no_key = h }
     by (Scan e) h = (record { asked = a; held = found; refused = inr (f, p, spelled, h.1) }, keyed h.0.0 h.0.1)

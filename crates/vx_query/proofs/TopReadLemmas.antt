@@ -27,7 +27,7 @@ use Rattle.vx_laws_topk.specs.TopPhases.{SlottedPhase, keyed_projection, phases_
 use Rattle.vx_request.specs.Requests.{RequestedScan}
 use Rattle.vx_query.specs.BlockAgreement.{agree}
 use Rattle.vx_query.specs.TopWords.{AskedTop}
-use Rattle.vx_query.specs.Running.{End, IsTaken, HoldsTop, words_of, top_form, gen_form, scan_table, topped_store, top_broken_store, Outcome, misused, helped, versioned, out_of_memory, unread, refused, unscanned, broken, answered, explained, undecoded, unshown, shown, unnamed, unserialized, overlong, named, summed, unkeyed, top_broken, topped, unfiled, filed, IsOutcome, IsRun, used_by}
+use Rattle.vx_query.specs.Running.{End, IsTaken, HoldsTop, words_of, top_form, gen_form, scan_table, topped_store, top_broken_store, Outcome, misused, helped, versioned, out_of_memory, unread, refused, unscanned, broken, answered, explained, undecoded, unshown, shown, unnamed, unserialized, overlong, named, summed, unkeyed, top_broken, topped, unfiled, filed, file_ended, IsOutcome, IsRun, used_by}
 use Rattle.vx_query.specs.TopCauses.{top_store_after, HasTopReads}
 use Rattle.vx_query.proofs.BlockAgreementLemmas.{agree_in}
 use Rattle.vx_query.proofs.CauseLemmas.{no_top}
@@ -267,3 +267,4 @@ searches_ask kept same more top i i' o o' store status run = by run.outcome run.
         (subst (λ rs. AreAmong rs (top_reads ask (scan_table a) a.zones)) (sym log) (among_all (top_reads ask (scan_table a) a.zones)))
     by (unfiled input) comes held = absurd (not_none held)
     by (filed input a) comes held = absurd (not_none held)
+    by (file_ended input ending) comes held = absurd (not_none held)

@@ -8,9 +8,9 @@ use Rattle.vx_scan.specs.Stores.{StoreSeen}
 use Rattle.vx_scan.specs.declared.errors.ScanError.{ScanError}
 use Rattle.vx_request.specs.Requests.{hex_bytes}
 use Rattle.vx_query.specs.Refusals.{scan_refusal_name, refusal_line}
-use Rattle.vx_query.specs.Running.{End, Form, Showing, shown_text, WordSpells, WordIsRefused, scan_form, explain_form, show_form, text_form, gen_form, top_form, words_of, file_form, help_form, version_form, reads_request, shown_word, asked_query, Outcome, misused, helped, versioned, out_of_memory, unread, refused, unscanned, broken, answered, explained, undecoded, unshown, shown, unnamed, unserialized, overlong, named, summed, unkeyed, top_broken, topped, unfiled, filed, Writing, whole, cut, IsOutcome, IsWriting, IsRun, status_of, outcome_text, used_by}
+use Rattle.vx_query.specs.Running.{End, Form, Showing, shown_text, WordSpells, WordIsRefused, scan_form, explain_form, show_form, text_form, gen_form, top_form, words_of, file_form, scan_file_form, help_form, version_form, reads_input, shown_word, asked_query, Outcome, misused, helped, versioned, out_of_memory, unread, refused, unscanned, broken, answered, explained, undecoded, unshown, shown, unnamed, unserialized, overlong, named, summed, unkeyed, top_broken, topped, unfiled, filed, file_ended, Writing, whole, cut, IsOutcome, IsWriting, IsRun, status_of, outcome_text, used_by}
 use Rattle.vx_query.specs.Causes.{HasRisen}
-use Rattle.vx_query.proofs.RequestEnds.{not_none, shows_none, uses_reads}
+use Rattle.vx_query.proofs.RequestEnds.{not_none, shows_none, uses_reads, requests_read}
 
 -- how their run ends: its text was cut off, there was no memory, or the word was told
 pub data WordEnd (form : Option Form) (word : Bytes) (i i' o o' : End) (used : Option StoreSeen) (status : ℕ) : Type 0 where
@@ -23,7 +23,7 @@ pub data WordEnd (form : Option Form) (word : Bytes) (i i' o o' : End) (used : O
   told : (showing : Showing) (e : Tree) → status ≡ 0 → form ≡ Some (show_form showing word) → WordSpells word e → i' ≡ i
       → Added o.bytes o'.bytes (shown_text showing e) → used ≡ None → WordEnd form word i i' o o' used status
 
--- such arguments are of no other form, read no request, and ask no query
+-- such arguments are of no other form, read no input, and ask no query
 shows_other : (form other : Option Form) (word : Bytes) → shown_word form ≡ Some word → shown_word other ≡ None → ¬ (form ≡ other)
 shows_other form other word shows none same = not_none (sym shows ∙ ap shown_word same ∙ none)
 
@@ -36,10 +36,11 @@ shows_no_query (Some (text_form other)) word query shows h = not_none (sym shows
 shows_no_query (Some (gen_form rows)) word query shows h = not_none (sym shows)
 shows_no_query (Some (top_form top)) word query shows h = not_none (sym shows)
 shows_no_query (Some file_form) word query shows h = not_none (sym shows)
+shows_no_query (Some scan_file_form) word query shows h = not_none (sym shows)
 shows_no_query (Some help_form) word query shows h = not_none (sym shows)
 shows_no_query (Some version_form) word query shows h = not_none (sym shows)
 
-unread_word : (form : Option Form) (word : Bytes) → shown_word form ≡ Some word → ¬ (reads_request form ≡ true)
+unread_word : (form : Option Form) (word : Bytes) → shown_word form ≡ Some word → ¬ (reads_input form ≡ true)
 unread_word form word shows reads = shows_none form word reads shows
 
 -- the word of a run is the one that is given
@@ -58,8 +59,8 @@ word_end form word i i' o o' used status shows run = by run.outcome run.writing 
     by versioned whole comes written held = absurd (shows_other form (Some version_form) word shows refl comes.0)
     by out_of_memory whole comes written held = without_memory written.0
     by unread whole comes written held = absurd (unread_word form word shows comes.reads)
-    by (refused input e) whole comes written held = absurd (unread_word form word shows comes.asks)
-    by (unscanned input e) whole comes written held = absurd (unread_word form word shows (uses_reads form comes.asks))
+    by (refused input e) whole comes written held = absurd (unread_word form word shows (requests_read form comes.asks))
+    by (unscanned input e) whole comes written held = absurd (unread_word form word shows (requests_read form (uses_reads form comes.asks)))
     by (broken chosen cause input a f p) whole comes written held = absurd (shows_other form (Some (scan_form chosen)) word shows refl comes.asks)
     by (answered chosen input a f p) whole comes written held = absurd (shows_other form (Some (scan_form chosen)) word shows refl comes.asks)
     by (explained input a f p) whole comes written held = absurd (shows_other form (Some explain_form) word shows refl comes.asks)
@@ -80,3 +81,4 @@ word_end form word i i' o o' used status shows run = by run.outcome run.writing 
     by (topped input a ask) whole comes written held = absurd (shows_other form (Some (top_form (words_of ask))) word shows refl comes.asks)
     by (unfiled input) whole comes written held = absurd (shows_other form (Some file_form) word shows refl comes.asks)
     by (filed input a) whole comes written held = absurd (shows_other form (Some file_form) word shows refl comes.asks)
+    by (file_ended input ending) whole comes written held = absurd (shows_other form (Some scan_file_form) word shows refl comes.asks)

@@ -152,7 +152,7 @@ pub record IsCut (form : Option Form) (in_before in_after out_before out_after :
   pub written : AddedPrefix out_before.bytes out_after.bytes (outcome_text outcome)
   pub held : used ≡ used_by outcome
 
--- arguments that read a request couldn't read it, and the line of this was written whole; no store is held
+-- arguments that read an input couldn't read it, and the line of this was written whole; no store is held
 pub record IsUnread (form : Option Form) (in_before in_after out_before out_after : End) (used : Option StoreSeen) : Type 0 where
   pub failed : FailsToRead form in_before in_after
   pub written : Added out_before.bytes out_after.bytes (refusal_line (codes "ReadFault"))

@@ -1,11 +1,15 @@
 -- For the checker: no public clause cites this. How the scan of a request ends, and why it gives no report.
-use Rattle.std.specs.Prelude.{◌≡◌, ℕ, false, true, Ok}
+use Rattle.std.specs.Prelude.{◌≡◌, ℕ, false, true, List, Ok}
+use Rattle.std.specs.List.{filter, list_any}
+use Rattle.std.specs.Str.{bytes_eq}
 use Rattle.std.specs.String.{string_bytes}
 use Rattle.vx_dtype.specs.Types.{Bytes, Ty}
+use Rattle.vx_dtype.specs.TypeRules.{field_names}
 use Rattle.vx_expr.specs.Trees.{Tree}
 use Rattle.vx_semantics.specs.Breaks.{Cause, by_sum, by_cast}
+use Rattle.vx_semantics.specs.Tables.{Zones}
 use Rattle.vx_scan.specs.ErrorKinds.{ErrorKind, of_memory, of_break, of_read}
-use Rattle.vx_scan.specs.Stores.{StoreSeen}
+use Rattle.vx_scan.specs.Stores.{Read, StoreSeen}
 use Rattle.vx_scan.specs.declared.errors.ScanError.{ScanError}
 use Rattle.vx_request.specs.Requests.{RequestedScan}
 use Rattle.vx_query.specs.Refusals.{break_name, refusal_line}
@@ -13,6 +17,10 @@ use Rattle.vx_query.specs.Running.{Statistics, HoldsScan, SpellsScan, IsScanRefu
 use Rattle.vx_query.specs.Running.{scan_by, scan_breaks, scan_breaks_by, scan_report, scanned_store, broken_store}
 use Rattle.vx_query.specs.declared.endings.Ending.{Ending}
 use Rattle.vx_query.specs.declared.endings.Ending.TheVariants.{Report, Overflow, BadCast}
+
+-- the names of the columns of a table that these reads are of, in the table's order
+abbrev pub columns_read : Zones → List Read → List Bytes
+columns_read zones reads = filter (λ c. list_any (λ r. bytes_eq c r.1) reads) (field_names zones.columns)
 
 -- the exit status of an ending, and the text that is written
 abbrev pub ending_status : Ending → ℕ

@@ -30,7 +30,7 @@ EndsWith told text o o' status = (status ≡ told) × Added o.bytes o'.bytes tex
 abbrev pub taken_of : Bytes → Bytes
 taken_of input = take (most_bytes + 1) input
 
--- Of arguments of such forms, all of which read a request: a run that ends with this exit status and tells the line of this name took an input
+-- Of arguments of such forms, all of which read an input: a run that ends with this exit status and tells the line of this name took an input
 -- that has this cause; and where what is taken of the input that a source tells has it, a run ends so that had memory, and in which no end counted a fault.
 pub record RequestsEndSo (of_form : Option Form → Bool) (told : ℕ) (name : Bytes) (Cause : Bytes → Type 0) : Type 0 where
   pub only : (form : Option Form) (i i' o o' : End) (used : Option StoreSeen) → of_form form ≡ true

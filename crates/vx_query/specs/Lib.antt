@@ -19,3 +19,4 @@ pub mod WireLaws
 pub mod GeneratedCauses
 pub mod TopCauses
 pub mod FileCauses
+pub mod FileScanCauses

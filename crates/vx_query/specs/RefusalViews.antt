@@ -5,7 +5,7 @@ use Rattle.vx_expr.specs.Trees.{Tree}
 use Rattle.vx_column.specs.Columns.{Column}
 use Rattle.vx_semantics.specs.Tables.{Zones}
 use Rattle.vx_laws_file.specs.Lengths.{IsShortTable}
-use Rattle.vx_scan.specs.ErrorKinds.{ErrorKind, of_memory, kind_of}
+use Rattle.vx_scan.specs.ErrorKinds.{ErrorKind, of_memory, of_break, kind_of}
 use Rattle.vx_scan.specs.declared.errors.ScanError.{ScanError}
 use Rattle.vx_request.specs.Requests.{RequestedScan, request_of, hex_bytes}
 use Rattle.vx_request.specs.declared.errors.RequestError.{RequestError}
@@ -15,12 +15,33 @@ use Rattle.vx_io.specs.declared.reading.InputError.TheVariants as inputs
 use Rattle.vx_text.specs.Reading.{reading_of}
 use Rattle.vx_text.specs.declared.errors.TextError.{TextError}
 use Rattle.vx_text.specs.declared.errors.TextError.TheVariants as texts
+use Rattle.vx_file_query.specs.FileAnswers.{IsFileUnreported}
+use Rattle.vx_file_query.specs.declared.errors.FileScanError.{FileScanError}
+use Rattle.vx_file_query.specs.declared.errors.FileScanError.TheVariants as files
 use Rattle.vx_query.specs.Refusals.{request_refusal_name, scan_refusal_name, text_refusal_name, key_refusal_name, refusal_line}
+use Rattle.vx_query.specs.Refusals.{file_request_refusal_name, bad_file_name}
 use Rattle.vx_query.specs.TopWords.{unknown_key, bad_key}
 use Rattle.vx_query.specs.Running.{HoldsRefused, HoldsLongTable, IsScanRefused, WordIsRefused, Names, IsShallow, IsOverlong}
 use Rattle.vx_query.specs.declared.refusals.Refusal.{Refusal}
 use Rattle.vx_query.specs.declared.refusals.Refusal.TheVariants.{NoMemory, ReadFault, InputTooLong, BadJson, BadRequest, BadHex, BadTable, BadHexText, Scan}
-use Rattle.vx_query.specs.declared.refusals.Refusal.TheVariants.{Query, NotSerializable, LongPart, UnknownKey, BadKey, LongTable}
+use Rattle.vx_query.specs.declared.refusals.Refusal.TheVariants.{Query, NotSerializable, LongPart, UnknownKey, BadKey, LongTable, FileScan}
+
+-- the exit status of the scan of a block file without a report, and what is told of it
+abbrev pub stop_status : ErrorKind → ℕ
+stop_status (of_break cause) = 5
+stop_status _ = 4
+
+abbrev pub file_error_status : FileScanError → ℕ
+file_error_status files.NoMemory = 8
+file_error_status (files.Request e) = 3
+file_error_status (files.BadFile part) = 3
+file_error_status (files.Scan e) = stop_status (kind_of e)
+
+abbrev pub file_error_name : FileScanError → Bytes
+file_error_name files.NoMemory = codes "NoMemory"
+file_error_name (files.Request e) = file_request_refusal_name e
+file_error_name (files.BadFile part) = bad_file_name part
+file_error_name (files.Scan e) = scan_refusal_name e
 
 -- the exit status of a refusal
 abbrev pub refusal_status : Refusal → ℕ
@@ -32,6 +53,7 @@ refusal_status NotSerializable = 4
 refusal_status LongPart = 4
 refusal_status UnknownKey = 4
 refusal_status BadKey = 4
+refusal_status (FileScan e) = file_error_status e
 refusal_status _ = 3
 
 -- what is told of a refusal
@@ -51,6 +73,7 @@ refusal_name LongPart = codes "TooLong"
 refusal_name UnknownKey = key_refusal_name unknown_key
 refusal_name BadKey = key_refusal_name bad_key
 refusal_name LongTable = codes "TooLong"
+refusal_name (FileScan e) = file_error_name e
 
 -- the line of a refusal
 abbrev pub refusal_text : Refusal → Bytes
@@ -87,12 +110,25 @@ IsUnanswered input LongPart = ⊥
 IsUnanswered input UnknownKey = ⊥
 IsUnanswered input BadKey = ⊥
 IsUnanswered input LongTable = ⊥
+IsUnanswered input (FileScan e) = ⊥
 
 -- an input whose table's block file is asked is answered by this refusal: a table that is too long for it, else as any input, whose expressions aren't used
 abbrev pub IsFileUnanswered : Bytes → Refusal → Type 0
 IsFileUnanswered input (Scan e) = ⊥
 IsFileUnanswered input LongTable = HoldsLongTable input
 IsFileUnanswered input r = IsUnanswered input r
+
+-- the refusal of the scan of a block file
+abbrev pub file_refusal : FileScanError → Refusal
+file_refusal files.NoMemory = NoMemory
+file_refusal e = FileScan e
+
+-- an input that asks the scan of a block file is answered by this refusal: want of memory at any time, else the one reason
+abbrev pub IsFileUnscanned : Bytes → Refusal → Type 0
+IsFileUnscanned input NoMemory = Unit {0}
+IsFileUnscanned input (FileScan files.NoMemory) = ⊥
+IsFileUnscanned input (FileScan e) = IsFileUnreported input e
+IsFileUnscanned input _ = ⊥
 
 -- a table has no file, for this reason: want of memory at any time, else it is too long
 abbrev pub IsWithoutFile : Zones → List (List Column) → Refusal → Type 0

@@ -10,6 +10,14 @@ use Rattle.vx_request.specs.declared.errors.TableRefusal.{TableRefusal}
 use Rattle.vx_request.specs.declared.errors.TableRefusal.TheVariants.{DuplicateName, DeepType, BadStatPath, DuplicateStat, WrongStatCount, WrongStatType}
 use Rattle.vx_request.specs.declared.errors.TableRefusal.TheVariants.{WrongLength, WrongValue}
 use Rattle.vx_request.specs.declared.errors.RequestError.{RequestError}
+use Rattle.vx_request.specs.declared.errors.FilePlace.{FilePlace}
+use Rattle.vx_request.specs.declared.errors.FilePlace.TheVariants as file_places
+use Rattle.vx_request.specs.declared.errors.FileText.{FileText}
+use Rattle.vx_request.specs.declared.errors.FileText.TheVariants as file_texts
+use Rattle.vx_request.specs.declared.errors.FileRequestError.{FileRequestError}
+use Rattle.vx_request.specs.declared.errors.FileRequestError.TheVariants as file_requests
+use Rattle.vx_file_query.specs.declared.errors.FilePart.{FilePart}
+use Rattle.vx_file_query.specs.declared.errors.FilePart.TheVariants as parts
 use Rattle.vx_scan.specs.declared.errors.Side.{Side as ScannedSide}
 use Rattle.vx_scan.specs.declared.errors.Side.TheVariants as scanned
 use Rattle.vx_scan.specs.declared.errors.ScanError.{ScanError}
@@ -52,6 +60,38 @@ request_refusal_name BadJson = codes "BadJson"
 request_refusal_name (BadRequest place) = codes "BadRequest " ++ place_name place
 request_refusal_name (BadHex side) = codes "BadHex " ++ side_name side
 request_refusal_name (BadTable refusal) = codes "BadTable " ++ table_refusal_name refusal
+
+-- the name of a place of a request of a block file, and that of one of its texts
+abbrev pub file_place_name : FilePlace → Bytes
+file_place_name file_places.Top = codes "top"
+file_place_name file_places.File = codes "file"
+file_place_name file_places.Filter = codes "filter"
+file_place_name file_places.Projection = codes "projection"
+
+abbrev pub file_text_name : FileText → Bytes
+file_text_name file_texts.File = codes "file"
+file_text_name file_texts.Filter = codes "filter"
+file_text_name file_texts.Projection = codes "projection"
+
+-- what is told of a request of a block file that is refused: the refusal's name, and its place
+abbrev pub file_request_refusal_name : FileRequestError → Bytes
+file_request_refusal_name file_requests.NoMemory = codes "NoMemory"
+file_request_refusal_name file_requests.InputTooLong = codes "InputTooLong"
+file_request_refusal_name file_requests.BadJson = codes "BadJson"
+file_request_refusal_name (file_requests.BadRequest place) = codes "BadRequest " ++ file_place_name place
+file_request_refusal_name (file_requests.BadHex which) = codes "BadHex " ++ file_text_name which
+
+-- the name of a part of a block file
+abbrev pub file_part_name : FilePart → Bytes
+file_part_name parts.Magic = codes "magic"
+file_part_name parts.Header = codes "header"
+file_part_name parts.Zones = codes "zones"
+file_part_name parts.End = codes "end"
+file_part_name parts.Column = codes "column"
+
+-- what is told of a block file of which this part isn't as it has to be
+abbrev pub bad_file_name : FilePart → Bytes
+bad_file_name part = codes "BadFile " ++ file_part_name part
 
 -- the name of one of the expressions of a scan
 abbrev pub scanned_side_name : ScannedSide → Bytes

@@ -9,7 +9,7 @@ use Rattle.vx_query.specs.declared.forms.Statistics.{Statistics}
 use Rattle.vx_query.specs.declared.forms.Statistics.TheVariants.{Given, Built}
 use Rattle.vx_query.specs.declared.forms.Top.{Top as AskedRows}
 use Rattle.vx_query.specs.declared.forms.Form.{Form}
-use Rattle.vx_query.specs.declared.forms.Form.TheVariants.{Scan, Explain, Show, Text, Generated, Top, File, Help, Version}
+use Rattle.vx_query.specs.declared.forms.Form.TheVariants.{Scan, Explain, Show, Text, Generated, Top, File, ScanFile, Help, Version}
 use Rattle.vx_query.specs.TopWords.{AskedTop}
 
 -- how an expression is shown, as a value of the code says
@@ -36,6 +36,7 @@ form_view (Text query) = running.text_form query.now
 form_view (Generated rows) = running.gen_form rows
 form_view (Top top) = running.top_form (top_view top)
 form_view File = running.file_form
+form_view ScanFile = running.scan_file_form
 form_view Help = running.help_form
 form_view Version = running.version_form
 

@@ -27,7 +27,8 @@ use Rattle.vx_scan.specs.declared.errors.Side.TheVariants.{Text}
 use Rattle.vx_scan.specs.declared.errors.ScanError.{ScanError}
 use Rattle.vx_io.specs.Ends.{TookPart, TookUpTo, Added, AddedPrefix}
 use Rattle.vx_laws_generated.specs.GeneratedLine.{gen_line}
-use Rattle.vx_laws_file.specs.FileForms.{file_bytes}
+use Rattle.vx_laws_file.specs.FileForms.{FileContent, file_bytes}
+use Rattle.vx_laws_file.specs.HeldTables.{held_blocks}
 use Rattle.vx_laws_file.specs.Lengths.{IsShortTable, HasFile}
 use Rattle.vx_laws_stats.specs.BuiltStatistics.{built_zones}
 use Rattle.vx_laws_topk.specs.TopRows.{TopAsk, top_rows_of, top_skipped}
@@ -37,8 +38,11 @@ use Rattle.vx_query.specs.GeneratedWords.{rows_of_word}
 use Rattle.vx_query.specs.TopWords.{AskedTop, KeyRefusal, IsNoKey, count_of_word}
 use Rattle.vx_query.specs.Reports.{report_text, hex_line}
 use Rattle.vx_request.specs.Requests.{RequestedScan, request_of, most_bytes, hex_bytes}
+use Rattle.vx_request.specs.FileRequests.{RequestedFile}
+use Rattle.vx_file_query.specs.FileEndings.{FileEnding, misasked, misfiled, file_unscanned, file_broken, file_reported, FileEnds}
 use Rattle.vx_request.specs.declared.errors.RequestError.{RequestError}
 use Rattle.vx_query.specs.Refusals.{request_refusal_name, scan_refusal_name, text_refusal_name, key_refusal_name, break_name, refusal_line}
+use Rattle.vx_query.specs.Refusals.{file_request_refusal_name, bad_file_name}
 
 -- how an expression is shown: in a line, as a tree, or as the query that names it
 pub data Showing : Type 0 where
@@ -66,6 +70,7 @@ pub data Form : Type 0 where
   gen_form : ℕ → Form
   top_form : AskedTop → Form
   file_form : Form
+  scan_file_form : Form
   help_form : Form
   version_form : Form
 
@@ -78,6 +83,10 @@ form_named argument =
     (cond (bytes_eq argument (codes "--help")) (Some help_form)
     (cond (bytes_eq argument (codes "--version")) (Some version_form) None))))
 
+-- where a word stands behind `scan`
+abbrev pub scan_worded : Bytes → Option Form
+scan_worded word = cond (bytes_eq word (codes "built")) (Some (scan_form built)) (cond (bytes_eq word (codes "file")) (Some scan_file_form) None)
+
 -- the form that asks the first so many rows by this key
 abbrev pub top_of : Bytes → Bool → ℕ → Form
 top_of key descending count = top_form (record { key = key; descending = descending; count = count })
@@ -88,12 +97,12 @@ top_worded direction key word =
     cond (bytes_eq direction (codes "asc")) (option_map (top_of key false) (count_of_word word))
     (cond (bytes_eq direction (codes "desc")) (option_map (top_of key true) (count_of_word word)) None)
 
--- the form that arguments have; `built` may stand behind `scan`, any one word behind `show`, `show tree`, `show query` and `text`, one that
+-- the form that arguments have; `built` and `file` may stand behind `scan`, any one word behind `show`, `show tree`, `show query` and `text`, one that
 -- tells a number of rows behind `gen`, and any one word and a number of rows behind `top asc` and `top desc`
 abbrev pub form_of : List Bytes → Option Form
 form_of (argument ∷ []) = form_named argument
 form_of (first ∷ word ∷ []) =
-    cond (bytes_eq first (codes "scan") && bytes_eq word (codes "built")) (Some (scan_form built))
+    cond (bytes_eq first (codes "scan")) (scan_worded word)
     (cond (bytes_eq first (codes "show")) (Some (show_form as_line word))
     (cond (bytes_eq first (codes "text")) (Some (text_form word))
     (cond (bytes_eq first (codes "gen")) (option_map gen_form (rows_of_word word)) None)))
@@ -111,6 +120,15 @@ reads_request (Some (top_form top)) = true
 reads_request (Some file_form) = true
 reads_request _ = false
 
+-- whether they read an input: a request, or one of the scan of a block file
+abbrev pub reads_input : Option Form → Bool
+reads_input (Some (scan_form s)) = true
+reads_input (Some explain_form) = true
+reads_input (Some (top_form top)) = true
+reads_input (Some file_form) = true
+reads_input (Some scan_file_form) = true
+reads_input _ = false
+
 -- whether they use the expressions of the request that they read, and not its table alone
 abbrev pub uses_expressions : Option Form → Bool
 uses_expressions (Some (scan_form s)) = true
@@ -122,6 +140,11 @@ uses_expressions _ = false
 abbrev pub asks_file : Option Form → Bool
 asks_file (Some file_form) = true
 asks_file _ = false
+
+-- whether they ask the scan of a block file
+abbrev pub scans_file : Option Form → Bool
+scans_file (Some scan_file_form) = true
+scans_file _ = false
 
 -- the statistics of a scan of a request, where the arguments have that form
 abbrev pub asked_statistics : Option Form → Option Statistics
@@ -325,13 +348,32 @@ scan_breaks a f p = some_phase_breaks (scan_table a) a.zones [] f p
 abbrev pub scan_breaks_by : Cause → RequestedScan → Tree → Tree → Bool
 scan_breaks_by cause a f p = first_breaks_by cause (row_type a.zones.columns) [] (scan_phases a f p)
 
+-- the scan of the table that a block file holds, by the texts of its request
+abbrev pub held_scan : RequestedFile → FileContent → RequestedScan
+held_scan a content = record { zones = content.zones; blocks = held_blocks content; filter = a.filter; projection = a.projection }
+
+-- the exit status of the scan of a block file that ends so, and the text that is written
+abbrev pub file_status : FileEnding → ℕ
+file_status (misasked e) = 3
+file_status (misfiled part) = 3
+file_status (file_unscanned e) = 4
+file_status (file_broken cause) = 5
+file_status (file_reported a content f p) = 0
+
+abbrev pub file_text : FileEnding → Bytes
+file_text (misasked e) = refusal_line (file_request_refusal_name e)
+file_text (misfiled part) = refusal_line (bad_file_name part)
+file_text (file_unscanned e) = refusal_line (scan_refusal_name e)
+file_text (file_broken cause) = refusal_line (break_name cause)
+file_text (file_reported a content f p) = scan_report (held_scan a content) f p
+
 -- how the program comes to an end: arguments of no form, help, the version, no memory, an input that can't be read, one that is no request, one whose
 -- expressions are refused, one whose scan by some statistics breaks by a sum or a cast, one that is answered by the report of its scan by some statistics
 -- and one by an explanation; a word to be shown that is no hexadecimal text, one whose bytes spell no expression, and one that is shown; a query that names
 -- no expression, one of whose expression there are no bytes, for a type that is too deep or a part that is too long, and one of whose expression the bytes
 -- are written; a generated table of so many rows that is scanned; of those that ask first rows, one of whose table the key is refused, one that breaks
--- where they are searched, and one that is answered by their report; and of those that ask a block file, one whose table is too long for it, and one whose
--- table's file is written
+-- where they are searched, and one that is answered by their report; of those that ask a block file, one whose table is too long for it, and one whose
+-- table's file is written; and one that asks the scan of a block file, which ends so
 pub data Outcome : Type 0 where
   misused : Outcome
   helped : Outcome
@@ -356,6 +398,7 @@ pub data Outcome : Type 0 where
   topped : Bytes → RequestedScan → TopAsk → Outcome
   unfiled : Bytes → Outcome
   filed : Bytes → RequestedScan → Outcome
+  file_ended : Bytes → FileEnding → Outcome
 
 -- the input was taken to its end, or to one byte more than the most, and no read failed; that many bytes are no request
 pub record IsTaken (before after : End) (input : Bytes) : Type 0 where
@@ -367,17 +410,17 @@ pub record IsTaken (before after : End) (input : Bytes) : Type 0 where
 abbrev pub IsPartTaken : End → End → Type 0
 IsPartTaken before after = TookPart (most_bytes + 1) before.bytes after.bytes
 
--- what was taken where there was no memory: a first part of the input, no read of which failed, by arguments that read a request, and nothing by those
+-- what was taken where there was no memory: a first part of the input, no read of which failed, by arguments that read one, and nothing by those
 -- that give a word, a query or a number of rows
 abbrev pub IsCutShort : Option Form → End → End → Type 0
 IsCutShort form before after =
-    ((reads_request form ≡ true) × (IsPartTaken before after × (after.faults ≡ before.faults)))
+    ((reads_input form ≡ true) × (IsPartTaken before after × (after.faults ≡ before.faults)))
     ⊎ ((((word : Bytes) × ((shown_word form ≡ Some word) ⊎ (asked_query form ≡ Some word))) ⊎ ((rows : ℕ) × (asked_rows form ≡ Some rows)))
     × (after ≡ before))
 
--- arguments that read a request couldn't read it: a first part of the input was taken, and the source counted a fault
+-- arguments that read an input couldn't read it: a first part of it was taken, and the source counted a fault
 pub record FailsToRead (form : Option Form) (before after : End) : Type 0 where
-  pub reads : reads_request form ≡ true
+  pub reads : reads_input form ≡ true
   pub part : IsPartTaken before after
   pub risen : one_more before.faults ≤ after.faults
 
@@ -394,7 +437,7 @@ pub record GivesWord (Asks Holds : Bytes → Type 0) (before after : End) : Type
   pub holds : Holds word
   pub untaken : after ≡ before
 
--- what an outcome says of arguments and of the source: arguments that read no request take nothing
+-- what an outcome says of arguments and of the source: arguments that read no input take nothing
 abbrev pub IsOutcome : Option Form → End → End → Outcome → Type 0
 IsOutcome form before after misused = (form ≡ None) × (after ≡ before)
 IsOutcome form before after helped = (form ≡ Some help_form) × (after ≡ before)
@@ -425,6 +468,7 @@ IsOutcome form before after (topped input a ask) =
     TakesInput (form ≡ Some (top_form (words_of ask))) before after input (HoldsTop input a ask × (top_breaks a ask ≡ false))
 IsOutcome form before after (unfiled input) = TakesInput (form ≡ Some file_form) before after input (HoldsLongTable input)
 IsOutcome form before after (filed input a) = TakesInput (form ≡ Some file_form) before after input (HoldsFile input a)
+IsOutcome form before after (file_ended input ending) = TakesInput (form ≡ Some scan_file_form) before after input (FileEnds input ending)
 
 -- the text of `--version`
 abbrev pub version_text : Bytes
@@ -443,10 +487,11 @@ help_text =
     ++ (codes "vx gen ROWS            prints what the scan of a generated table of so many rows gives, as in: vx gen 200\n"
     ++ (codes "vx top asc KEY K < REQ prints the first K rows by a column (desc: greatest first), as in: vx top desc price 2 < examples/catalog.json\n"
     ++ (codes "vx file < REQUEST      prints the table as a block file, two hexadecimal digits for each byte, as in: vx file < examples/file.json\n"
+    ++ (codes "vx scan file < FILE    prints what scan does of a block file by two expressions, as in: vx scan file < examples/held.json\n"
     ++ (codes "vx --help              prints this text\n"
     ++ (codes "vx --version           prints the version\n"
-    ++ (codes "exit status: 0 written whole, 2 wrong arguments, 3 no request, no hex or too long a table, 4 refused expressions or query,\n"
-    ++ (codes "5 overflow or bad cast, 6 input not read, 7 output not written, 8 no memory\n")))))))))))))
+    ++ (codes "exit status: 0 written whole, 2 wrong arguments, 3 no request, no hex, too long a table or a bad file, 4 refused expressions\n"
+    ++ (codes "or query, 5 overflow or bad cast, 6 input not read, 7 output not written, 8 no memory\n"))))))))))))))
 
 -- the exit status of an outcome
 abbrev pub status_of : Outcome → ℕ
@@ -473,6 +518,7 @@ status_of (top_broken cause input a ask) = 5
 status_of (topped input a ask) = 0
 status_of (unfiled input) = 3
 status_of (filed input a) = 0
+status_of (file_ended input ending) = file_status ending
 
 -- the text that an outcome writes
 abbrev pub outcome_text : Outcome → Bytes
@@ -499,6 +545,7 @@ outcome_text (top_broken cause input a ask) = refusal_line (break_name cause)
 outcome_text (topped input a ask) = top_report a ask
 outcome_text (unfiled input) = refusal_line (codes "TooLong")
 outcome_text (filed input a) = file_line a
+outcome_text (file_ended input ending) = file_text ending
 
 -- the store that is held after an outcome: the one that was scanned, where a report or the line of a generated table was made, or a phase broke
 abbrev pub used_by : Outcome → Option StoreSeen

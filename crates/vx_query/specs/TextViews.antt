@@ -7,9 +7,12 @@ use Rattle.vx_dtype.specs.Types.{Bytes}
 use Rattle.vx_expr.specs.Trees.{Tree}
 use Rattle.vx_explain.specs.Explanations.{explain_text}
 use Rattle.vx_request.specs.Requests.{RequestedScan}
-use Rattle.vx_query.specs.Running.{End, Form, HoldsScan, HoldsFile, file_line, WordSpells, Names, HasBytes, bytes_line}
+use Rattle.vx_request.specs.FileRequests.{RequestedFile}
+use Rattle.vx_laws_file.specs.FileForms.{FileContent}
+use Rattle.vx_file_query.specs.FileEndings.{FileEnds, file_reported}
+use Rattle.vx_query.specs.Running.{End, Form, HoldsScan, HoldsFile, file_line, held_scan, scan_report, WordSpells, Names, HasBytes, bytes_line}
 use Rattle.vx_query.specs.Running.{Outcome, IsOutcome, status_of, outcome_text, used_by}
-use Rattle.vx_query.specs.RefusalViews.{refusal_status, refusal_text, IsUnanswered, IsFileUnanswered, IsWordUnshown, IsQueryRefused}
+use Rattle.vx_query.specs.RefusalViews.{refusal_status, refusal_text, IsUnanswered, IsFileUnanswered, IsFileUnscanned, IsWordUnshown, IsQueryRefused}
 use Rattle.vx_query.specs.declared.refusals.Refusal.{Refusal}
 
 -- the exit status of an answer, and the text that is written
@@ -48,6 +51,13 @@ AnswersQuery query (Err r) = IsQueryRefused query r
 abbrev pub FilesInput : Bytes → Result (String Global) Refusal → Type 0
 FilesInput input (Ok text) = (a : RequestedScan) × HoldsFile input a × (string_bytes text ≡ file_line a)
 FilesInput input (Err r) = IsFileUnanswered input r
+
+-- an input is answered by the report of the scan of the block file that it asks, or is refused
+abbrev pub ReportsFile : Bytes → Result (String Global) Refusal → Type 0
+ReportsFile input (Ok text) =
+    (a : RequestedFile) × (content : FileContent) × (f : Tree) × (p : Tree) × FileEnds input (file_reported a content f p)
+    × (string_bytes text ≡ scan_report (held_scan a content) f p)
+ReportsFile input (Err r) = IsFileUnscanned input r
 
 -- an outcome that an answer stands for; no store is held
 pub record IsAnsweredBy (form : Option Form) (before after : End) (answer : Result (String Global) Refusal) : Type 0 where

@@ -14,7 +14,7 @@ ghost use Rattle.vx_scan.specs.StoreViews.{entry_view, store_seen};
 ghost use Rattle.vx_scan.specs.declared.errors.ScanError.TheVariants as scans;
 ghost use Rattle.vx_semantics.specs.Scans.{read_columns};
 ghost use Rattle.vx_tables.specs.Blocks.{block_view, table_of_blocks, table_refusal};
-ghost use Rattle.vx_query.specs.EndingViews.{EndsAs, IsAnswered, IsScanned};
+ghost use Rattle.vx_query.specs.EndingViews.{EndsAs, IsAnswered, IsScanned, columns_read};
 ghost use Rattle.vx_query.specs.Reports.{report_text};
 ghost use Rattle.vx_query.specs.RefusalViews.{IsUnanswered, IsUnscanned, scan_refusal};
 ghost use Rattle.vx_query.specs.RunViews.{scan_of, statistics_view};
@@ -151,23 +151,32 @@ pub(crate) fn text_of(
     ensures { IfOk result (λ text. string_bytes text ≡ report_text (map value_text (raw_rows (type_view dtype.now) rows.now)) skipped.now
         (read_columns (table_of_blocks store.now.zones store.now.blocks) store.now.reads) (length store.now.reads)) }
 {
+    report_of(alloc, dtype, rows, skipped, store.zones(), store.log())
+}
+
+/// The text of the report of a scan of a table with these zones: of rows of a type, of the blocks that were skipped, and of the reads that were made.
+pub(crate) fn report_of(
+    alloc: Global,
+    dtype: &DType,
+    rows: &RowValues,
+    skipped: &BlockNumbers,
+    zones: &ZoneMap,
+    log: &[ReadEntry],
+) -> Mem<String>
+    requires { raws_fit (type_view dtype.now) rows.now ≡ true }
+    ensures { IfOk result (λ text. string_bytes text ≡ report_text (map value_text (raw_rows (type_view dtype.now) rows.now)) skipped.now
+        (columns_read zones.now (map entry_view log.now)) (length log.now)) }
+{
     let texts = row_texts(alloc, dtype, rows.as_slice())?;
-    let names = columns_read(alloc, store)?;
+    let columns = zones.dtype().as_struct_fields_opt().unwrap();
+    let names = read_names(alloc, columns.names().as_slice(), log)?;
     report_text(
         alloc,
         texts.as_slice(),
         skipped.as_slice(),
         names.as_slice(),
-        store.log().len(),
+        log.len(),
     )
-}
-
-/// The names of the columns that were read at least once, in the table's order.
-fn columns_read(alloc: Global, store: &MemoryStore) -> Mem<Vec<FieldName>>
-    ensures { IfOk result (λ names. names.items ≡ read_columns (table_of_blocks store.now.zones store.now.blocks) store.now.reads) }
-{
-    let columns = store.zones().dtype().as_struct_fields_opt().unwrap();
-    read_names(alloc, columns.names().as_slice(), store.log())
 }
 
 /// The texts of rows of a type.

@@ -14,7 +14,7 @@ ghost use Rattle.vx_query.specs.Causes.{told_breaks, told_breaks_by, whole_repor
 ghost use Rattle.vx_query.specs.Exactly.{Tells, RunsWell, EndsWith};
 ghost use Rattle.vx_query.specs.Refusals.{refusal_line, break_name};
 ghost use Rattle.vx_query.specs.WireLaws.{WireLaws};
-ghost use Rattle.vx_query.specs.Running.{End, Form, IsRun, asked_top, reads_request, scan_by, scan_table, scan_report, scanned_store, broken_store, bytes_line};
+ghost use Rattle.vx_query.specs.Running.{End, Form, IsRun, asked_top, reads_request, scans_file, scan_by, scan_table, scan_report, scanned_store, broken_store, bytes_line};
 ghost use Rattle.vx_query.specs.Running.{Showing, Statistics, given, scan_form, explain_form, show_form, text_form, gen_form};
 ghost use Rattle.vx_query.specs.Running.{shown_text, uses_expressions, WordSpells, Names, HasBytes};
 
@@ -23,8 +23,8 @@ use vx_wire::{one_expression, one_tree};
 
 /// 3 and 4 of `scan`, `scan built` and `explain` mean that the input was taken and that the line of its one cause was written: it is no
 /// request; the expressions of its scan are refused. No store is held then. Which refusal a line tells is said by the laws of
-/// `refusal_causes`. 3 of `top` means the same; what 4 of it means is said by `refused_searches_have_their_causes`, and what 3 of `file`
-/// does by `refused_files_have_their_causes`.
+/// `refusal_causes`. 3 of `top` means the same; what 4 of it means is said by `refused_searches_have_their_causes`, what 3 of `file`
+/// does by `refused_files_have_their_causes`, and what 3 and 4 of `scan file` do by `refused_file_scans_have_their_causes`.
 pub fn statuses_have_their_causes()
     ensures refused { (form : Option Form) (i i' o o' : End) (used : Option StoreSeen) → uses_expressions form ≡ true → IsRun form i i' o o' used 3
         → IsUnasked i i' o o' used }
@@ -32,15 +32,15 @@ pub fn statuses_have_their_causes()
         → IsRun form i i' o o' used 4 → IsUnscanned i i' o o' used }
 {}
 
-/// 5 of other arguments than `top` means that they are `scan` or `scan built`, that the input holds a scan of which a phase breaks by the statistics
+/// 5 of other arguments than `top` and `scan file` means that they are `scan` or `scan built`, that the input holds a scan of which a phase breaks by the statistics
 /// of these arguments, that the line of a cause was written by which the first phase that breaks does so, and that the store is
 /// held with the reads up to there. Where the sink tells the line, this is its cause. And a run of `scan` or `scan built` over a
 /// source that tells its bytes, which hold a scan some phase of which so breaks, ends so where there is memory and no end counts
-/// a fault. Of `top` `searches_break_exactly` says the same.
+/// a fault. Of `top` `searches_break_exactly` says the same, and of `scan file` `file_scans_break_exactly`.
 pub fn breaks_exactly()
-    ensures only { (form : Option Form) (i i' o o' : End) (used : Option StoreSeen) → asked_top form ≡ None → IsRun form i i' o o' used 5
-        → IsStopped form i i' o o' used }
-    ensures told { (cause : Cause) (form : Option Form) (i i' o o' : End) (used : Option StoreSeen) → asked_top form ≡ None
+    ensures only { (form : Option Form) (i i' o o' : End) (used : Option StoreSeen) → asked_top form ≡ None → scans_file form ≡ false
+        → IsRun form i i' o o' used 5 → IsStopped form i i' o o' used }
+    ensures told { (cause : Cause) (form : Option Form) (i i' o o' : End) (used : Option StoreSeen) → asked_top form ≡ None → scans_file form ≡ false
         → Tells form i i' o o' used 5 (refusal_line (break_name cause)) → HasBroken cause form i i' }
     ensures always { (s : Statistics) (i i' o o' : End) (used : Option StoreSeen) (status : ℕ) (told : TellsScan i) → told_breaks s told ≡ true
         → RunsWell (Some (scan_form s)) i i' o o' used status → ¬ (HasRisen i i')
@@ -50,7 +50,7 @@ pub fn breaks_exactly()
     wire_laws();
 }
 
-/// 6 comes only of arguments that read a request, where the source counted a fault: a first part of the input was taken, the
+/// 6 comes only of arguments that read an input, where the source counted a fault: a first part of the input was taken, the
 /// line of ReadFault was written whole, and no store is held. And where the source counted one, and the sink none, a run ends
 /// so, as long as the count isn't at its last value.
 pub fn read_faults_are_counted()

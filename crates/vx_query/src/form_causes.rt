@@ -6,7 +6,7 @@ ghost use Rattle.vx_scan.specs.Stores.{StoreSeen};
 ghost use Rattle.vx_explain.specs.Explanations.{explain_text};
 ghost use Rattle.vx_query.specs.Causes.{HasRisen, IsExplained, IsShown, IsMisuse, IsTold, IsUndigited, IsUnshown, IsUnnamed, TellsScan};
 ghost use Rattle.vx_query.specs.Running.{End, Form, IsRun, Showing, Statistics, asked_rows, asked_statistics, asked_top};
-ghost use Rattle.vx_query.specs.Running.{reads_request, shown_word, scan_form, explain_form, show_form, text_form, top_form, shown_text};
+ghost use Rattle.vx_query.specs.Running.{reads_input, shown_word, scan_form, explain_form, show_form, text_form, top_form, scan_file_form, shown_text};
 ghost use Rattle.vx_query.specs.TopWords.{AskedTop};
 ghost use Rattle.vx_query.specs.Running.{help_form, version_form, help_text, version_text};
 
@@ -20,13 +20,14 @@ pub fn usage_exactly()
         → IsMisuse i i' o o' used status }
 {}
 
-/// Only `scan`, `scan built` and `top` end with 5, and they and `gen` alone hold a store; arguments that read no request take nothing of the source.
+/// Only `scan`, `scan built`, `scan file` and `top` end with 5; they, but for `scan file`, and `gen` alone hold a store; arguments that read no input take
+/// nothing of the source.
 pub fn scans_alone_break_and_hold()
     ensures breaks { (form : Option Form) (i i' o o' : End) (used : Option StoreSeen) → IsRun form i i' o o' used 5
-        → ((s : Statistics) × (form ≡ Some (scan_form s))) ⊎ ((top : AskedTop) × (form ≡ Some (top_form top))) }
+        → ((s : Statistics) × (form ≡ Some (scan_form s))) ⊎ (((top : AskedTop) × (form ≡ Some (top_form top))) ⊎ (form ≡ Some scan_file_form)) }
     ensures holds { (form : Option Form) (i i' o o' : End) (used : Option StoreSeen) (status : ℕ) → asked_statistics form ≡ None
         → asked_rows form ≡ None → asked_top form ≡ None → IsRun form i i' o o' used status → used ≡ None }
-    ensures takes { (form : Option Form) (i i' o o' : End) (used : Option StoreSeen) (status : ℕ) → reads_request form ≡ false
+    ensures takes { (form : Option Form) (i i' o o' : End) (used : Option StoreSeen) (status : ℕ) → reads_input form ≡ false
         → IsRun form i i' o o' used status → i' ≡ i }
 {}
 

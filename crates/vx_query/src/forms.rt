@@ -3,7 +3,7 @@ ghost use Rattle.std.specs.Prelude.{◌≡◌, map, option_map};
 ghost use Rattle.std.specs.String.{string_bytes};
 ghost use Rattle.vx_query.specs.GeneratedWords.{rows_of_word};
 ghost use Rattle.vx_query.specs.TopWords.{count_of_word};
-ghost use Rattle.vx_query.specs.Running.{form_of, gen_form, top_of, top_worded};
+ghost use Rattle.vx_query.specs.Running.{form_of, gen_form, scan_worded, top_of, top_worded};
 ghost use Rattle.vx_query.specs.RunViews.{form_view};
 
 use crate::number_words::{count_of_word, rows_of_word};
@@ -53,6 +53,8 @@ pub(crate) enum Form<'a> {
     Top(Top<'a>),
     /// Writes a request's table as a block file.
     File,
+    /// Scans a block file.
+    ScanFile,
     /// Tells the forms.
     Help,
     /// Tells the version.
@@ -69,9 +71,7 @@ pub(crate) fn form_of(arguments: &[String]) -> Option<Form<'_>>
         [argument] if argument.as_str() == "file" => Some(Form::File),
         [argument] if argument.as_str() == "--help" => Some(Form::Help),
         [argument] if argument.as_str() == "--version" => Some(Form::Version),
-        [first, second] if first.as_str() == "scan" && second.as_str() == "built" => {
-            Some(Form::Scan(Statistics::Built))
-        }
+        [first, word] if first.as_str() == "scan" => scan_form(word.as_str()),
         [first, hex] if first.as_str() == "show" => {
             Some(Form::Show(Showing::Line, hex.as_str()))
         }
@@ -86,6 +86,17 @@ pub(crate) fn form_of(arguments: &[String]) -> Option<Form<'_>>
         [first, direction, key, word] if first.as_str() == "top" => {
             first_rows_form(direction.as_str(), key.as_str(), word.as_str())
         }
+        _ => None,
+    }
+}
+
+/// The form of `scan` with this word behind it, none where there is no such word.
+fn scan_form<'a>(word: &str) -> Option<Form<'a>>
+    ensures { option_map form_view result ≡ scan_worded word.now }
+{
+    match word {
+        "built" => Some(Form::Scan(Statistics::Built)),
+        "file" => Some(Form::ScanFile),
         _ => None,
     }
 }

@@ -1,5 +1,5 @@
-//! The program as a call over two ends: the scan that an input holds, its report, its explanation and its first rows, the block file of its table,
-//! expressions that are shown, queries, and refusals.
+//! The program as a call over two ends: the scan that an input holds, its report, its explanation and its first rows, the block file of its table, the scan
+//! of a block file, expressions that are shown, queries, and refusals.
 #![tactic(auto)]
 
 mod answers;
@@ -9,6 +9,8 @@ mod causes;
 mod endings;
 mod exclusions;
 mod file_causes;
+mod file_scan_causes;
+mod file_scans;
 mod files;
 mod form_causes;
 mod forms;
@@ -35,6 +37,12 @@ pub use causes::{
 pub use exclusions::causes_exclude_one_another;
 pub use file_causes::{
     files_are_of_the_request, long_tables_are_refused_exactly, refused_files_have_their_causes,
+};
+pub use file_scan_causes::{
+    bad_files_are_refused_exactly, file_expressions_are_refused_exactly,
+    file_requests_are_refused_exactly, file_scans_are_of_the_request, file_scans_break_exactly,
+    honest_file_reports_are_whole, refused_file_scans_have_their_causes,
+    written_files_are_scanned_as_their_tables,
 };
 pub use form_causes::{
     explanations_are_of_the_request, help_and_version_are_told, refused_words_have_their_causes,

@@ -1,17 +1,20 @@
 // Why the program writes only a line.
 ghost use Rattle.std.specs.Prelude.{◌≡◌};
+ghost use Rattle.vx_request.specs.declared.errors.FileRequestError.TheVariants as file_requests;
 ghost use Rattle.vx_request.specs.declared.errors.RequestError.TheVariants as requests;
 ghost use Rattle.vx_query.specs.Refusals.{refusal_line, request_refusal_name, scan_refusal_name, text_refusal_name};
-ghost use Rattle.vx_query.specs.RefusalViews.{refusal_status, refusal_text};
+ghost use Rattle.vx_query.specs.Refusals.{bad_file_name, file_request_refusal_name};
+ghost use Rattle.vx_query.specs.RefusalViews.{file_error_name, file_error_status, refusal_status, refusal_text};
 
-use crate::statuses::{NO_REQUEST, OUT_OF_MEMORY, REFUSED, UNREAD};
+use crate::statuses::{BROKEN, NO_REQUEST, OUT_OF_MEMORY, REFUSED, UNREAD};
 use vx_dtype::NoMemory;
+use vx_file_query::{FilePart, FileScanError};
 use vx_io::InputError;
-use vx_request::{Place, RequestError, Side, TableRefusal};
+use vx_request::{FilePlace, FileRequestError, FileText, Place, RequestError, Side, TableRefusal};
 use vx_scan::{ScanError, Side as ScannedSide};
 use vx_text::TextError;
 
-/// Why an input has no report, no first rows, no explanation or no block file, a word is not shown, or a query has no bytes.
+/// Why an input has no report, no first rows, no explanation or no block file, a block file no report, a word is not shown, or a query has no bytes.
 #[derive(PartialEq, Eq, Debug, Drop)]
 pub(crate) enum Refusal {
     /// There was no memory.
@@ -44,6 +47,8 @@ pub(crate) enum Refusal {
     BadKey,
     /// The request's table is too long for a block file.
     LongTable,
+    /// The scan of a block file has no report, for this reason.
+    FileScan(FileScanError),
 }
 
 impl Refusal {
@@ -67,6 +72,7 @@ impl Refusal {
             | Refusal::LongPart
             | Refusal::UnknownKey
             | Refusal::BadKey => REFUSED,
+            Refusal::FileScan(error) => file_status(error),
         }
     }
 
@@ -91,7 +97,74 @@ impl Refusal {
             Refusal::UnknownKey => "error: UnknownKey\n",
             Refusal::BadKey => "error: BadKey\n",
             Refusal::LongTable => "error: TooLong\n",
+            Refusal::FileScan(error) => file_scan_line(error),
         }
+    }
+}
+
+/// The exit status where the scan of a block file has no report.
+fn file_status(error: &FileScanError) -> u8
+    ensures { result ≡ file_error_status error.now }
+{
+    match error {
+        FileScanError::NoMemory => OUT_OF_MEMORY,
+        FileScanError::Request(_) | FileScanError::BadFile(_) => NO_REQUEST,
+        FileScanError::Scan(ScanError::Overflow) | FileScanError::Scan(ScanError::BadCast) => {
+            BROKEN
+        }
+        FileScanError::Scan(_) => REFUSED,
+    }
+}
+
+/// The line where the scan of a block file has no report.
+fn file_scan_line(error: &FileScanError) -> &'static str
+    ensures { result.now ≡ refusal_line (file_error_name error.now) }
+{
+    match error {
+        FileScanError::NoMemory => "error: NoMemory\n",
+        FileScanError::Request(error) => file_request_line(error),
+        FileScanError::BadFile(part) => bad_file_line(*part),
+        FileScanError::Scan(error) => scan_line(error),
+    }
+}
+
+/// The line of a request of a block file that is refused.
+fn file_request_line(error: &FileRequestError) -> &'static str
+    ensures { result.now ≡ refusal_line (file_request_refusal_name error.now) }
+{
+    match error {
+        FileRequestError::NoMemory => "error: NoMemory\n",
+        FileRequestError::InputTooLong => "error: InputTooLong\n",
+        FileRequestError::BadJson => "error: BadJson\n",
+        FileRequestError::BadRequest(place) => file_place_line(*place),
+        FileRequestError::BadHex(FileText::File) => "error: BadHex file\n",
+        FileRequestError::BadHex(FileText::Filter) => "error: BadHex filter\n",
+        FileRequestError::BadHex(FileText::Projection) => "error: BadHex projection\n",
+    }
+}
+
+/// The line of a place of such a request that doesn't hold what it has to.
+fn file_place_line(place: FilePlace) -> &'static str
+    ensures { result.now ≡ refusal_line (file_request_refusal_name (file_requests.BadRequest place)) }
+{
+    match place {
+        FilePlace::Top => "error: BadRequest top\n",
+        FilePlace::File => "error: BadRequest file\n",
+        FilePlace::Filter => "error: BadRequest filter\n",
+        FilePlace::Projection => "error: BadRequest projection\n",
+    }
+}
+
+/// The line of a block file of which this part isn't as it has to be.
+fn bad_file_line(part: FilePart) -> &'static str
+    ensures { result.now ≡ refusal_line (bad_file_name part) }
+{
+    match part {
+        FilePart::Magic => "error: BadFile magic\n",
+        FilePart::Header => "error: BadFile header\n",
+        FilePart::Zones => "error: BadFile zones\n",
+        FilePart::End => "error: BadFile end\n",
+        FilePart::Column => "error: BadFile column\n",
     }
 }
 
@@ -224,6 +297,19 @@ impl From<ScanError> for Refusal {
         match error {
             ScanError::NoMemory => Refusal::NoMemory,
             error => Refusal::Scan(error),
+        }
+    }
+}
+
+impl From<FileScanError> for Refusal {
+    ghost use Rattle.vx_query.specs.RefusalViews.{file_refusal};
+
+    ghost from_gives = { λ e r. r ≡ file_refusal e };
+
+    fn from(error: FileScanError) -> Refusal {
+        match error {
+            FileScanError::NoMemory => Refusal::NoMemory,
+            error => Refusal::FileScan(error),
         }
     }
 }

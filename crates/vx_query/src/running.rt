@@ -2,7 +2,7 @@
 ghost use Rattle.std.specs.Prelude.{◌≡◌, map, option_map, Some, None, IfOk, IfErr, IsErr};
 ghost use Rattle.std.specs.String.{string_bytes};
 ghost use Rattle.vx_query.specs.Running.{End, Outcome, Writing, IsOutcome, IsRun, IsWriting, end_by, form_of};
-ghost use Rattle.vx_query.specs.Running.{explain_form, file_form, gen_form, scan_form, top_form, status_of, outcome_text, used_by};
+ghost use Rattle.vx_query.specs.Running.{explain_form, file_form, gen_form, scan_file_form, scan_form, top_form, status_of, outcome_text, used_by};
 ghost use Rattle.vx_scan.specs.StoreViews.{store_seen};
 ghost use Rattle.vx_query.specs.EndingViews.{ending_status, ending_text};
 ghost use Rattle.vx_query.specs.RunViews.{statistics_view, top_view};
@@ -11,6 +11,7 @@ ghost use Rattle.vx_query.specs.TextViews.{IsAnsweredBy, answer_status, answer_t
 
 use crate::answers::answer;
 use crate::endings::Ending;
+use crate::file_scans::file_report;
 use crate::files::file_line;
 use crate::forms::{Form, Statistics, Top, form_of};
 use crate::queries::query_bytes;
@@ -38,10 +39,11 @@ const HELP: &str = concat!(
     "vx gen ROWS            prints what the scan of a generated table of so many rows gives, as in: vx gen 200\n",
     "vx top asc KEY K < REQ prints the first K rows by a column (desc: greatest first), as in: vx top desc price 2 < examples/catalog.json\n",
     "vx file < REQUEST      prints the table as a block file, two hexadecimal digits for each byte, as in: vx file < examples/file.json\n",
+    "vx scan file < FILE    prints what scan does of a block file by two expressions, as in: vx scan file < examples/held.json\n",
     "vx --help              prints this text\n",
     "vx --version           prints the version\n",
-    "exit status: 0 written whole, 2 wrong arguments, 3 no request, no hex or too long a table, 4 refused expressions or query,\n",
-    "5 overflow or bad cast, 6 input not read, 7 output not written, 8 no memory\n",
+    "exit status: 0 written whole, 2 wrong arguments, 3 no request, no hex, too long a table or a bad file, 4 refused expressions\n",
+    "or query, 5 overflow or bad cast, 6 input not read, 7 output not written, 8 no memory\n",
 );
 
 const VERSION: &str = "vx 0.1.0\n";
@@ -64,16 +66,20 @@ const VERSION: &str = "vx 0.1.0\n";
 /// with the greatest. Null stands behind all other keys. Blocks that can't hold such a row behind those that were found are skipped too.
 ///
 /// `file` takes the input likewise and writes the request's table, with the statistics that the request gives, as a block file, two hexadecimal digits for
-/// each byte. The request's two byte texts have to be hexadecimal, and aren't looked at further. The exit status is
+/// each byte. The request's two byte texts have to be hexadecimal, and aren't looked at further.
+///
+/// `scan file` takes the input likewise: a JSON object of three texts of hexadecimal digits, a block file, a filter and a projection. It scans the table that
+/// the file holds, reads of it just the columns that the scan asks, and writes the report as `scan` does. The exit status is
 ///
 /// - 0 where the text was written whole;
 /// - 2 where the arguments have none of these forms;
-/// - 3 exactly where the input is no request, the word to be shown is no hexadecimal text, or the table that is asked as a block file is too long for it;
+/// - 3 exactly where the input is no request, the word to be shown is no hexadecimal text, the table that is asked as a block file is too long for it, or
+///   the bytes that are to be scanned are no block file, or have a damaged column that the scan reads up to the end of its first phase that breaks;
 /// - 4 exactly where the request's byte texts spell no two expressions, where the key that is asked is no column of a
-///   plain type, or where the expressions are not strictly typed for the request's table, the filter a boolean; where the
+///   plain type, or where the expressions are not strictly typed for the table, the filter a boolean; where the
 ///   bytes to be shown spell no expression; or where the query names no expression, or one that has no bytes;
 /// - 5 only where a phase of the scan breaks, and by a cause by which the first one that does so breaks, never for other
-///   arguments than `scan`, `scan built` and `top`;
+///   arguments than `scan`, `scan built`, `scan file` and `top`;
 /// - 6 only where the source counted a fault;
 /// - 7 only where the sink did, and then the first bytes of the text or line were written;
 /// - 8 where there was no memory.
@@ -87,7 +93,8 @@ const VERSION: &str = "vx 0.1.0\n";
 /// NullableSelect, UnknownField, DuplicateField and TypeMismatch, each with `filter` or `projection`, and FilterNotBool;
 /// UnknownKey and BadKey; Overflow and BadCast. What is shown is refused with `text`. A query is refused with TooLong, BadToken, TooManyTokens,
 /// BadQuery or BadValue, and NotSerializable where a type deeper than 64 stands in it; a table that is too long for a block file with TooLong. The lines take
-/// no memory.
+/// no memory. A request of `scan file` is refused with InputTooLong, BadJson, BadRequest with its place and BadHex with `file`, `filter` or `projection`; its
+/// file with BadFile and `magic`, `header`, `zones`, `end` or `column`.
 ///
 /// Afterwards `used` holds the store that was scanned where a report or the line of a generated table was made or a phase broke, also where the writing
 /// failed; its reads are those of the scan, up to and with those of the phase that broke, and its zones have the statistics by which
@@ -109,6 +116,7 @@ pub fn run<I: Source, O: Sink>(
         Some(Form::Version) => write(output, VERSION, WRITTEN),
         Some(Form::Explain) => write_answer(output, &explain_input(alloc, input)),
         Some(Form::File) => write_answer(output, &file_input(alloc, input)),
+        Some(Form::ScanFile) => write_answer(output, &scan_file_input(alloc, input)),
         Some(Form::Show(showing, hex)) => write_answer(output, &shown(alloc, showing, hex)),
         Some(Form::Text(query)) => write_answer(output, &query_bytes(alloc, query)),
         Some(Form::Generated(rows)) => write_generated(alloc, rows, output, used),
@@ -177,6 +185,14 @@ fn file_input<I: Source>(alloc: Global, input: &mut I) -> Result<String, Refusal
 {
     let bytes = read_up_to(alloc, MOST_BYTES + 1, input)?;
     file_line(alloc, bytes.as_slice())
+}
+
+/// Takes the input and scans the block file that it asks.
+fn scan_file_input<I: Source>(alloc: Global, input: &mut I) -> Result<String, Refusal>
+    ensures { let source = end_by I.left I.faults in IsAnsweredBy (Some scan_file_form) (source input.old) (source input.new) result }
+{
+    let bytes = read_up_to(alloc, MOST_BYTES + 1, input)?;
+    file_report(alloc, bytes.as_slice())
 }
 
 /// Takes the input and scans what it holds by these statistics.

@@ -6,7 +6,7 @@ pub(crate) const WRITTEN: u8 = 0;
 /// The arguments have no form.
 pub(crate) const MISUSED: u8 = 2;
 
-/// The input is no request, a word no hexadecimal text, or a table too long for a block file.
+/// The input is no request, a word no hexadecimal text, a table too long for a block file, or a block file not as it has to be.
 pub(crate) const NO_REQUEST: u8 = 3;
 
 /// The expressions or the query are refused.

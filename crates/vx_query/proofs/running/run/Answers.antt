@@ -1,6 +1,6 @@
 use Rattle.std.proofs.Common.{◌∙◌, sym, ap, refl, map, option_map, Some, None}
 use Rattle.std.specs.String.{string_bytes}
-use Rattle.vx_query.specs.Running.{end_by, form_of, explain_form, file_form, show_form, text_form, gen_form, scan_form, top_form, misused, helped, versioned}
+use Rattle.vx_query.specs.Running.{end_by, form_of, explain_form, file_form, scan_file_form, show_form, text_form, gen_form, scan_form, top_form, misused, helped, versioned}
 use Rattle.vx_scan.specs.StoreViews.{store_seen}
 use Rattle.vx_query.specs.RunViews.{form_view, showing_view, statistics_view, top_view}
 use Rattle.vx_query.proofs.OutcomeLemmas.{run_of, run_told, run_same, run_answered, run_ended, word_shown, query_answered}
@@ -42,6 +42,15 @@ returns-in-Some-File g c =
     run_answered (form_of (map string_bytes c.args.arguments.now)) (Some file_form) (source c.args.input.now) (source c.file_input.new.input) (sink c.args.output.now)
     (sink c.write_answer-in-Some-File.new.output) c.write_answer-in-Some-File.result c.file_input.result (sym c.form_of.ensures ∙ ap (option_map form_view) (c.in-Some-File.is ∙ ap Some c.in-Some-File.field-0-is))
     c.file_input.ensures c.write_answer-in-Some-File.ensures
+
+pub returns-in-Some-ScanFile : goal.returns-in-Some-ScanFile
+returns-in-Some-ScanFile g c =
+    let source = end_by g.I.Source.left g.I.Source.faults in
+    let sink = end_by g.O.Sink.written g.O.Sink.faults in
+    run_answered (form_of (map string_bytes c.args.arguments.now)) (Some scan_file_form) (source c.args.input.now) (source c.scan_file_input.new.input) (sink c.args.output.now)
+    (sink c.write_answer-in-Some-ScanFile.new.output) c.write_answer-in-Some-ScanFile.result c.scan_file_input.result
+    (sym c.form_of.ensures ∙ ap (option_map form_view) (c.in-Some-ScanFile.is ∙ ap Some c.in-Some-ScanFile.field-0-is))
+    c.scan_file_input.ensures c.write_answer-in-Some-ScanFile.ensures
 
 pub returns-in-Some-Show : goal.returns-in-Some-Show
 returns-in-Some-Show g c =
