@@ -55,15 +55,43 @@ fn opens_or_faults(alloc: Global, source: MemoryRange) -> bool {
 
 /// Each column of each block of a file, in order, or that its read failed; then its reads and its damage.
 fn whole(alloc: Global, mut file: BlockFile<MemoryRange>) -> Mem<String> {
-    let names = names_of(alloc, &file)?;
     let mut text = String::new(alloc);
-    for block in 0..file.zones().lengths().len() as u32 {
-        for name in names.iter() {
-            push_pair(alloc, &mut text, &mut file, block, name)?;
-        }
-    }
-    push_reads(alloc, &mut text, &file)?;
+    push_whole(alloc, &mut text, &mut file)?;
     Ok(text)
+}
+
+/// Adds the same of a file.
+fn push_whole(alloc: Global, text: &mut String, file: &mut BlockFile<MemoryRange>) -> Mem<()> {
+    let names = names_of(alloc, file)?;
+    push_blocks(alloc, text, file, names.as_slice())?;
+    push_reads(alloc, text, file)
+}
+
+/// Adds the columns of these names of each block.
+fn push_blocks(
+    alloc: Global,
+    text: &mut String,
+    file: &mut BlockFile<MemoryRange>,
+    names: &[FieldName],
+) -> Mem<()> {
+    for block in 0..file.zones().lengths().len() as u32 {
+        push_block(alloc, text, file, block, names)?;
+    }
+    Ok(())
+}
+
+/// Adds the columns of these names of a block.
+fn push_block(
+    alloc: Global,
+    text: &mut String,
+    file: &mut BlockFile<MemoryRange>,
+    block: u32,
+    names: &[FieldName],
+) -> Mem<()> {
+    for name in names.iter() {
+        push_pair(alloc, text, file, block, name)?;
+    }
+    Ok(())
 }
 
 /// The names of the columns of a file.
@@ -80,13 +108,22 @@ fn push_pair(
     name: &FieldName,
 ) -> Mem<()> {
     text.push_str(format!(in alloc; "{block} {name}:")?.as_str())?;
-    match read_pair(file, block, name) {
-        Some(Ok(column)) => push_values(alloc, text, &column)?,
-        Some(Err(error)) => text.push_str(error_text(&error))?,
-        None => text.push_str(" no pair")?,
-    }
+    push_answer(alloc, text, &read_pair(file, block, name))?;
     text.push_str(" / ")?;
     Ok(())
+}
+
+/// Adds the values of a column, or why there are none.
+fn push_answer(
+    alloc: Global,
+    text: &mut String,
+    answer: &Option<Result<ColumnRef, StoreError>>,
+) -> Mem<()> {
+    match answer {
+        Some(Ok(column)) => push_values(alloc, text, column),
+        Some(Err(error)) => Ok(text.push_str(error_text(error))?),
+        None => Ok(text.push_str(" no pair")?),
+    }
 }
 
 /// The column of a block and a name, where the file has it.

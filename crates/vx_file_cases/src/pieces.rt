@@ -10,12 +10,17 @@ use vx_file_ranges::{MemoryRange, PieceError, RangeFailed, has_byte_at, read_pie
 /// The answer to the call of a row, and how many faults the source counted.
 pub(crate) fn answer(alloc: Global, row: &Value) -> Result<String, CaseError> {
     let mut source = source_in(alloc, row, number_in(row, "fails"))?;
-    let place = number_in(row, "place");
-    let told = match text_in(row, "call") {
-        "byte" => byte_text(alloc, has_byte_at(&mut source, place as u64))?,
-        _ => piece(alloc, &mut source, place, number_in(row, "count"))?,
-    };
+    let told = told_of(alloc, row, &mut source)?;
     Ok(format!(in alloc; "{told}, faults {}", source.faults())?)
+}
+
+/// What the call of a row tells of a source.
+fn told_of(alloc: Global, row: &Value, source: &mut MemoryRange) -> Mem<String> {
+    let place = number_in(row, "place");
+    match text_in(row, "call") {
+        "byte" => byte_text(alloc, has_byte_at(source, place as u64)),
+        _ => piece(alloc, source, place, number_in(row, "count")),
+    }
 }
 
 /// A piece of a source.

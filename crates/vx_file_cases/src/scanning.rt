@@ -34,14 +34,34 @@ fn scanned(alloc: Global, row: &Value, fails: u32) -> Result<String, CaseError> 
 /// Whether a scan ends as it is wanted or by a read or a store fault without damage, where each of so many calls fails in turn.
 fn scan_failing(alloc: Global, row: &Value) -> Result<String, CaseError> {
     let whole = scanned(alloc, row, 0)?;
+    match first_other_end(alloc, row, whole.as_str())? {
+        Some(other) => Ok(other),
+        None => Ok(whole),
+    }
+}
+
+/// The first other end, and the call that fails then, where there is one.
+fn first_other_end(alloc: Global, row: &Value, whole: &str) -> Result<Option<String>, CaseError> {
     for before in 0..number_in(row, "calls") {
-        let call = before + 1;
-        let found = scanned(alloc, row, call)?;
-        if !is_end(found.as_str(), whole.as_str()) {
-            return Ok(format!(in alloc; "{found} where call {call} fails")?);
+        if let Some(other) = other_end(alloc, row, before + 1, whole)? {
+            return Ok(Some(other));
         }
     }
-    Ok(whole)
+    Ok(None)
+}
+
+/// The end where the call of a number fails, unless it may be so.
+fn other_end(
+    alloc: Global,
+    row: &Value,
+    call: u32,
+    whole: &str,
+) -> Result<Option<String>, CaseError> {
+    let found = scanned(alloc, row, call)?;
+    if is_end(found.as_str(), whole) {
+        return Ok(None);
+    }
+    Ok(Some(format!(in alloc; "{found} where call {call} fails")?))
 }
 
 /// Whether a scan one of whose calls fails may end so, where it ends otherwise as is told.
