@@ -78,7 +78,8 @@ fn numbered_name(alloc: Global, start: &str, number: usize) -> Mem<FieldName> {
 fn numbered(alloc: Global, start: &str, dtypes: Vec<DType>) -> Mem<StructFields> {
     let mut names = Vec::new(alloc);
     for i in 0..dtypes.len() {
-        names.push(numbered_name(alloc, start, i)?)?;
+        let text = format!(in alloc; "{start}{i}")?;
+        names.push(FieldName::new(alloc, text.as_str())?)?;
     }
     StructFields::new(alloc, FieldNames::new(alloc, names)?, dtypes)
 }
