@@ -7,8 +7,5 @@ bit-requires c = (place_within _ _ _ c.parts.ensures.texts c.args.i c.parts.ensu
 pub returns-then-not-bit : goal.returns-then-not-bit
 returns-then-not-bit c = null_there _ _ _ c.parts.ensures.texts c.args.i _ c.requires c.bit.ensures c.if-not-bit.true
 
-pub text_at-requires : goal.text_at-requires
-text_at-requires c = (place_within _ _ _ c.parts.ensures.texts c.args.i c.parts.ensures.tidy c.requires).1
-
 pub returns : goal.returns
 returns c = text_there _ _ _ c.parts.ensures.texts c.args.i _ _ c.requires c.bit.ensures c.if-not-bit.false c.text_at.ensures
