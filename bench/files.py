@@ -7,7 +7,7 @@ The file has 1,048,576 rows in 256 blocks and 64 columns of i64. The filter is o
 the projection is of two others. It prints the bytes that the system counted for the process beside those of the header and of the ranges that the log
 names, the milliseconds of opening and of scanning (the least of three runs), and the peak memory; and first the peak memory for the least file. It ends
 where a range was read that wasn't asked, or more bytes than the ranges that were asked, the header and 64 KiB have, or where 1 block in 100 takes more
-than 16 MiB of memory.
+than 16 MiB of memory. Last it scans the generated table of 200,000 rows as a file, whose answer and reads are worked out from its rule.
 """
 import os
 import subprocess
@@ -16,7 +16,7 @@ import tempfile
 from array import array
 
 import tables  # noqa: F401: brings wire and block_files into reach
-from block_files import MARK, counted
+from block_files import MARK, block_file, counted
 from wire import TRUE, binary, item, lit, number, pack, text, type_bytes, value_bytes
 
 HERE = os.path.dirname(os.path.dirname(os.path.abspath(__file__)))
@@ -107,6 +107,32 @@ def scan(path, front, kept):
     return times["scan"] / len(asked)
 
 
+def scan_generated(folder):
+    """Scans the generated table as a file by its two expressions, and prints what was read."""
+    path, rows = os.path.join(folder, "generated.blocks"), 200_000
+    blocks = [range(start, min(start + 64, rows)) for start in range(0, rows, 64)]
+    numbers_of = [[None if i % 10 == 9 else (37 * i + 11) % 100 for i in ids] for ids in blocks]
+    known = [[v for v in numbers if v is not None] for numbers in numbers_of]
+    bounds = [("id", "min", [ids[0] for ids in blocks]), ("id", "max", [ids[-1] for ids in blocks])]
+    bounds += [("v", "min", [min(numbers) for numbers in known]), ("v", "max", [max(numbers) for numbers in known])]
+    request = {
+        "columns": [{"name": "id", "type": "i64"}, {"name": "v", "type": "i32?"}],
+        "blocks": [{"rows": len(ids), "values": [list(ids), numbers]} for ids, numbers in zip(blocks, numbers_of)],
+        "stats": [{"path": [name], "stat": kind, "values": values} for name, kind, values in bounds],
+    }
+    with open(path, "wb") as out:
+        out.write(block_file(request))
+    filter_bytes = binary(binary(item("id"), ">=", lit("i64", rows // 2)), "and", binary(item("v"), "<", lit("i32", 50)))
+    told = run(path, filter_bytes, item("id"))
+    kept = [number for number, (ids, numbers) in enumerate(zip(blocks, known)) if ids[-1] >= rows // 2 and min(numbers) < 50]
+    found = sum(1 for ids, numbers in zip(blocks, numbers_of) for i, v in zip(ids, numbers) if i >= rows // 2 and v is not None and v < 50)
+    asked = ["%d %s" % (number, name) for number in kept for name in ("id", "v")]
+    if (told["read"], told["rows"], told["skipped"]) != (asked, found, len(blocks) - len(kept)):
+        sys.exit("the generated table has another answer: %d rows, %d blocks skipped, %d reads" % (told["rows"], told["skipped"], len(told["read"])))
+    print("the generated table of %d rows, a file of %d bytes: %d rows, %d of %d blocks skipped, %d ranges read" % (
+        rows, os.path.getsize(path), found, len(blocks) - len(kept), len(blocks), len(asked)), flush=True)
+
+
 def main():
     if not os.path.exists(PROGRAM):
         sys.exit("the program isn't built: cd crates/vx_file_bench && rt run")
@@ -120,6 +146,7 @@ def main():
         print("%d bytes in %d blocks of %d rows and %d columns" % (os.path.getsize(path), BLOCKS, ROWS, COLUMNS), flush=True)
         each = [scan(path, front, kept) for kept in (BLOCKS // 100, BLOCKS // 10, BLOCKS)]
         print("milliseconds a range: %s" % ", ".join("%.3f" % time for time in each))
+        scan_generated(folder)
 
 
 if __name__ == "__main__":
