@@ -1,0 +1,9 @@
+pub mod Steps
+pub mod Common
+pub mod Typed
+pub mod TypedForms
+pub mod TypedMembers
+pub mod Numbers
+pub mod Means
+pub mod MeantForms
+pub mod MeantMembers
