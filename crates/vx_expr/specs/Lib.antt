@@ -1,5 +1,6 @@
 pub mod Trees
 pub mod Operators
+pub mod UnaryOperators
 pub mod Conjuncts
 pub mod Heights
 pub mod Packed

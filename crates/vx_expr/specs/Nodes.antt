@@ -16,18 +16,28 @@ use Rattle.vx_expr.specs.declared.exprs.binary.BinaryExpr.{BinaryExpr}
 use Rattle.vx_expr.specs.declared.exprs.cast.CastExpr.{CastExpr}
 use Rattle.vx_expr.specs.declared.exprs.dynamic.DynamicComparisonExpr.{DynamicComparisonExpr}
 use Rattle.vx_expr.specs.declared.exprs.get_item.GetItemExpr.{GetItemExpr}
-use Rattle.vx_expr.specs.declared.exprs.is_null.IsNullExpr.{IsNullExpr}
 use Rattle.vx_expr.specs.declared.exprs.like.LikeExpr.{LikeExpr}
 use Rattle.vx_expr.specs.declared.exprs.list_contains.ListContainsExpr.{ListContainsExpr}
 use Rattle.vx_expr.specs.declared.exprs.literal.LiteralExpr.{LiteralExpr}
 use Rattle.vx_expr.specs.declared.exprs.merge.MergeExpr.{MergeExpr}
-use Rattle.vx_expr.specs.declared.exprs.not.NotExpr.{NotExpr}
 use Rattle.vx_expr.specs.declared.exprs.root.RootExpr.{RootExpr}
 use Rattle.vx_expr.specs.declared.exprs.select.SelectExpr.{SelectExpr}
-use Rattle.vx_expr.specs.Trees.{Tree, root, literal, get_item, binary, not_of, is_null_of, like}
+use Rattle.vx_expr.specs.declared.exprs.unary.Negation.{Negation}
+use Rattle.vx_expr.specs.declared.exprs.unary.NullTest.{NullTest}
+use Rattle.vx_expr.specs.declared.exprs.unary.UnaryExpr.{UnaryExpr}
+use Rattle.vx_expr.specs.Trees.{Tree, root, literal, get_item, binary, like}
 use Rattle.vx_expr.specs.Trees.{between, cast, list_contains, merge, select, dynamic, trees_of}
 use Rattle.vx_expr.specs.Operators.{range_as_binary}
 use Rattle.vx_expr.specs.Packed.{pack_tree}
+use Rattle.vx_expr.specs.UnaryOperators.{Unary, negation, null_test, operation}
+
+-- an operator on one operand: the operand
+abbrev pub unary_child : {O : Type 0} → UnaryExpr O Tree → Tree
+unary_child x = x.child
+
+-- the expression of this operator on it
+abbrev pub unary_tree : {O : Type 0} → Unary → UnaryExpr O Tree → Tree
+unary_tree operator x = operation operator (unary_child x)
 
 -- a range: the value, its bounds, and whether each is strict
 abbrev pub between_value : BetweenExpr → Tree
@@ -102,11 +112,11 @@ abbrev pub item_tree : GetItemExpr → Tree
 item_tree x = get_item (item_field x) (item_child x)
 
 -- a test for null: the value
-abbrev pub is_null_child : IsNullExpr → Tree
-is_null_child x = x.child
+abbrev pub is_null_child : UnaryExpr NullTest Tree → Tree
+is_null_child x = unary_child x
 
-abbrev pub is_null_tree : IsNullExpr → Tree
-is_null_tree x = is_null_of (is_null_child x)
+abbrev pub is_null_tree : UnaryExpr NullTest Tree → Tree
+is_null_tree x = unary_tree null_test x
 
 -- a match: the text, the pattern, whether it is negated, and whether it disregards case
 abbrev pub like_child : LikeExpr → Tree
@@ -152,11 +162,11 @@ abbrev pub merge_tree : MergeExpr → Tree
 merge_tree x = merge (trees_of (merge_values x)) (merge_nullability x)
 
 -- a negation: the operand
-abbrev pub not_child : NotExpr → Tree
-not_child x = x.child
+abbrev pub not_child : UnaryExpr Negation Tree → Tree
+not_child x = unary_child x
 
-abbrev pub not_tree : NotExpr → Tree
-not_tree x = not_of (not_child x)
+abbrev pub not_tree : UnaryExpr Negation Tree → Tree
+not_tree x = unary_tree negation x
 
 -- the row
 abbrev pub root_tree : RootExpr → Tree
