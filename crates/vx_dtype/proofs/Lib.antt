@@ -10,3 +10,4 @@ pub mod ProjectionLemmas
 pub mod TextLemmas
 pub mod FieldsFrom
 pub mod DistinctLemmas
+pub mod PlaceLemmas

@@ -4,6 +4,7 @@
 mod comparisons;
 mod integers;
 mod memory;
+mod name_lists;
 mod names;
 mod nulls;
 mod paths;

@@ -15,6 +15,7 @@ ghost use Rattle.std.specs.Fmt.{WritesOnOk};
 ghost use Rattle.vx_dtype.specs.Texts.{separator_at, quoted_text, quoted_names, names_text};
 
 use crate::memory::Mem;
+use crate::name_lists::NameList;
 use crate::writing::{separator, write_quoted};
 use std::alloc::{AllocError, Global};
 use std::cmp::Ordering;
@@ -99,7 +100,7 @@ impl FieldName {
         self.text.as_str()
     }
 
-    /// Whether the name is one of these.
+    /// Whether the name is one of these, which it is compared with one by one.
     pub fn is_among(&self, names: &[FieldName]) -> bool
         ensures { result ≡ has_name self.now names.now }
     {
@@ -135,7 +136,7 @@ impl Clone for FieldName {
 /// The names of fields in order, shared by their clones. They are seen as their list.
 #[derive(Debug, Drop)]
 pub struct FieldNames {
-    names: Rc<Vec<FieldName>>,
+    names: Rc<NameList>,
 }
 
 impl Model for FieldNames {
@@ -143,16 +144,17 @@ impl Model for FieldNames {
 
     ghost Value = { List (List ℕ) };
 
-    ghost view = { λ names. names.names.value.items };
+    ghost view = { λ names. names.names.value };
 }
 
 impl FieldNames {
-    /// These names, in their order.
+    /// These names, in their order. Where they are more than a few the place of each is noted, so that `position` and `contains` take one
+    /// look-up.
     pub fn new(alloc: Global, names: Vec<FieldName>) -> Mem<FieldNames>
         ensures { IfOk result (λ made. made ≡ names.items) }
     {
         Ok(FieldNames {
-            names: Rc::new(alloc, names)?,
+            names: Rc::new(alloc, NameList::new(alloc, names)?)?,
         })
     }
 
@@ -160,24 +162,29 @@ impl FieldNames {
     pub fn len(&self) -> usize
         ensures { result ≡ length self.now }
     {
-        self.names.len()
+        self.as_slice().len()
     }
 
     /// The name at this place, counted from 0.
     pub fn get(&self, i: usize) -> Option<&FieldName>
         ensures { option_copied result ≡ slice_get self.now i }
     {
-        self.names.as_slice().get(i)
+        self.as_slice().get(i)
     }
 
     /// The place of the first name that equals this one.
     pub fn position(&self, name: &FieldName) -> Option<usize>
         ensures { result ≡ position (bytes_eq name.now) self.now }
     {
-        self.names
-            .as_slice()
-            .iter()
-            .position(|other| name.as_str() == other.as_str())
+        self.names.position(name)
+    }
+
+    /// Whether the name is one of these: in one look-up, where `is_among` compares it with each.
+    #[tactic(auto, using(crate::proofs::PlaceLemmas::position_known))]
+    pub fn contains(&self, name: &FieldName) -> bool
+        ensures { result ≡ has_name name.now self.now }
+    {
+        self.position(name).is_some()
     }
 
     /// The names as a slice.

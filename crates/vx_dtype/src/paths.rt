@@ -12,6 +12,7 @@ ghost use Rattle.vx_dtype.specs.PathViews.{part_name};
 
 use crate::memory::Mem;
 use crate::names::FieldName;
+use indexmap::IndexSet;
 use std::alloc::{AllocError, Global};
 use std::hash::{Hash, Hasher};
 use std::marker::Model;
@@ -161,22 +162,18 @@ impl Hash for FieldPath {
     }
 }
 
-/// A set of paths. It is seen as the list of them in order of insertion, in which no path stands twice.
+/// A set of paths, in which a path costs one look-up. It is seen as the list of them in order of insertion, in which no path stands twice.
 #[derive(Debug, Drop)]
 pub struct FieldPathSet {
-    paths: Vec<FieldPath>,
+    paths: IndexSet<FieldPath>,
 }
 
 impl Model for FieldPathSet {
-    ghost use Rattle.std.specs.Prelude.{◌≡◌, true, ℕ, List};
+    ghost use Rattle.std.specs.Prelude.{ℕ, List};
 
     ghost Value = { List (List (List ℕ)) };
 
-    ghost use Rattle.vx_dtype.specs.Paths.{distinct_paths};
-
-    ghost view = { λ set. set.paths.items };
-
-    ghost invariant = { λ set. distinct_paths set.paths.items ≡ true };
+    ghost view = { λ set. set.paths.keys };
 }
 
 impl FieldPathSet {
@@ -185,29 +182,25 @@ impl FieldPathSet {
         ensures { result ≡ [] }
     {
         FieldPathSet {
-            paths: Vec::new(alloc),
+            paths: IndexSet::new(alloc),
         }
     }
 
     /// Puts the path behind the others, and answers whether it is new: the set stays as it was where it isn't, and where there is no memory.
-    #[tactic(auto, using(crate::proofs::PathLemmas::distinct_paths_push))]
     pub fn insert(&mut self, path: FieldPath) -> Mem<bool>
         ensures added { IfOk result (λ added. added ≡ not (has_path path self.old)) }
         ensures ok { OnOk result (self.new ≡ with_path path self.old) }
         ensures err { OnErr result (self.new ≡ self.old) }
     {
-        if self.contains(&path) {
-            return Ok(false);
-        }
-        self.paths.push(path)?;
-        Ok(true)
+        Ok(self.paths.insert(path)?)
     }
 
     /// Whether the path is in the set.
+    #[tactic(auto, using(crate::proofs::PathLemmas::has_path_known))]
     pub fn contains(&self, path: &FieldPath) -> bool
         ensures { result ≡ has_path path.now self.now }
     {
-        self.paths.as_slice().contains(path)
+        self.paths.contains(path)
     }
 
     /// How many paths there are.
@@ -218,6 +211,7 @@ impl FieldPathSet {
     }
 
     /// The paths in order of insertion.
+    #[tactic(auto, using(crate::proofs::PathLemmas::distinct_paths_unique))]
     pub fn as_slice(&self) -> &[FieldPath]
         ensures paths { result.now ≡ self.now }
         ensures distinct { distinct_paths self.now ≡ true }

@@ -28,10 +28,7 @@ pub enum FieldSelection {
 fn has_all(names: &FieldNames, asked: &FieldNames) -> bool
     ensures { result ≡ all_named asked.now names.now }
 {
-    asked
-        .as_slice()
-        .iter()
-        .all(|name| name.is_among(names.as_slice()))
+    asked.as_slice().iter().all(|name| names.contains(name))
 }
 
 impl FieldSelection {
@@ -106,7 +103,7 @@ fn names_without(
 {
     let mut left = Vec::new(alloc);
     for name in names.as_slice() {
-        if !name.is_among(excluded.as_slice()) {
+        if !excluded.contains(name) {
             left.push(name.clone()?)?;
         }
     }

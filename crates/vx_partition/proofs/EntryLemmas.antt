@@ -1,11 +1,13 @@
 -- The entries of a map of annotations: one that is looked up, and one that gets annotations; and sets that are joined.
-use Rattle.std.proofs.Common.{◌≡◌, ℕ, ◌+◌, ◌<◌, ◌≤◌, nat_eq, Bool, true, false, cond, List, [], ◌∷◌, ◌++◌, length, map, drop, Option, Some, option_map, refl, ap, sym, subst, ◌∙◌, true≢false}
+use Rattle.std.proofs.Common.{◌≡◌, ℕ, ◌+◌, ◌<◌, ◌≤◌, nat_eq, Bool, true, false, ◌||◌, cond, List, [], ◌∷◌, ◌++◌, length, map, drop, take, Option, Some, option_map, refl, ap, sym, subst, ◌∙◌, true≢false}
 use Rattle.std.specs.Prelude.{unwrap_or, Decides}
 use Rattle.std.specs.Cmp.{unsigned_Decides}
+use Rattle.std.specs.HashSet.{HashSet, contains}
 use Rattle.std.specs.List.{list_any, slice_get, flat_map}
 use Rattle.std.specs.Map.{lookup}
 use Rattle.std.proofs.Math.ListN.{get_or}
-use Rattle.std.proofs.lemmas.List.{drop_all, drop_more}
+use Rattle.std.proofs.lemmas.List.{drop_all, drop_more, take_more}
+use Rattle.std.proofs.lemmas.List.Folds.{list_any-append}
 use Rattle.std.proofs.lemmas.Option.{same_Some}
 use Rattle.indexmap.specs.IndexMap.{insert_entry}
 use Rattle.vx_expr.specs.Children.{one_of}
@@ -13,7 +15,7 @@ use Rattle.vx_expr.specs.Equal.{tree_eq}
 use Rattle.vx_expr.specs.EqualLaws.{tree_decides}
 use Rattle.vx_expr.specs.Trees.{Tree}
 use Rattle.vx_passes.specs.Annotating.{Entry, entry_of, joined_sets, with_annotations}
-use Rattle.vx_partition.specs.Entries.{held_at, AreAtNumbers, IsSound, Extends, numbered_entries}
+use Rattle.vx_partition.specs.Entries.{held_at, HasAnnotations, AreAtNumbers, IsSound, Extends, numbered_entries}
 use Rattle.vx_partition.specs.Numbering.{known, AreNumbersOf, IsNumbering, KeepsNumbers, Grows}
 use Rattle.vx_partition.specs.declared.numbered.Annotated.{Annotated}
 use Rattle.vx_partition.specs.declared.numbered.NumberedAnnotations.{NumberedAnnotations}
@@ -187,3 +189,29 @@ module _ {A : Type 0} (same : A → A → Bool) (all more set : List A) (i : ℕ
   -- past the last one the sets are joined
   pub joined : length more ≤ i → set ≡ all
   joined past = sym (so_far ∙ ap (joined_sets same set) (drop_all i more past))
+
+-- ---- sets of annotations by their hash
+
+behind : (a b : Bool) → cond a true b ≡ (b || (a || false))
+behind true true = refl
+behind true false = refl
+behind false true = refl
+behind false false = refl
+
+module _ {A S : Type 0} (same : A → A → Bool) (flips : (a b : A) → same a b ≡ same b a) where
+  -- with one more that goes last a set has just the annotations and this one
+  pub one_more_annotation : (was now : HashSet A S) (set set_with : List A) (y : A) → HasAnnotations same set was
+      → ((a : A) → contains same now a ≡ cond (same y a) true (contains same was a)) → set_with ≡ set ++ y ∷ [] → HasAnnotations same set_with now
+  one_more_annotation was now set set_with y just put is a =
+      put a ∙ ap (λ b. cond b true (contains same was a)) (flips y a) ∙ ap (cond (same a y) true) (just a)
+      ∙ behind (same a y) (list_any (same a) set) ∙ sym (list_any-append (same a) set (y ∷ [])) ∙ ap (list_any (same a)) (sym is)
+
+  -- so with those up to a place and the one there a set has those up to the next place
+  pub one_more_at : (was now : HashSet A S) (all : List A) (i : ℕ) (y : A) → i < length all → y ≡ get_or all i y → HasAnnotations same (take i all) was
+      → ((a : A) → contains same now a ≡ cond (same y a) true (contains same was a)) → HasAnnotations same (take (i + 1) all) now
+  one_more_at was now all i y within is just put =
+      one_more_annotation was now (take i all) (take (i + 1) all) y just put (take_more all i y within ∙ ap (λ z. take i all ++ z ∷ []) (sym is))
+
+  -- a set that stays as it was has what it had
+  pub none_more : (was now : HashSet A S) (set : List A) → now.keys ≡ was.keys → HasAnnotations same set was → HasAnnotations same set now
+  none_more was now set is just a = ap (list_any (same a)) is ∙ just a

@@ -1,7 +1,8 @@
 -- For the checker: no public clause cites this.
 -- Entries of annotations under the numbers of their expressions.
-use Rattle.std.specs.Prelude.{◌≡◌, ℕ, nat_eq, List, [], ◌∷◌, map, Some, option_map, unwrap_or}
-use Rattle.std.specs.List.{slice_get}
+use Rattle.std.specs.Prelude.{◌≡◌, ℕ, nat_eq, Bool, List, [], ◌∷◌, map, Some, option_map, unwrap_or}
+use Rattle.std.specs.HashSet.{HashSet, contains}
+use Rattle.std.specs.List.{list_any, slice_get}
 use Rattle.std.specs.Map.{lookup}
 use Rattle.vx_expr.specs.Trees.{Tree}
 use Rattle.vx_passes.specs.Annotating.{Entry}
@@ -16,6 +17,10 @@ numbered_entries m = map (λ e. record { expression = e.1.expr; annotations = e.
 -- what the entry at a number holds; nothing where there is no entry
 abbrev pub held_at : {A : Type 0} → ℕ → List (ℕ × Annotated A) → List A
 held_at n entries = unwrap_or (option_map (λ x. x.annotations.items) (lookup (nat_eq n) entries)) []
+
+-- the set has just these annotations
+abbrev pub HasAnnotations : {A S : Type 0} → (A → A → Bool) → List A → HashSet A S → Type 0
+HasAnnotations {A} same annotations set = (a : A) → contains same set a ≡ list_any (same a) annotations
 
 -- each entry stands at the number of its expression
 abbrev pub AreAtNumbers : {A : Type 0} → List Tree → List (ℕ × Annotated A) → Type 0

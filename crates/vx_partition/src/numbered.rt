@@ -1,8 +1,8 @@
 // The annotations of expressions under the numbers of these.
-ghost use Rattle.std.specs.Prelude.{◌≡◌, [], ◌++◌, Some, OnOk, option_map, unwrap_or};
+ghost use Rattle.std.specs.Prelude.{◌≡◌, [], ◌++◌, Some, IfOk, OnOk, option_map, unwrap_or};
 ghost use Rattle.std.specs.List.{list_any, slice_get};
 ghost use Rattle.vx_passes.specs.Annotating.{joined_sets, with_annotations};
-ghost use Rattle.vx_partition.specs.Entries.{held_at, IsSound, Extends, numbered_entries};
+ghost use Rattle.vx_partition.specs.Entries.{held_at, HasAnnotations, IsSound, Extends, numbered_entries};
 ghost use Rattle.vx_partition.specs.Numbering.{known};
 ghost use Rattle.vx_partition.specs.Views.{has_entry};
 
@@ -10,8 +10,12 @@ use crate::annotation::Annotation;
 use crate::numbers::Numbers;
 use indexmap::IndexMap;
 use std::alloc::Global;
+use std::collections::HashSet;
 use vx_dtype::Mem;
 use vx_expr::ExprRef;
+
+/// How many annotations are few: so many are sooner compared one by one than looked up by their hash.
+const FEW_ANNOTATIONS: usize = 16;
 
 /// An expression and the set of its annotations.
 #[derive(Debug, Drop)]
@@ -75,7 +79,7 @@ impl<A: Annotation> NumberedAnnotations<A> {
     {
         let mut annotations = Vec::new(alloc);
         self.push_held(number, &mut annotations)?;
-        join(&mut annotations, more)?;
+        join(alloc, &mut annotations, more)?;
         let entry = Annotated {
             expr: expr.clone()?,
             annotations,
@@ -102,12 +106,48 @@ pub(crate) fn is_among<A: Annotation>(annotation: &A, held: &[A]) -> bool
     held.iter().any(|other| annotation == other)
 }
 
-/// Puts annotations at the end of a set, but for those that it has.
-fn join<A: Annotation>(set: &mut Vec<A>, more: &[A]) -> Mem<()>
+/// Puts annotations at the end of a set, but for those that it has. Where they are many, those that the set has are looked up by their hash.
+fn join<A: Annotation>(alloc: Global, set: &mut Vec<A>, more: &[A]) -> Mem<()>
+    ensures { OnOk result (set.new.items ≡ joined_sets A.eq set.old.items more.now) }
+{
+    if more.len() <= FEW_ANNOTATIONS {
+        return join_few(set, more);
+    }
+    let known = known_of(alloc, set.as_slice())?;
+    join_unknown(set, known, more)
+}
+
+/// The same, where each is compared with all that the set has.
+fn join_few<A: Annotation>(set: &mut Vec<A>, more: &[A]) -> Mem<()>
     ensures { OnOk result (set.new.items ≡ joined_sets A.eq set.old.items more.now) }
 {
     for annotation in more {
         if is_among(annotation, set.as_slice()) {
+            continue;
+        }
+        set.push(annotation.clone()?)?;
+    }
+    Ok(())
+}
+
+/// Annotations by their hash.
+fn known_of<A: Annotation>(alloc: Global, annotations: &[A]) -> Mem<HashSet<A>>
+    ensures { IfOk result (HasAnnotations A.eq annotations.now) }
+{
+    let mut known = HashSet::new(alloc);
+    for annotation in annotations {
+        known.insert(annotation.clone()?)?;
+    }
+    Ok(known)
+}
+
+/// The same as `join`, where those that the set has are known by their hash.
+fn join_unknown<A: Annotation>(set: &mut Vec<A>, mut known: HashSet<A>, more: &[A]) -> Mem<()>
+    requires { HasAnnotations A.eq set.old.items known }
+    ensures { OnOk result (set.new.items ≡ joined_sets A.eq set.old.items more.now) }
+{
+    for annotation in more {
+        if !known.insert(annotation.clone()?)? {
             continue;
         }
         set.push(annotation.clone()?)?;

@@ -67,9 +67,17 @@ pub(crate) fn columns_among(
 ) -> Mem<FieldNames>
     ensures { IfOk result (λ kept. kept ≡ filter (λ name. has_name name others.now) names.now) }
 {
+    let others = FieldNames::new(alloc, Vec::from_clones(alloc, others)?)?;
+    names_among(alloc, names, &others)
+}
+
+/// The names that stand among others, in their own order, with one look-up for each.
+fn names_among(alloc: Global, names: &FieldNames, others: &FieldNames) -> Mem<FieldNames>
+    ensures { IfOk result (λ kept. kept ≡ filter (λ name. has_name name others.now) names.now) }
+{
     let mut kept = Vec::new(alloc);
     for name in names.as_slice() {
-        if name.is_among(others) {
+        if others.contains(name) {
             kept.push(name.clone()?)?;
         }
     }

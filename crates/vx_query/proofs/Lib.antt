@@ -1,6 +1,7 @@
 mod CellLemmas
 pub mod BlockAgreementLemmas
 mod AnswerLemmas
+mod ReadNames
 mod StatisticsLemmas
 mod AnsweredLemmas
 mod SoundScans

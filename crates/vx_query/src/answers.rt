@@ -1,10 +1,12 @@
 // The answer to an input: how the scan that it holds ends.
 ghost use Rattle.std.specs.Prelude.{◌≡◌, ◌≢◌, true, false, [], length, map, None, IfOk, IfErr, IsErrOf};
+ghost use Rattle.std.specs.HashSet.{contains};
 ghost use Rattle.std.specs.List.{filter, list_any};
 ghost use Rattle.std.specs.Str.{bytes_eq};
 ghost use Rattle.std.specs.String.{string_bytes};
 ghost use Rattle.vx_dtype.specs.RawViews.{raw_view};
 ghost use Rattle.vx_dtype.specs.TypeViews.{type_view};
+ghost use Rattle.vx_dtype.specs.Types.{Bytes};
 ghost use Rattle.vx_column.specs.Columns.{values_fit, seen_rows, raw_rows, raws_fit};
 ghost use Rattle.vx_display.specs.ValueTexts.{value_text};
 ghost use Rattle.vx_scan.specs.ErrorKinds.{kind_of};
@@ -26,6 +28,7 @@ use crate::forms::Statistics;
 use crate::refusals::Refusal;
 use crate::reports::report_text;
 use std::alloc::Global;
+use std::collections::HashSet;
 use vx_column::ColumnRef;
 use vx_display::row_text;
 use vx_dtype::{DType, FieldName, Mem, NoMemory, ScalarValue};
@@ -191,25 +194,32 @@ fn row_texts(alloc: Global, dtype: &DType, rows: &[ScalarValue]) -> Mem<Vec<Stri
     Ok(texts)
 }
 
-/// Whether a column was read.
-fn was_read(name: &FieldName, reads: &[ReadEntry]) -> bool
-    ensures { result ≡ list_any (λ r. bytes_eq name.now r.1) (map entry_view reads.now) }
-{
-    for read in reads {
-        if name == &read.name {
-            return true;
-        }
-    }
-    false
-}
-
 /// The names of the columns that were read at least once, in their order.
 fn read_names(alloc: Global, names: &[FieldName], reads: &[ReadEntry]) -> Mem<Vec<FieldName>>
     ensures { IfOk result (λ found. found.items ≡ filter (λ c. list_any (λ r. bytes_eq c r.1) (map entry_view reads.now)) names.now) }
 {
+    let read = names_read(alloc, reads)?;
+    names_among(alloc, names, &read)
+}
+
+/// The names of the columns of reads, as a set.
+fn names_read(alloc: Global, reads: &[ReadEntry]) -> Mem<HashSet<FieldName>>
+    ensures { IfOk result (λ read. (c : Bytes) → contains bytes_eq read c ≡ list_any (λ r. bytes_eq c r.1) (map entry_view reads.now)) }
+{
+    let mut read = HashSet::new(alloc);
+    for entry in reads {
+        read.insert(entry.name.clone()?)?;
+    }
+    Ok(read)
+}
+
+/// The names that a set has, in their order.
+fn names_among(alloc: Global, names: &[FieldName], set: &HashSet<FieldName>) -> Mem<Vec<FieldName>>
+    ensures { IfOk result (λ found. found.items ≡ filter (contains bytes_eq set.now) names.now) }
+{
     let mut found = Vec::new(alloc);
     for name in names {
-        if !was_read(name, reads) {
+        if !set.contains(name) {
             continue;
         }
         found.push(name.clone()?)?;

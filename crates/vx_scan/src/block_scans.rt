@@ -92,7 +92,7 @@ fn project_block<S: ColumnStore>(
         store,
         block,
         scan.projection.columns().as_slice(),
-        scan.filter.columns().as_slice(),
+        scan.filter.columns(),
         filtered.columns.as_slice(),
     )?;
     let kept = kept_columns(alloc, columns.as_slice(), &filtered.keep)?;

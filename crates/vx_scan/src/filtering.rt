@@ -21,7 +21,7 @@ use crate::reading::read_columns;
 use crate::stores::ColumnStore;
 use std::alloc::Global;
 use vx_column::ColumnRef;
-use vx_dtype::{FieldName, Scalar};
+use vx_dtype::{FieldNames, Scalar};
 use vx_eval::EvalError;
 use vx_prepare::PreparedExpr;
 
@@ -53,16 +53,9 @@ pub(crate) fn filter_block<S: ColumnStore>(
         IfOk result (λ filtered. IsFiltered slots.now f scan.now.filter.columns block (S.seen store.old) filtered) }
 {
     let names = scan.filter.columns().as_slice();
-    let none: Vec<FieldName> = Vec::new(alloc);
+    let none = FieldNames::new(alloc, Vec::new(alloc))?;
     let unread: Vec<ColumnRef> = Vec::new(alloc);
-    let columns = read_columns(
-        alloc,
-        store,
-        block,
-        names,
-        none.as_slice(),
-        unread.as_slice(),
-    )?;
+    let columns = read_columns(alloc, store, block, names, &none, unread.as_slice())?;
     let keep = evaluated(alloc, &scan.filter, columns.as_slice(), len, slots)?;
     let count = keep.true_count();
     Ok(FilteredBlock {

@@ -1,7 +1,6 @@
 // The columns of a block, read in order.
 ghost use Rattle.std.specs.Prelude.{◌≡◌, ◌<◌, true, [], ◌∷◌, length, Some, option_copied, IfOk};
-ghost use Rattle.std.specs.List.{list_all, slice_get, position};
-ghost use Rattle.std.specs.Str.{bytes_eq};
+ghost use Rattle.std.specs.List.{list_all, slice_get};
 ghost use Rattle.vx_dtype.specs.TypeRules.{has_name, field_names};
 ghost use Rattle.vx_semantics.specs.Scans.{reads_in};
 ghost use Rattle.vx_scan.specs.Stores.{IsSameStore, IsColumnOf};
@@ -11,7 +10,7 @@ use crate::errors::{ScanError, StoreError};
 use crate::stores::ColumnStore;
 use std::alloc::Global;
 use vx_column::ColumnRef;
-use vx_dtype::FieldName;
+use vx_dtype::{FieldName, FieldNames};
 use vx_zones::ZoneMap;
 
 /// How many rows a block has.
@@ -28,7 +27,7 @@ pub(crate) fn read_columns<S: ColumnStore>(
     store: &mut S,
     block: u32,
     names: &[FieldName],
-    known_names: &[FieldName],
+    known_names: &FieldNames,
     known: &[ColumnRef],
 ) -> Result<Vec<ColumnRef>, ScanError>
     requires block { block < length (S.seen store.old).zones.lengths }
@@ -52,7 +51,7 @@ fn read_unless_known<S: ColumnStore>(
     store: &mut S,
     block: u32,
     name: &FieldName,
-    known_names: &[FieldName],
+    known_names: &FieldNames,
     known: &[ColumnRef],
 ) -> Result<ColumnRef, ScanError>
     requires block { block < length (S.seen store.old).zones.lengths }
@@ -63,19 +62,10 @@ fn read_unless_known<S: ColumnStore>(
     ensures column { AreColumnsOf (S.seen store.old) block known_names.now known.now →
         IfOk result (λ column. IsColumnOf (S.seen store.old) block name.now column) }
 {
-    match place_among(name, known_names) {
+    match known_names.position(name) {
         Some(place) => Ok(known[place].clone()?),
         None => read_column(store, block, name),
     }
-}
-
-/// The place of the first of these names that equals this one.
-fn place_among(name: &FieldName, names: &[FieldName]) -> Option<usize>
-    ensures { result ≡ position (bytes_eq name.now) names.now }
-{
-    names
-        .iter()
-        .position(|other| name.as_str() == other.as_str())
 }
 
 /// The column of a block of this name, read from the store.

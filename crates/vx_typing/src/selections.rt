@@ -16,10 +16,7 @@ fn all_known(names: &FieldNames, fields: &StructFields) -> bool
     ensures { result ≡ all_known names.now fields.now }
 {
     let known = fields.names();
-    names
-        .as_slice()
-        .iter()
-        .all(|name| name.is_among(known.as_slice()))
+    names.as_slice().iter().all(|name| known.contains(name))
 }
 
 /// The fields with these names, in the order of the names.
@@ -38,7 +35,7 @@ fn included_fields(
 }
 
 /// The fields whose names are not among these.
-fn fields_without(alloc: Global, fields: &StructFields, names: &[FieldName]) -> Mem<StructFields>
+fn fields_without(alloc: Global, fields: &StructFields, names: &FieldNames) -> Mem<StructFields>
     ensures { IfOk result (λ kept. kept ≡ fields_without names.now fields.now) }
 {
     let mut kept = Vec::new(alloc);
@@ -50,7 +47,7 @@ fn fields_without(alloc: Global, fields: &StructFields, names: &[FieldName]) -> 
         let Some(dtype) = fields.field_by_index(i) else {
             unreachable!();
         };
-        if name.is_among(names) {
+        if names.contains(name) {
             continue;
         }
         kept.push(name.clone()?)?;
@@ -72,7 +69,7 @@ fn selected_fields(
 {
     match selection {
         FieldSelection::Include(names) => included_fields(alloc, fields, names.as_slice()),
-        FieldSelection::Exclude(names) => Ok(fields_without(alloc, fields, names.as_slice())?),
+        FieldSelection::Exclude(names) => Ok(fields_without(alloc, fields, names)?),
     }
 }
 

@@ -11,12 +11,12 @@ unreachable-requires-in_default-field_by_index c =
     let within : c.loop-i.i < length (field_names c.args.fields.now) = search rules in
     has_type_at c.args.fields.now c.loop-i.i within c.in_default-field_by_index.ensures
 
-pub loop-i-preserved-then-is_among : goal.loop-i-preserved-then-is_among
-loop-i-preserved-then-is_among c =
+pub loop-i-preserved-then-contains : goal.loop-i-preserved-then-contains
+loop-i-preserved-then-contains c =
     let l = c.loop-i in (
       l.invariant.0,
       l.invariant.1 ∙ ap (joined (zipped l.kept.items (map type_view l.types.items)))
-          (left_out c.args.names.now c.args.fields.now l.i c.in-Some.name.now (type_view c.in-Some-field_by_index.dtype.now) (sym c.in-Some.ensures) (sym c.in-Some-field_by_index.ensures) (sym c.is_among.ensures ∙ c.if-is_among.true)),
+          (left_out c.args.names.now c.args.fields.now l.i c.in-Some.name.now (type_view c.in-Some-field_by_index.dtype.now) (sym c.in-Some.ensures) (sym c.in-Some-field_by_index.ensures) (sym c.contains.ensures ∙ c.if-contains.true)),
     )
 
 pub loop-i-preserved : goal.loop-i-preserved
@@ -32,7 +32,7 @@ loop-i-preserved c =
     ap length pushed ∙ length-append l.kept.items (f ∷ []) ∙ ap (λ n. n + 1) l.invariant.0 ∙ sym (length-append l.types.items (dtype ∷ [])) ∙ ap length (sym added) in (
       lengths,
       taken_in type_view c.args.names.now c.args.fields.now l.i f l.kept.items l.types.items l.invariant.1 dtype kept types l.invariant.0 pushed added
-          (sym c.in-Some.ensures) (sym c.in-Some-field_by_index.ensures ∙ ap Some (sym c.in_ok-clone-2.ensures.cases)) (sym c.is_among.ensures ∙ c.if-is_among.false),
+          (sym c.in-Some.ensures) (sym c.in-Some-field_by_index.ensures ∙ ap Some (sym c.in_ok-clone-2.ensures.cases)) (sym c.contains.ensures ∙ c.if-contains.false),
     )
 
 pub returns : goal.returns

@@ -1,6 +1,6 @@
 use Rattle.std.proofs.Common.{◌≡◌, drop}
 use Rattle.vx_passes.specs.Annotating.{joined_sets}
-use Rattle.vx_partition.proofs.numbered.join.Given as goal
+use Rattle.vx_partition.proofs.numbered.join_few.Given as goal
 
 -- the set so far, joined with what is left
 abbrev pub invariant-loop-annotation : goal.invariant-loop-annotation

@@ -1,0 +1,23 @@
+use Rattle.std.proofs.Common.{◌≡◌, List, ℕ, subst, ◌+◌, ◌-◌, ◌<◌, length, sym, arith}
+use Rattle.std.proofs.Math.ListN.{get_or}
+use Rattle.std.specs.HashMap.{get}
+use Rattle.std.specs.Str.{bytes_eq}
+use Rattle.vx_dtype.proofs.PlaceLemmas.{one_more_noted, all_noted}
+use Rattle.vx_dtype.proofs.name_lists.first_places.Goals as goal
+
+pub loop-left-preserved : goal.loop-left-preserved
+loop-left-preserved c =
+    let l = c.loop-left in
+    let names = c.args.names.now in
+    let g = c.in_ok-clone.field-0 in
+    let i = l.left - 1 in
+    let next : i + 1 ≡ l.left = omega (arith, c.loop-left-test.true) in
+    let within : i < length names = omega (arith, c.loop-left-test.true, l.invariant.0) in
+    let is : g ≡ get_or names i g = subst (λ (h : List ℕ). h ≡ get_or names i h) (sym c.in_ok-clone.ensures.cases) c.index-names-left.is in (
+      omega (arith, l.invariant.0),
+      λ f. one_more_noted names i l.left g f (get bytes_eq l.places f) (get bytes_eq c.insert.new.self f) next within is (l.invariant.1 f) (c.in_ok-insert.ensures.updates.0 f),
+    )
+
+pub returns : goal.returns
+returns c = λ f.
+    all_noted c.args.names.now c.loop-left.left f (get bytes_eq c.loop-left.places f) (omega (arith, c.loop-left-test.false)) (c.loop-left.invariant.1 f)

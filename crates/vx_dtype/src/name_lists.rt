@@ -1,0 +1,94 @@
+// Names in order, with the first place of each where they are many: so that a name costs one look-up, however many there are.
+ghost use Rattle.std.specs.Prelude.{◌≡◌, position, IfOk};
+ghost use Rattle.std.specs.HashMap.{get};
+ghost use Rattle.std.specs.Str.{bytes_eq};
+ghost use Rattle.vx_dtype.specs.Types.{Bytes};
+
+use crate::memory::Mem;
+use crate::names::FieldName;
+use std::alloc::Global;
+use std::collections::HashMap;
+use std::fmt;
+use std::marker::Model;
+
+/// How many names are few: among these a name is found sooner by comparing it with each than by its hash.
+const FEW_NAMES: usize = 16;
+
+/// Names in order, and the first place of each where they aren't few. They are seen as their list.
+#[derive(Drop)]
+pub(crate) struct NameList {
+    names: Vec<FieldName>,
+    places: Option<HashMap<FieldName, usize>>,
+}
+
+impl Model for NameList {
+    ghost use Rattle.std.specs.Prelude.{◌≡◌, ℕ, List, position, IfSome};
+    ghost use Rattle.std.specs.HashMap.{get};
+    ghost use Rattle.std.specs.Str.{bytes_eq};
+
+    ghost Value = { List (List ℕ) };
+
+    ghost view = { λ list. list.names.items };
+
+    ghost invariant = { λ list. IfSome list.places (λ places.
+        (name : List ℕ) → get bytes_eq places name ≡ position (bytes_eq name) list.names.items) };
+}
+
+impl NameList {
+    /// These names, in their order.
+    pub(crate) fn new(alloc: Global, names: Vec<FieldName>) -> Mem<NameList>
+        ensures { IfOk result (λ list. list ≡ names.items) }
+    {
+        if names.len() <= FEW_NAMES {
+            return Ok(NameList {
+                names,
+                places: None,
+            });
+        }
+        let places = first_places(alloc, names.as_slice())?;
+        Ok(NameList {
+            names,
+            places: Some(places),
+        })
+    }
+
+    /// The names as a slice.
+    pub(crate) fn as_slice(&self) -> &[FieldName]
+        ensures { result.now ≡ self.now }
+    {
+        self.names.as_slice()
+    }
+
+    /// The place of the first name that equals this one.
+    pub(crate) fn position(&self, name: &FieldName) -> Option<usize>
+        ensures { result ≡ position (bytes_eq name.now) self.now }
+    {
+        match &self.places {
+            Some(places) => places.get(name).copied(),
+            None => self
+                .names
+                .as_slice()
+                .iter()
+                .position(|other| name.as_str() == other.as_str()),
+        }
+    }
+}
+
+impl fmt::Debug for NameList {
+    fn fmt<W: fmt::Write>(&self, f: &mut fmt::Formatter<W>) -> fmt::Result {
+        fmt::Debug::fmt(&self.names, f)
+    }
+}
+
+/// The place of the first name that equals each of these: from the last to the first, so that an earlier place takes that of a later one.
+fn first_places(alloc: Global, names: &[FieldName]) -> Mem<HashMap<FieldName, usize>>
+    ensures { IfOk result (λ places. (name : Bytes) → get bytes_eq places name ≡ position (bytes_eq name) names.now) }
+{
+    let mut places = HashMap::with_capacity(alloc, names.len())?;
+    let mut left = names.len();
+    while left > 0 {
+        left -= 1;
+        places.insert(names[left].clone()?, left)?;
+    }
+    Ok(places)
+}
