@@ -38,7 +38,7 @@ fn first_rows(alloc: Global, request: &ScanRequest) -> Result<ColumnRef> {
     let Some([x, y]) = request.blocks.first().map(|block| block.as_slice()) else {
         bail!("not two columns")
     };
-    let names = fields(&request.zones)?.names().clone()?;
+    let names = fields(request.zones.dtype())?.names().clone()?;
     rows(alloc, names, x, y)
 }
 
@@ -58,7 +58,12 @@ fn pair(alloc: Global, x: &ColumnRef, y: &ColumnRef) -> Mem<Vec<ColumnRef>> {
 }
 
 /// Times an expression over rows.
-fn time_evaluation(rt: &HostRuntime, name: &str, expr: &ExprRef, scope: &Scope) -> Result<()> {
+pub(crate) fn time_evaluation(
+    rt: &HostRuntime,
+    name: &str,
+    expr: &ExprRef,
+    scope: &Scope,
+) -> Result<()> {
     let start = Instant::now(rt)?;
     let _column = expr.evaluate(rt.alloc(), scope)?;
     print_since(rt, name, &start)

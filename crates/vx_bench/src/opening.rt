@@ -5,7 +5,6 @@ use vx_dtype::{DType, StructFields};
 use vx_expr::ExprRef;
 use vx_request::{ScanRequest, decode_request};
 use vx_wire::{ExprRegistry, ExprRegistryExt, deserialize_expr_proto, read_tree};
-use vx_zones::ZoneMap;
 
 /// A request, and its two expressions.
 #[derive(Drop)]
@@ -40,9 +39,9 @@ fn expression(alloc: Global, bytes: &[u8]) -> Result<ExprRef> {
     Ok(deserialize_expr_proto(alloc, &tree, &ExprRegistry::default())?)
 }
 
-/// The columns' names and types.
-pub(crate) fn fields(zones: &ZoneMap) -> Result<&StructFields> {
-    match zones.dtype() {
+/// The names and the types of the columns of rows of this type.
+pub(crate) fn fields(scope: &DType) -> Result<&StructFields> {
+    match scope {
         DType::Struct(fields, _) => Ok(fields),
         _ => bail!("no columns"),
     }

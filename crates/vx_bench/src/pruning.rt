@@ -64,7 +64,7 @@ fn many(alloc: Global, zones: &ZoneMap) -> Result<ZoneMap> {
 fn zones_of(alloc: Global, zones: &ZoneMap, lengths: Vec<u32>) -> Result<ZoneMap>
     requires { length lengths.items < 2 ^ 32 }
 {
-    let columns = fields(zones)?.clone()?;
+    let columns = fields(zones.dtype())?.clone()?;
     let stats = many_stats(alloc, zones.stats())?;
     match ZoneMap::try_new(alloc, columns, lengths, stats) {
         Ok(zones) => Ok(zones),

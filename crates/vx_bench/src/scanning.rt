@@ -31,9 +31,20 @@ fn time_request(
 ) -> Result<()> {
     let columns = first_columns(rt.alloc(), request.blocks.as_slice())?;
     let mut store = store_of(rt.alloc(), request)?;
+    time_store(rt, filter, projection, &mut store, columns.as_slice())
+}
+
+/// The same for a store, and the first column of each of its blocks.
+fn time_store(
+    rt: &HostRuntime,
+    filter: &ExprRef,
+    projection: &ExprRef,
+    store: &mut MemoryStore,
+    columns: &[ColumnRef],
+) -> Result<()> {
     for _ in 0..ROUNDS {
-        time_scan(rt, filter, projection, &mut store)?;
-        time_calls(rt, columns.as_slice())?;
+        time_scan(rt, filter, projection, store)?;
+        time_calls(rt, columns)?;
     }
     Ok(())
 }

@@ -25,9 +25,19 @@ pub(crate) fn time(rt: &HostRuntime, opened: Opened) -> Result<()> {
         projection,
     } = opened;
     let mut store = store_of(rt.alloc(), request)?;
+    time_store(rt, &filter, &projection, &mut store)
+}
+
+/// The same for a filter and a projection over a store.
+fn time_store(
+    rt: &HostRuntime,
+    filter: &ExprRef,
+    projection: &ExprRef,
+    store: &mut MemoryStore,
+) -> Result<()> {
     for _ in 0..ROUNDS {
-        time_scan(rt, &filter, &projection, &mut store)?;
-        time_first(rt, &filter, &projection, &mut store)?;
+        time_scan(rt, filter, projection, store)?;
+        time_first(rt, filter, projection, store)?;
     }
     Ok(())
 }

@@ -10,32 +10,35 @@ use std::alloc::Global;
 use std::rc::Rc;
 use std::test::Fail;
 use vx_column::{
-    ColumnRef, and_kleene, between, cast, checked_add, checked_sub, compare, invert, is_null, like,
-    list_contains, or_kleene,
+    ColumnError, ColumnRef, and_kleene, between, cast, checked_add, checked_sub, compare, invert,
+    is_null, like, list_contains, or_kleene,
 };
 use vx_dtype::Nullability::NonNullable;
 use vx_dtype::{
-    BetweenOptions, CompareOperator, DType, ElementType, FieldName, FieldNames, Mem, PType, Scalar,
-    ScalarValue, StrictComparison, Text,
+    BetweenOptions, CompareOperator, DType, ElementType, FieldName, FieldNames, Mem, NoMemory,
+    PType, Scalar, ScalarValue, StrictComparison, Text,
 };
+
+/// A column, or why there is none.
+type Made = Result<ColumnRef, ColumnError>;
 
 /// The column, where it has one row of this type.
 #[tactic(auto, using(vx_dtype::specs::EqualLaws::ty_decides))]
-fn one_row(column: ColumnRef, dtype: &DType) -> Result<ColumnRef, Fail>
+fn one_row(column: ColumnRef, dtype: &DType) -> Made
     ensures dtype { IfOk result (λ c. c.ty ≡ type_view dtype.now) }
     ensures row { IfOk result (λ c. length c.rows ≡ 1) }
 {
     if column.len() != 1 {
-        return Err(Fail::new("a column of other rows"));
+        return Err(ColumnError::WrongLength);
     }
     if *column.dtype() == *dtype {
         return Ok(column);
     }
-    Err(Fail::new("a column of another type"))
+    Err(ColumnError::WrongValue)
 }
 
 /// A truth.
-fn truth(alloc: Global, b: bool) -> Result<ColumnRef, Fail>
+fn truth(alloc: Global, b: bool) -> Made
     ensures dtype { IfOk result (λ c. c.ty ≡ bool_ty Whole) }
     ensures row { IfOk result (λ c. length c.rows ≡ 1) }
 {
@@ -44,7 +47,7 @@ fn truth(alloc: Global, b: bool) -> Result<ColumnRef, Fail>
 }
 
 /// A number of u8.
-fn number(alloc: Global, i: i128) -> Result<ColumnRef, Fail>
+fn number(alloc: Global, i: i128) -> Made
     ensures dtype { IfOk result (λ c. c.ty ≡ int_ty U8 Whole) }
     ensures row { IfOk result (λ c. length c.rows ≡ 1) }
 {
@@ -53,7 +56,7 @@ fn number(alloc: Global, i: i128) -> Result<ColumnRef, Fail>
 }
 
 /// A text.
-fn text(alloc: Global, s: &str) -> Result<ColumnRef, Fail>
+fn text(alloc: Global, s: &str) -> Made
     ensures dtype { IfOk result (λ c. c.ty ≡ text_ty Whole) }
     ensures row { IfOk result (λ c. length c.rows ≡ 1) }
 {
@@ -71,7 +74,7 @@ fn list_type(alloc: Global) -> Mem<DType>
 }
 
 /// The list of a number of u8.
-fn list(alloc: Global, i: i128) -> Result<ColumnRef, Fail>
+fn list(alloc: Global, i: i128) -> Made
     ensures dtype { IfOk result (λ c. c.ty ≡ list_ty (int_ty U8 Whole) Whole) }
     ensures row { IfOk result (λ c. length c.rows ≡ 1) }
 {
@@ -81,195 +84,295 @@ fn list(alloc: Global, i: i128) -> Result<ColumnRef, Fail>
     one_row(column, &list_type(alloc)?)
 }
 
-/// The struct of a number of u8 alone, whose name is `a`.
-fn structure(alloc: Global, i: i128) -> Result<ColumnRef, Fail>
+/// The name of the one field of structs.
+fn names(alloc: Global) -> Mem<Vec<FieldName>> {
+    Ok(vec![in alloc; FieldName::new(alloc, "a")?]?)
+}
+
+/// The struct of a number of u8 alone.
+fn structure(alloc: Global, i: i128) -> Made
     ensures { IfOk result (λ c. is_struct_ty c.ty ≡ true) }
 {
-    let names = FieldNames::new(alloc, vec![in alloc; FieldName::new(alloc, "a")?]?)?;
     let fields = vec![in alloc; number(alloc, i)?]?;
+    let names = FieldNames::new(alloc, names(alloc)?)?;
     let column = ColumnRef::struct_(alloc, names, fields, 1, None)?;
-    if !column.dtype().is_struct() {
-        return Err(Fail::new("a column without fields"));
+    if column.dtype().is_struct() {
+        return Ok(column);
     }
-    Ok(column)
+    Err(ColumnError::WrongValue)
+}
+
+/// Whether a column is made, and is this one.
+fn is_made(made: Made, want: &ColumnRef) -> bool {
+    match &made {
+        Ok(column) => *column == *want,
+        Err(_) => false,
+    }
+}
+
+/// Whether two columns are made, and are equal.
+fn are_equal(left: Made, right: Made) -> bool {
+    match &right {
+        Ok(column) => is_made(left, column),
+        Err(_) => false,
+    }
+}
+
+/// The answer of a call that only memory can be missing for.
+fn answered(answer: Mem<ColumnRef>) -> Made {
+    match answer {
+        Ok(column) => Ok(column),
+        Err(NoMemory) => Err(ColumnError::NoMemory),
+    }
 }
 
 /// The column of a value, which it keeps.
-fn kept(alloc: Global, dtype: DType, value: ScalarValue) -> Result<ColumnRef, Fail> {
-    Ok(ColumnRef::of_values(alloc, dtype, vec![in alloc; value]?)?)
+fn kept(alloc: Global, dtype: DType, value: ScalarValue) -> Made {
+    ColumnRef::of_values(alloc, dtype, vec![in alloc; value]?)
 }
 
-fn of_values_answers(alloc: Global) -> Result<bool, Fail> {
-    let made = kept(
+/// The column of a number of u8, which it keeps.
+fn kept_number(alloc: Global, i: i128) -> Made {
+    kept(
         alloc,
         DType::Primitive(PType::U8, NonNullable),
-        ScalarValue::Int(4),
-    )?;
-    Ok(made == number(alloc, 4)?)
+        ScalarValue::Int(i),
+    )
 }
 
-fn from_values_answers(alloc: Global) -> Result<bool, Fail> {
+/// The column of a copy of a number of u8.
+fn copied_number(alloc: Global, i: i128) -> Made {
     let dtype = DType::Primitive(PType::U8, NonNullable);
-    let made = ColumnRef::from_values(alloc, dtype, &[ScalarValue::Int(4)])?;
-    Ok(made == number(alloc, 4)?)
+    ColumnRef::from_values(alloc, dtype, &[ScalarValue::Int(i)])
 }
 
-fn constant_answers(alloc: Global) -> Result<bool, Fail> {
-    Ok(ColumnRef::constant(alloc, &Scalar::from(4u8), 1)? == number(alloc, 4)?)
+/// The column of a truth, which it keeps.
+fn kept_truth(alloc: Global, b: bool) -> Made {
+    kept(alloc, DType::Bool(NonNullable), ScalarValue::Bool(b))
 }
 
-fn bool_answers(alloc: Global) -> Result<bool, Fail> {
-    let made = kept(alloc, DType::Bool(NonNullable), ScalarValue::Bool(true))?;
-    Ok(truth(alloc, true)? == made)
-}
-
-fn utf8_answers(alloc: Global) -> Result<bool, Fail> {
-    let value = ScalarValue::Utf8(Text::new(alloc, "a")?);
-    Ok(text(alloc, "a")? == kept(alloc, DType::Utf8(NonNullable), value)?)
-}
-
-fn list_answers(alloc: Global) -> Result<bool, Fail> {
-    let values = Rc::new(alloc, vec![in alloc; ScalarValue::Int(4)]?)?;
-    let made = kept(alloc, list_type(alloc)?, ScalarValue::List(values))?;
-    Ok(list(alloc, 4)? == made)
-}
-
-fn clone_answers(alloc: Global) -> Result<bool, Fail> {
-    let column = number(alloc, 4)?;
-    Ok(column.clone()? == column)
-}
-
-fn scalar_at_answers(alloc: Global) -> Result<bool, Fail> {
-    Ok(number(alloc, 4)?.scalar_at(alloc, 0)? == Scalar::from(4u8))
-}
-
-fn append_to_answers(alloc: Global) -> Result<bool, Fail> {
-    let mut values = Vec::new(alloc);
-    number(alloc, 4)?.append_to(alloc, &mut values)?;
-    Ok(values.as_slice() == [ScalarValue::Int(4)].as_slice())
-}
-
-fn field_answers(alloc: Global) -> Result<bool, Fail> {
-    let made = structure(alloc, 4)?.field(alloc, &FieldName::new(alloc, "a")?)?;
-    Ok(made == number(alloc, 4)?)
-}
-
-fn project_answers(alloc: Global) -> Result<bool, Fail> {
-    let made = structure(alloc, 4)?.project(alloc, &[FieldName::new(alloc, "a")?])?;
-    Ok(made == structure(alloc, 4)?)
-}
-
-fn filter_answers(alloc: Global) -> Result<bool, Fail> {
-    let made = number(alloc, 4)?.filter(alloc, &truth(alloc, true)?)?;
-    Ok(made == number(alloc, 4)?)
-}
-
-fn mask_answers(alloc: Global) -> Result<bool, Fail> {
-    let made = number(alloc, 4)?.mask(alloc, &truth(alloc, true)?)?;
-    Ok(made.len() == 1 && !made.is_valid(0))
-}
-
-#[tactic(auto, unfolding(vx_dtype::specs::TypeRules::alike))]
-fn compare_answers(alloc: Global) -> Result<bool, Fail> {
-    let made = compare(
+/// The column of a text, which it keeps.
+fn kept_text(alloc: Global, s: &str) -> Made {
+    kept(
         alloc,
-        &number(alloc, 3)?,
-        &number(alloc, 2)?,
-        CompareOperator::Gt,
-    )?;
-    Ok(made == truth(alloc, true)?)
+        DType::Utf8(NonNullable),
+        ScalarValue::Utf8(Text::new(alloc, s)?),
+    )
 }
 
+/// The column of the list of a number of u8, which it keeps.
+fn kept_list(alloc: Global, i: i128) -> Made {
+    let values = Rc::new(alloc, vec![in alloc; ScalarValue::Int(i)]?)?;
+    kept(alloc, list_type(alloc)?, ScalarValue::List(values))
+}
+
+/// A number of u8, as a constant of one row.
+fn constant_number(alloc: Global, i: u8) -> Made {
+    ColumnRef::constant(alloc, &Scalar::from(i), 1)
+}
+
+/// Whether columns are made of values.
+fn constructors_answer(alloc: Global) -> bool {
+    are_equal(kept_number(alloc, 4), number(alloc, 4))
+        && are_equal(copied_number(alloc, 4), number(alloc, 4))
+        && are_equal(constant_number(alloc, 4), number(alloc, 4))
+        && are_equal(truth(alloc, true), kept_truth(alloc, true))
+        && are_equal(text(alloc, "a"), kept_text(alloc, "a"))
+        && are_equal(list(alloc, 4), kept_list(alloc, 4))
+}
+
+/// A copy of a column.
+fn copied(column: &ColumnRef) -> Made {
+    Ok(column.clone()?)
+}
+
+/// Whether a value is made, and is the number 4.
+fn is_four(made: Mem<Scalar>) -> bool {
+    match &made {
+        Ok(scalar) => *scalar == Scalar::from(4u8),
+        Err(NoMemory) => false,
+    }
+}
+
+/// The values of a column behind none.
+fn appended(alloc: Global, column: &ColumnRef) -> Mem<Vec<ScalarValue>> {
+    let mut values = Vec::new(alloc);
+    column.append_to(alloc, &mut values)?;
+    Ok(values)
+}
+
+/// Whether values are made, and are the number 4 alone.
+fn are_four(made: Mem<Vec<ScalarValue>>) -> bool {
+    match &made {
+        Ok(values) => matches!(values.as_slice(), [ScalarValue::Int(4)]),
+        Err(NoMemory) => false,
+    }
+}
+
+/// Whether a column is made, and has one row, which is null.
+fn is_null_row(made: Mem<ColumnRef>) -> bool {
+    match &made {
+        Ok(column) => column.len() == 1 && !column.is_valid(0),
+        Err(NoMemory) => false,
+    }
+}
+
+/// Whether the calls on the number 4 of u8 answer.
+fn number_answers(alloc: Global, four: &ColumnRef) -> bool
+    requires { length four.now.rows ≡ 1 }
+{
+    is_made(copied(four), four)
+        && is_four(four.scalar_at(alloc, 0))
+        && are_four(appended(alloc, four))
+}
+
+/// Whether the number 4 of u8, filtered and masked by true, answers.
+fn choices_answer(alloc: Global, four: &ColumnRef, yes: &ColumnRef) -> bool
+    requires dtype { yes.now.ty ≡ bool_ty Whole }
+    requires rows { length four.now.rows ≡ 1 }
+    requires row { length yes.now.rows ≡ 1 }
+{
+    is_made(answered(four.filter(alloc, yes)), four) && is_null_row(four.mask(alloc, yes))
+}
+
+/// A number of u8 as one of i64.
+fn widened(alloc: Global, column: &ColumnRef) -> Made
+    requires { column.now.ty ≡ int_ty U8 Whole }
+{
+    cast(alloc, column, &DType::Primitive(PType::I64, NonNullable))
+}
+
+/// Whether the number 4 of u8 as one of i64 is that one.
+fn cast_answers(alloc: Global) -> Result<bool, ColumnError> {
+    let wide = ColumnRef::constant(alloc, &Scalar::from(4i64), 1)?;
+    Ok(is_made(widened(alloc, &number(alloc, 4)?), &wide))
+}
+
+/// Whether the number 3 is more than 2, and lies between 2, which it may not be, and itself.
 #[tactic(auto, unfolding(vx_dtype::specs::TypeRules::alike))]
-fn between_answers(alloc: Global) -> Result<bool, Fail> {
+fn comparisons_answer(alloc: Global, three: &ColumnRef, two: &ColumnRef, yes: &ColumnRef) -> bool
+    requires three { three.now.ty ≡ int_ty U8 Whole }
+    requires two { two.now.ty ≡ int_ty U8 Whole }
+    requires row { length three.now.rows ≡ 1 }
+    requires rows { length two.now.rows ≡ 1 }
+{
     let options = BetweenOptions {
         lower_strict: StrictComparison::Strict,
         upper_strict: StrictComparison::NonStrict,
     };
-    let (lower, upper) = (number(alloc, 2)?, number(alloc, 3)?);
-    let made = between(alloc, &number(alloc, 3)?, &lower, &upper, options)?;
-    Ok(made == truth(alloc, true)?)
+    is_made(
+        answered(compare(alloc, three, two, CompareOperator::Gt)),
+        yes,
+    ) && is_made(answered(between(alloc, three, two, three, options)), yes)
 }
 
-fn and_answers(alloc: Global) -> Result<bool, Fail> {
-    let made = and_kleene(alloc, &truth(alloc, true)?, &truth(alloc, false)?)?;
-    Ok(made == truth(alloc, false)?)
+/// Whether the sum and the difference of the numbers 3 and 2 are 5 and 1.
+#[tactic(auto, unfolding(vx_dtype::specs::TypeRules::alike))]
+fn totals_answer(alloc: Global, three: &ColumnRef, two: &ColumnRef) -> bool
+    requires three { three.now.ty ≡ int_ty U8 Whole }
+    requires two { two.now.ty ≡ int_ty U8 Whole }
+    requires row { length three.now.rows ≡ 1 }
+    requires rows { length two.now.rows ≡ 1 }
+{
+    are_equal(checked_add(alloc, three, two), number(alloc, 5))
+        && are_equal(checked_sub(alloc, three, two), number(alloc, 1))
 }
 
-fn or_answers(alloc: Global) -> Result<bool, Fail> {
-    let made = or_kleene(alloc, &truth(alloc, true)?, &truth(alloc, false)?)?;
-    Ok(made == truth(alloc, true)?)
+/// Whether the calls on truths answer.
+fn logic_answers(alloc: Global, yes: &ColumnRef, no: &ColumnRef) -> bool
+    requires yes { yes.now.ty ≡ bool_ty Whole }
+    requires no { no.now.ty ≡ bool_ty Whole }
+    requires row { length yes.now.rows ≡ 1 }
+    requires rows { length no.now.rows ≡ 1 }
+{
+    is_made(answered(and_kleene(alloc, yes, no)), no)
+        && is_made(answered(or_kleene(alloc, yes, no)), yes)
+        && is_made(answered(invert(alloc, yes)), no)
+        && is_made(answered(is_null(alloc, yes)), no)
 }
 
-fn invert_answers(alloc: Global) -> Result<bool, Fail> {
-    Ok(invert(alloc, &truth(alloc, true)?)? == truth(alloc, false)?)
-}
-
-fn is_null_answers(alloc: Global) -> Result<bool, Fail> {
-    Ok(is_null(alloc, &truth(alloc, true)?)? == truth(alloc, false)?)
-}
-
-fn like_answers(alloc: Global) -> Result<bool, Fail> {
-    let made = like(
+/// Whether a text is like a pattern.
+fn is_like(alloc: Global, s: &str, pattern: &str) -> Made {
+    Ok(like(
         alloc,
-        &text(alloc, "abc")?,
-        &text(alloc, "a%")?,
+        &text(alloc, s)?,
+        &text(alloc, pattern)?,
         false,
         false,
-    )?;
-    Ok(made == truth(alloc, true)?)
+    )?)
 }
 
+/// Whether the list of a number of u8 has it.
 #[tactic(auto, unfolding(vx_dtype::specs::TypeRules::alike))]
-fn list_contains_answers(alloc: Global) -> Result<bool, Fail> {
-    let made = list_contains(alloc, &list(alloc, 4)?, &number(alloc, 4)?)?;
-    Ok(made == truth(alloc, true)?)
+fn has_itself(alloc: Global, i: i128) -> Made {
+    Ok(list_contains(alloc, &list(alloc, i)?, &number(alloc, i)?)?)
 }
 
-#[tactic(auto, unfolding(vx_dtype::specs::TypeRules::alike))]
-fn checked_add_answers(alloc: Global) -> Result<bool, Fail> {
-    let made = checked_add(alloc, &number(alloc, 3)?, &number(alloc, 2)?)?;
-    Ok(made == number(alloc, 5)?)
+/// The field of a struct.
+fn field(alloc: Global, structure: &ColumnRef) -> Made
+    requires { is_struct_ty structure.now.ty ≡ true }
+{
+    structure.field(alloc, &FieldName::new(alloc, "a")?)
 }
 
-#[tactic(auto, unfolding(vx_dtype::specs::TypeRules::alike))]
-fn checked_sub_answers(alloc: Global) -> Result<bool, Fail> {
-    let made = checked_sub(alloc, &number(alloc, 3)?, &number(alloc, 2)?)?;
-    Ok(made == number(alloc, 1)?)
+/// A struct of its field.
+fn projection(alloc: Global, structure: &ColumnRef) -> Made
+    requires { is_struct_ty structure.now.ty ≡ true }
+{
+    structure.project(alloc, &names(alloc)?)
 }
 
-fn cast_answers(alloc: Global) -> Result<bool, Fail> {
-    let target = DType::Primitive(PType::I64, NonNullable);
-    let made = cast(alloc, &number(alloc, 4)?, &target)?;
-    Ok(made == ColumnRef::constant(alloc, &Scalar::from(4i64), 1)?)
+/// Whether the calls on the struct of the number 4 answer.
+fn structure_answers(alloc: Global, structure: &ColumnRef) -> bool
+    requires { is_struct_ty structure.now.ty ≡ true }
+{
+    are_equal(field(alloc, structure), number(alloc, 4))
+        && is_made(projection(alloc, structure), structure)
+}
+
+/// Whether the calls on a number answer.
+fn number_calls(alloc: Global) -> Result<bool, ColumnError> {
+    Ok(number_answers(alloc, &number(alloc, 4)?))
+}
+
+/// Whether the calls on a number and a truth answer.
+fn choice_calls(alloc: Global) -> Result<bool, ColumnError> {
+    Ok(choices_answer(alloc, &number(alloc, 4)?, &truth(alloc, true)?))
+}
+
+/// Whether the comparisons of numbers answer.
+fn comparison_calls(alloc: Global) -> Result<bool, ColumnError> {
+    let (three, two) = (number(alloc, 3)?, number(alloc, 2)?);
+    Ok(comparisons_answer(alloc, &three, &two, &truth(alloc, true)?))
+}
+
+/// Whether the sums and the differences of numbers answer.
+fn total_calls(alloc: Global) -> Result<bool, ColumnError> {
+    Ok(totals_answer(alloc, &number(alloc, 3)?, &number(alloc, 2)?))
+}
+
+/// Whether the calls on truths answer.
+fn logic_calls(alloc: Global) -> Result<bool, ColumnError> {
+    Ok(logic_answers(alloc, &truth(alloc, true)?, &truth(alloc, false)?))
+}
+
+/// Whether the calls on a struct answer.
+fn structure_calls(alloc: Global) -> Result<bool, ColumnError> {
+    Ok(structure_answers(alloc, &structure(alloc, 4)?))
 }
 
 #[test]
 fn ample(rt: HostRuntime) -> Result<(), Fail> {
     let alloc = rt.alloc();
-    assert!(rt; of_values_answers(alloc)?);
-    assert!(rt; from_values_answers(alloc)?);
-    assert!(rt; constant_answers(alloc)?);
-    assert!(rt; bool_answers(alloc)?);
-    assert!(rt; utf8_answers(alloc)?);
-    assert!(rt; list_answers(alloc)?);
-    assert!(rt; clone_answers(alloc)?);
-    assert!(rt; scalar_at_answers(alloc)?);
-    assert!(rt; append_to_answers(alloc)?);
-    assert!(rt; field_answers(alloc)?);
-    assert!(rt; project_answers(alloc)?);
-    assert!(rt; filter_answers(alloc)?);
-    assert!(rt; mask_answers(alloc)?);
-    assert!(rt; compare_answers(alloc)?);
-    assert!(rt; between_answers(alloc)?);
-    assert!(rt; and_answers(alloc)?);
-    assert!(rt; or_answers(alloc)?);
-    assert!(rt; invert_answers(alloc)?);
-    assert!(rt; is_null_answers(alloc)?);
-    assert!(rt; like_answers(alloc)?);
-    assert!(rt; list_contains_answers(alloc)?);
-    assert!(rt; checked_add_answers(alloc)?);
-    assert!(rt; checked_sub_answers(alloc)?);
+    assert!(rt; constructors_answer(alloc));
+    assert!(rt; number_calls(alloc)?);
+    assert!(rt; choice_calls(alloc)?);
+    assert!(rt; comparison_calls(alloc)?);
+    assert!(rt; total_calls(alloc)?);
+    assert!(rt; logic_calls(alloc)?);
+    assert!(rt; structure_calls(alloc)?);
     assert!(rt; cast_answers(alloc)?);
+    assert!(rt; are_equal(is_like(alloc, "abc", "a%"), truth(alloc, true)));
+    assert!(rt; are_equal(has_itself(alloc, 4), truth(alloc, true)));
     Ok(())
 }

@@ -4,6 +4,7 @@ ghost use Rattle.vx_dtype.specs.declared.PType.TheVariants.{I16};
 
 use crate::words_ample::{is_only, sure};
 use std::alloc::Global;
+use std::test::Fail;
 use vx_dtype::{CompareOperator, Mem, NoMemory, PType};
 use vx_numbers::Numbers;
 use vx_words::Truths;
@@ -49,54 +50,64 @@ fn two(alloc: Global) -> Mem<Numbers>
     Numbers::repeated(alloc, PType::I16, Some(2), 1)
 }
 
-fn comparison(alloc: Global) -> Mem<Truths> {
-    three(alloc)?.compare(alloc, &two(alloc)?, CompareOperator::Gt)
+/// A copy of a list.
+fn copied(list: &Numbers) -> Mem<Numbers> {
+    Ok(list.clone()?)
 }
 
-fn comparison_with(alloc: Global) -> Mem<Truths> {
-    three(alloc)?.compare_with(alloc, Some(2), CompareOperator::Lt)
+/// Whether the calls on the list of 3 alone answer.
+fn list_answers(alloc: Global, three: &Numbers) -> bool
+    requires { three.now.ptype ≡ I16 }
+{
+    is_one(copied(three), PType::I16, Some(3))
+        && is_only(three.is_null(alloc), Some(false))
+        && is_only(
+            three.compare_with(alloc, Some(2), CompareOperator::Lt),
+            Some(false),
+        )
+        && is_total(three.cast(alloc, PType::U8), PType::U8, Some(3))
 }
 
-fn null_test(alloc: Global) -> Mem<Truths> {
-    three(alloc)?.is_null(alloc)
+/// Whether the calls on the lists of 3 alone and of 2 alone answer.
+fn lists_answer(alloc: Global, three: &Numbers, two: &Numbers) -> bool
+    requires types { two.now.ptype ≡ three.now.ptype }
+    requires lengths { length two.now.numbers ≡ length three.now.numbers }
+{
+    is_only(three.compare(alloc, two, CompareOperator::Gt), Some(true))
+        && is_total(three.checked_add(alloc, two), PType::I16, Some(5))
+        && is_total(three.checked_sub(alloc, two), PType::I16, Some(1))
 }
 
-fn filtered(alloc: Global) -> Mem<Numbers> {
-    three(alloc)?.filter(alloc, &sure(alloc)?)
+/// Whether the filter and the mask of the list of 3 alone by that of true alone answer.
+fn choices_answer(alloc: Global, three: &Numbers, yes: &Truths) -> bool
+    requires { length yes.now ≡ length three.now.numbers }
+{
+    is_one(three.filter(alloc, yes), PType::I16, Some(3))
+        && is_one(three.mask(alloc, yes), PType::I16, None)
 }
 
-fn masked(alloc: Global) -> Mem<Numbers> {
-    three(alloc)?.mask(alloc, &sure(alloc)?)
+/// Whether the calls on one list answer.
+fn one_answers(alloc: Global) -> Mem<bool> {
+    Ok(list_answers(alloc, &three(alloc)?))
 }
 
-fn copied(alloc: Global) -> Mem<Numbers> {
-    Ok(three(alloc)?.clone()?)
+/// Whether the calls on two lists answer.
+fn two_answer(alloc: Global) -> Mem<bool> {
+    Ok(lists_answer(alloc, &three(alloc)?, &two(alloc)?))
 }
 
-fn sum(alloc: Global) -> Mem<Option<Numbers>> {
-    three(alloc)?.checked_add(alloc, &two(alloc)?)
-}
-
-fn difference(alloc: Global) -> Mem<Option<Numbers>> {
-    three(alloc)?.checked_sub(alloc, &two(alloc)?)
-}
-
-fn cast(alloc: Global) -> Mem<Option<Numbers>> {
-    three(alloc)?.cast(alloc, PType::U8)
+/// Whether the calls on a list and one of truths answer.
+fn chosen_answer(alloc: Global) -> Mem<bool> {
+    Ok(choices_answer(alloc, &three(alloc)?, &sure(alloc)?))
 }
 
 #[test]
-fn ample(rt: HostRuntime) {
+fn ample(rt: HostRuntime) -> Result<(), Fail> {
     let alloc = rt.alloc();
     assert!(rt; is_one(three(alloc), PType::I16, Some(3)));
     assert!(rt; is_one(two(alloc), PType::I16, Some(2)));
-    assert!(rt; is_only(comparison(alloc), Some(true)));
-    assert!(rt; is_only(comparison_with(alloc), Some(false)));
-    assert!(rt; is_only(null_test(alloc), Some(false)));
-    assert!(rt; is_one(filtered(alloc), PType::I16, Some(3)));
-    assert!(rt; is_one(masked(alloc), PType::I16, None));
-    assert!(rt; is_one(copied(alloc), PType::I16, Some(3)));
-    assert!(rt; is_total(sum(alloc), PType::I16, Some(5)));
-    assert!(rt; is_total(difference(alloc), PType::I16, Some(1)));
-    assert!(rt; is_total(cast(alloc), PType::U8, Some(3)));
+    assert!(rt; one_answers(alloc)?);
+    assert!(rt; two_answer(alloc)?);
+    assert!(rt; chosen_answer(alloc)?);
+    Ok(())
 }

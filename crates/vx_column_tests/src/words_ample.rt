@@ -2,6 +2,7 @@
 ghost use Rattle.std.specs.Prelude.{◌≡◌, length, IfOk};
 
 use std::alloc::Global;
+use std::test::Fail;
 use vx_dtype::{Mem, NoMemory};
 use vx_words::{Truths, both, push_bit, repeated_bit, without};
 
@@ -43,59 +44,60 @@ fn unknown(alloc: Global) -> Mem<Truths>
     Truths::repeated(alloc, None, 1)
 }
 
-fn conjunction(alloc: Global) -> Mem<Truths> {
-    sure(alloc)?.and(alloc, &unknown(alloc)?)
+/// Whether the connectives and the test for null answer, of the list of true alone and that of null alone.
+fn logic_answers(alloc: Global, yes: &Truths, null: &Truths) -> bool
+    requires yes { length yes.now ≡ 1 }
+    requires null { length null.now ≡ 1 }
+{
+    is_only(yes.and(alloc, null), None)
+        && is_only(yes.or(alloc, null), Some(true))
+        && is_only(yes.not(alloc), Some(false))
+        && is_only(null.is_null(alloc), Some(true))
 }
 
-fn disjunction(alloc: Global) -> Mem<Truths> {
-    sure(alloc)?.or(alloc, &unknown(alloc)?)
+/// Whether filters and masks by the list of true alone answer.
+fn choices_answer(alloc: Global, yes: &Truths, null: &Truths) -> bool
+    requires yes { length yes.now ≡ 1 }
+    requires null { length null.now ≡ 1 }
+{
+    is_only(null.filter(alloc, yes), None)
+        && is_only(yes.mask(alloc, yes), None)
+        && is_word(yes.kept(alloc, [7].as_slice()), 7)
 }
 
-fn negation(alloc: Global) -> Mem<Truths> {
-    sure(alloc)?.not(alloc)
+/// Whether the calls on lists answer.
+fn lists_answer(alloc: Global) -> Mem<bool> {
+    let (yes, null) = (sure(alloc)?, unknown(alloc)?);
+    Ok(logic_answers(alloc, &yes, &null) && choices_answer(alloc, &yes, &null))
 }
 
-fn null_test(alloc: Global) -> Mem<Truths> {
-    unknown(alloc)?.is_null(alloc)
-}
-
-fn filtered(alloc: Global) -> Mem<Truths> {
-    unknown(alloc)?.filter(alloc, &sure(alloc)?)
-}
-
-fn masked(alloc: Global) -> Mem<Truths> {
-    sure(alloc)?.mask(alloc, &sure(alloc)?)
-}
-
+/// A copy of the list of true alone.
 fn copied(alloc: Global) -> Mem<Truths> {
     Ok(sure(alloc)?.clone()?)
 }
 
-fn kept(alloc: Global) -> Mem<Vec<u64>> {
-    sure(alloc)?.kept(alloc, [7].as_slice())
-}
-
+/// The word of one bit.
 fn pushed(alloc: Global) -> Mem<Vec<u64>> {
     let mut words = Vec::new(alloc);
     push_bit(&mut words, 0, true)?;
     Ok(words)
 }
 
+/// Whether the calls on words answer.
+fn words_answer(alloc: Global) -> bool {
+    is_word(pushed(alloc), 1)
+        && is_word(both(alloc, &[12], &[10]), 8)
+        && is_word(without(alloc, &[12], &[10]), 4)
+        && is_word(repeated_bit(alloc, true, 3), 7)
+}
+
 #[test]
-fn ample(rt: HostRuntime) {
+fn ample(rt: HostRuntime) -> Result<(), Fail> {
     let alloc = rt.alloc();
     assert!(rt; is_only(sure(alloc), Some(true)));
     assert!(rt; is_only(unknown(alloc), None));
-    assert!(rt; is_only(conjunction(alloc), None));
-    assert!(rt; is_only(disjunction(alloc), Some(true)));
-    assert!(rt; is_only(negation(alloc), Some(false)));
-    assert!(rt; is_only(null_test(alloc), Some(true)));
-    assert!(rt; is_only(filtered(alloc), None));
-    assert!(rt; is_only(masked(alloc), None));
     assert!(rt; is_only(copied(alloc), Some(true)));
-    assert!(rt; is_word(kept(alloc), 7));
-    assert!(rt; is_word(pushed(alloc), 1));
-    assert!(rt; is_word(both(alloc, &[12], &[10]), 8));
-    assert!(rt; is_word(without(alloc, &[12], &[10]), 4));
-    assert!(rt; is_word(repeated_bit(alloc, true, 3), 7));
+    assert!(rt; lists_answer(alloc)?);
+    assert!(rt; words_answer(alloc));
+    Ok(())
 }

@@ -21,15 +21,23 @@ fn failing(alloc: Global) -> Mem<MemorySource> {
     Ok(MemorySource::new(bytes, 3, vec![in alloc; 3u64]?))
 }
 
+/// Whether a source fails, for the first time.
+fn fails(source: &mut MemorySource) -> bool {
+    let mut buffer = [0u8; 2];
+    source.read(&mut buffer) == Err(ReadFailed) && source.faults() == 1
+}
+
+/// Whether these bytes are had from a source, up to a limit.
+fn has(alloc: Global, limit: usize, source: &mut MemorySource, bytes: &[u8]) -> bool {
+    are_read(read_up_to(alloc, limit, source), bytes)
+}
+
 #[test]
 fn reads_end_at_the_limit_or_at_a_fault(rt: HostRuntime) -> Result<(), Fail> {
-    let alloc = rt.alloc();
-    let mut source = failing(alloc)?;
-    assert!(rt; are_read(read_up_to(alloc, 4, &mut source), b"abcd".as_slice()));
-    let mut buffer = [0u8; 2];
-    assert!(rt; source.read(&mut buffer) == Err(ReadFailed));
-    assert!(rt; source.faults() == 1);
-    assert!(rt; are_read(read_up_to(alloc, 100, &mut source), b"efgh".as_slice()));
+    let mut source = failing(rt.alloc())?;
+    assert!(rt; has(rt.alloc(), 4, &mut source, b"abcd".as_slice()));
+    assert!(rt; fails(&mut source));
+    assert!(rt; has(rt.alloc(), 100, &mut source, b"efgh".as_slice()));
     Ok(())
 }
 
@@ -41,11 +49,10 @@ fn standard_ends(rt: HostRuntime) {
     assert!(rt; input.read(&mut []).is_ok());
 }
 
-/// What a sink with room for two bytes, of which it takes one a call, answers to two, and what it holds then.
-fn written(alloc: Global) -> Mem<(Result<(), WriteFailed>, MemorySink)> {
+/// Whether two bytes are written whole to a sink with room for them, of which it takes one a call.
+fn is_written(alloc: Global) -> Mem<bool> {
     let mut sink = MemorySink::new(alloc, 2, 1, Vec::new(alloc))?;
-    let answer = write_whole(&mut sink, b"ab");
-    Ok((answer, sink))
+    Ok(write_whole(&mut sink, b"ab") == Ok(()) && sink.written() == b"ab".as_slice())
 }
 
 /// What a sink that takes all that it is offered, and fails at its second call, answers to six bytes.
@@ -60,13 +67,15 @@ fn all_that_is_left_is_offered(rt: HostRuntime) -> Result<(), Fail> {
     Ok(())
 }
 
+/// Whether two bytes are read from a source that gives one a call.
+fn is_read(alloc: Global) -> Mem<bool> {
+    let mut source = MemorySource::new(b"ab".to_vec(alloc)?, 1, Vec::new(alloc));
+    Ok(has(alloc, 2, &mut source, b"ab".as_slice()))
+}
+
 #[test]
 fn ample(rt: HostRuntime) -> Result<(), Fail> {
-    let alloc = rt.alloc();
-    let mut source = MemorySource::new(b"ab".to_vec(alloc)?, 1, Vec::new(alloc));
-    assert!(rt; are_read(read_up_to(alloc, 2, &mut source), b"ab".as_slice()));
-    let (answer, sink) = written(alloc)?;
-    assert!(rt; answer == Ok(()));
-    assert!(rt; sink.written() == b"ab".as_slice());
+    assert!(rt; is_read(rt.alloc())?);
+    assert!(rt; is_written(rt.alloc())?);
     Ok(())
 }

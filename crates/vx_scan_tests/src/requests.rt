@@ -36,17 +36,22 @@ const REQUEST: &str =
     "{\"columns\":[{\"name\":\"x\",\"type\":\"i64\"}],\"blocks\":[{\"rows\":2,\"values\":[[1,-2]]}],\"stats\":[{\"path\":[\"x\"],\"stat\":\"min\",\"values\":[null]}],\"filter\":\"00fF\",\"projection\":\"\"}";
 
 /// Whether a request has that block, statistic and texts.
-fn is_read(request: ScanRequest) -> bool {
+fn is_whole(request: &ScanRequest) -> bool {
     let is_zoned = request.zones.lengths() == [2u32].as_slice() && request.zones.stats().len() == 1;
     let is_asked = request.filter.as_slice() == [0u8, 255].as_slice()
         && request.projection.is_empty();
     is_zoned && is_asked && request.blocks.len() == 1
 }
 
+/// Whether the request is read.
+fn is_read(alloc: Global) -> bool {
+    match &decode_request(alloc, REQUEST.as_bytes()) {
+        Ok(request) => is_whole(request),
+        Err(_) => false,
+    }
+}
+
 #[test]
 fn ample(rt: HostRuntime) {
-    match decode_request(rt.alloc(), REQUEST.as_bytes()) {
-        Ok(request) => assert!(rt; is_read(request)),
-        Err(_) => assert!(rt; false),
-    }
+    assert!(rt; is_read(rt.alloc()));
 }

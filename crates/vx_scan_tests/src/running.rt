@@ -3,7 +3,7 @@ ghost use Rattle.std.specs.Prelude.{◌<◌, ◌^◌, ◌-◌, All, IfOk};
 
 use std::alloc::Global;
 use std::test::Fail;
-use vx_dtype::FieldName;
+use vx_dtype::{FieldName, Mem};
 use vx_io::{MemorySink, MemorySource, Source};
 use vx_query::{report_text, run};
 use vx_scan::MemoryStore;
@@ -53,6 +53,34 @@ struct Ended {
     used: Option<MemoryStore>,
 }
 
+/// The source of the request, that fails at the read behind so many others.
+fn source(alloc: Global, reads: Option<u32>) -> Result<MemorySource, Fail> {
+    let fail = number_behind(alloc, reads)?;
+    Ok(MemorySource::new(REQUEST.as_bytes().to_vec(alloc)?, 7, fail))
+}
+
+/// A sink that fails at the write behind so many others.
+fn sink(alloc: Global, writes: Option<u32>) -> Result<MemorySink, Fail> {
+    Ok(MemorySink::new(alloc, 1000, 4, number_behind(alloc, writes)?)?)
+}
+
+/// The end of a run of these arguments.
+fn ended(
+    alloc: Global,
+    arguments: &[String],
+    mut source: MemorySource,
+    mut sink: MemorySink,
+) -> Ended {
+    let mut used = None;
+    let status = run(alloc, arguments, &mut source, &mut sink, &mut used);
+    Ended {
+        status,
+        source,
+        sink,
+        used,
+    }
+}
+
 /// The end of a run of these arguments over the request, whose source gives 7 bytes a call and whose sink takes 4. The source fails
 /// at the read behind so many others, and the sink at the write behind so many.
 fn run_over(
@@ -62,23 +90,9 @@ fn run_over(
     writes: Option<u32>,
 ) -> Result<Ended, Fail> {
     let arguments = arguments(alloc, texts)?;
-    let input = REQUEST.as_bytes().to_vec(alloc)?;
-    let mut source = MemorySource::new(input, 7, number_behind(alloc, reads)?);
-    let mut sink = MemorySink::new(alloc, 1000, 4, number_behind(alloc, writes)?)?;
-    let mut used = None;
-    let status = run(
-        alloc,
-        arguments.as_slice(),
-        &mut source,
-        &mut sink,
-        &mut used,
-    );
-    Ok(Ended {
-        status,
-        source,
-        sink,
-        used,
-    })
+    let source = source(alloc, reads)?;
+    let sink = sink(alloc, writes)?;
+    Ok(ended(alloc, arguments.as_slice(), source, sink))
 }
 
 /// Whether a run answered this text.
@@ -158,38 +172,52 @@ fn a_word_takes_nothing_of_the_input(rt: HostRuntime) -> Result<(), Fail> {
     Ok(())
 }
 
-/// The status of a scan of a source, and what is written.
-fn scanned(alloc: Global, source: &mut MemorySource) -> Result<(u8, MemorySink), Fail> {
+/// A source of three bytes more than a request may have.
+fn spaces(alloc: Global) -> Mem<MemorySource> {
+    let spaces = vec![in alloc; b' '; 16777219]?;
+    Ok(MemorySource::new(spaces, 65536, Vec::new(alloc)))
+}
+
+/// Whether the scan of a source is refused as too long.
+fn is_too_long(alloc: Global, source: &mut MemorySource) -> Result<bool, Fail> {
     let scan = arguments(alloc, &["scan"])?;
     let mut sink = MemorySink::new(alloc, 1000, 1000, Vec::new(alloc))?;
     let status = run(alloc, scan.as_slice(), source, &mut sink, &mut None);
-    Ok((status, sink))
+    Ok(status == 3 && sink.written() == b"error: InputTooLong\n".as_slice())
+}
+
+/// Whether a source has two bytes left.
+fn has_two(source: &mut MemorySource) -> bool {
+    let mut rest = [0u8; 8];
+    source.read(&mut rest) == Ok(2)
 }
 
 #[test]
 fn no_more_than_the_most_is_taken(rt: HostRuntime) -> Result<(), Fail> {
-    let alloc = rt.alloc();
-    let spaces = vec![in alloc; b' '; 16777219]?;
-    let mut source = MemorySource::new(spaces, 65536, Vec::new(alloc));
-    let (status, sink) = scanned(alloc, &mut source)?;
-    assert!(rt; status == 3);
-    assert!(rt; sink.written() == b"error: InputTooLong\n".as_slice());
-    let mut rest = [0u8; 8];
-    assert!(rt; source.read(&mut rest) == Ok(2));
+    let mut source = spaces(rt.alloc())?;
+    assert!(rt; is_too_long(rt.alloc(), &mut source)?);
+    assert!(rt; has_two(&mut source));
     Ok(())
+}
+
+/// Two names.
+fn names(alloc: Global) -> Mem<Vec<FieldName>> {
+    Ok(vec![in alloc;
+        FieldName::new(alloc, "id")?,
+        FieldName::new(alloc, "price")?,
+    ]?)
+}
+
+/// The report of a row, two skipped blocks, two columns and 22 reads.
+fn report(alloc: Global) -> Result<String, Fail> {
+    let rows = arguments(alloc, &["11"])?;
+    Ok(report_text(alloc, rows.as_slice(), &[0, 4], &names(alloc)?, 22)?)
 }
 
 #[test]
 fn reports_tell_rows_blocks_columns_and_reads(rt: HostRuntime) -> Result<(), Fail> {
-    let alloc = rt.alloc();
-    let names = vec![in alloc;
-        FieldName::new(alloc, "id")?,
-        FieldName::new(alloc, "price")?,
-    ]?;
-    let rows = arguments(alloc, &["11"])?;
-    let report = report_text(alloc, rows.as_slice(), &[0, 4], names.as_slice(), 22)?;
     let want = "rows 1\n11\nskipped 0 4\ncolumns \"id\" \"price\"\nreads 22\n";
-    assert!(rt; report.as_str() == want);
+    assert!(rt; report(rt.alloc())?.as_str() == want);
     Ok(())
 }
 

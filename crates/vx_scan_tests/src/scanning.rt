@@ -5,7 +5,7 @@ use std::test::Fail;
 use vx_build::{col, gt, lit};
 use vx_column::{ColumnError, ColumnRef};
 use vx_dtype::Nullability::NonNullable;
-use vx_dtype::{DType, FieldName, FieldNames, Mem, PType, ScalarValue, StructFields};
+use vx_dtype::{DType, FieldName, FieldNames, Mem, NoMemory, PType, ScalarValue, StructFields};
 use vx_expr::ExprRef;
 use vx_prepare::prepare;
 use vx_scan::{
@@ -49,25 +49,18 @@ fn column(alloc: Global, p: PType, numbers: &[i128]) -> Result<ColumnRef, Column
 
 /// A block of one column.
 fn block(alloc: Global, p: PType, numbers: &[i128]) -> Block {
-    let mut columns = Vec::new(alloc);
-    columns.push(column(alloc, p, numbers)?)?;
-    Ok(columns)
+    Ok(vec![in alloc; column(alloc, p, numbers)?]?)
 }
 
 /// Two blocks.
 fn two(alloc: Global, first: Block, second: Block) -> Result<Vec<Vec<ColumnRef>>, ColumnError> {
-    let mut blocks = Vec::new(alloc);
-    blocks.push(first?)?;
-    blocks.push(second?)?;
-    Ok(blocks)
+    Ok(vec![in alloc; first?, second?]?)
 }
 
 /// A column `x` of i64.
 fn fields(alloc: Global) -> Mem<StructFields> {
-    let mut names = Vec::new(alloc);
-    names.push(FieldName::new(alloc, "x")?)?;
-    let mut dtypes = Vec::new(alloc);
-    dtypes.push(DType::Primitive(PType::I64, NonNullable))?;
+    let names = vec![in alloc; FieldName::new(alloc, "x")?]?;
+    let dtypes = vec![in alloc; DType::Primitive(PType::I64, NonNullable)]?;
     StructFields::new(alloc, FieldNames::new(alloc, names)?, dtypes)
 }
 
@@ -162,12 +155,14 @@ fn scanned_exprs(alloc: Global, store: &mut MemoryStore) -> Result<ScanReport, S
 /// Whether the two scans, one after the other, report their rows of the store.
 fn scans(alloc: Global, store: Stored) -> bool {
     match store {
-        Some(Ok(mut store)) => {
-            reports(scanned(alloc, &mut store), &[11])
-                && reports(scanned_exprs(alloc, &mut store), &[11, 3])
-        }
+        Some(Ok(mut store)) => scans_both(alloc, &mut store),
         _ => false,
     }
+}
+
+/// The same of a store that is made.
+fn scans_both(alloc: Global, store: &mut MemoryStore) -> bool {
+    reports(scanned(alloc, store), &[11]) && reports(scanned_exprs(alloc, store), &[11, 3])
 }
 
 /// Whether `($.x > 2i64)` is prepared over rows of the column `x`, which it asks.
@@ -187,16 +182,16 @@ fn never(alloc: Global) -> Mem<ExprRef> {
 /// The report of the scan of a block for `$.x`. None where there is no such block, or no report.
 fn block_report(
     alloc: Global,
-    filter: ExprRef,
+    filter: &ExprRef,
     block: u32,
     store: &mut MemoryStore,
-) -> Mem<Option<ScanReport>> {
+) -> Option<ScanReport> {
     if block as usize >= store.zones().lengths().len() {
-        return Ok(None);
+        return None;
     }
-    match scan_block(alloc, &filter, &x(alloc)?, &[], block, store) {
-        Ok(report) => Ok(Some(report)),
-        Err(_) => Ok(None),
+    match x(alloc) {
+        Ok(x) => scan_block(alloc, filter, &x, &[], block, store).ok(),
+        Err(NoMemory) => None,
     }
 }
 
@@ -237,23 +232,27 @@ fn is_read(log: &[ReadEntry], block: u32) -> bool {
 /// Whether the scan of the first block by `($.x > 2i64)` keeps it, with one of its two rows, by one read.
 fn keeps_block(alloc: Global, store: Stored) -> Mem<bool> {
     match store {
-        Some(Ok(mut store)) => {
-            let report = block_report(alloc, above(alloc)?, 0, &mut store)?;
-            Ok(is_kept(report, 0, &[11]) && is_read(store.log(), 0))
-        }
+        Some(Ok(mut store)) => Ok(keeps_first(alloc, &above(alloc)?, &mut store)),
         _ => Ok(false),
     }
+}
+
+/// The same by such a filter of a store that is made.
+fn keeps_first(alloc: Global, filter: &ExprRef, store: &mut MemoryStore) -> bool {
+    is_kept(block_report(alloc, filter, 0, store), 0, &[11]) && is_read(store.log(), 0)
 }
 
 /// Whether the scan of the second block by `(1i64 > 2i64)` skips it, by no read.
 fn skips_block(alloc: Global, store: Stored) -> Mem<bool> {
     match store {
-        Some(Ok(mut store)) => {
-            let report = block_report(alloc, never(alloc)?, 1, &mut store)?;
-            Ok(is_skipped(report, 1) && store.log().is_empty())
-        }
+        Some(Ok(mut store)) => Ok(skips_second(alloc, &never(alloc)?, &mut store)),
         _ => Ok(false),
     }
+}
+
+/// The same by such a filter of a store that is made.
+fn skips_second(alloc: Global, filter: &ExprRef, store: &mut MemoryStore) -> bool {
+    is_skipped(block_report(alloc, filter, 1, store), 1) && store.log().is_empty()
 }
 
 /// A store of a block of two rows and of one.
