@@ -1,24 +1,32 @@
 -- First places of names: noted from the last name to the first, and which names have one.
-use Rattle.std.proofs.Common.{◌≡◌, ℕ, ◌+◌, ◌<◌, Bool, true, false, ◌||◌, cond, List, [], ◌∷◌, length, drop, Option, Some, None, is_some, position, refl, ap, sym, ◌∙◌}
+use Rattle.std.proofs.Common.{◌≡◌, ℕ, ◌+◌, ◌<◌, ◌≤◌, true, false, ◌||◌, cond, List, [], ◌∷◌, length, drop, Option, Some, None, is_some, position, refl, ap, sym, ◌∙◌}
 use Rattle.std.proofs.Math.ListN.{get_or}
 use Rattle.std.proofs.lemmas.Iterator.Adapters.{position_from-zero}
+use Rattle.std.proofs.lemmas.List.{drop_all}
+use Rattle.std.proofs.lemmas.Map.Text.{is_eq-slice_cmp}
+use Rattle.std.specs.Cmp.Lexicographic.{slice_cmp}
 use Rattle.std.specs.List.{position_from}
+use Rattle.std.specs.Ordering.{nat_cmp, is_eq}
 use Rattle.std.specs.Str.{bytes_eq}
 use Rattle.vx_dtype.proofs.DistinctLemmas.{names-from}
 use Rattle.vx_dtype.specs.EqualLaws.{bytes_eq_equiv}
 use Rattle.vx_dtype.specs.TypeRules.{has_name}
 use Rattle.vx_dtype.specs.Types.{Bytes}
 
+-- nothing is noted behind the last name
+pub none_noted : (names : List Bytes) (left : ℕ) (f : Bytes) (noted : Option ℕ) → length names ≤ left → noted ≡ None → noted ≡ position_from (bytes_eq f) left (drop left names)
+none_noted names left f noted past e = e ∙ ap (position_from (bytes_eq f) left) (sym (drop_all left names past))
+
 -- the place of the name at an index is noted over those of the names behind it
 pub one_more_noted : (names : List Bytes) (i left : ℕ) (g f : Bytes) (was now : Option ℕ) → i + 1 ≡ left → i < length names → g ≡ get_or names i g
     → was ≡ position_from (bytes_eq f) left (drop left names)
-    → now ≡ cond (bytes_eq g f) (Some i) was
+    → now ≡ cond (is_eq (slice_cmp nat_cmp g f)) (Some i) was
     → now ≡ position_from (bytes_eq f) i (drop i names)
 one_more_noted names i left g f was now next within is so_far e =
     let rest = position_from (bytes_eq f) left (drop left names) in
     let here : position_from (bytes_eq f) i (drop i names) ≡ cond (bytes_eq f g) (Some i) rest =
     ap (position_from (bytes_eq f) i) (names-from names i g within is) ∙ ap (λ k. cond (bytes_eq f g) (Some i) (position_from (bytes_eq f) k (drop k names))) next in
-    e ∙ ap (λ b. cond b (Some i) was) (bytes_eq_equiv.symm g f) ∙ ap (cond (bytes_eq f g) (Some i)) so_far ∙ sym here
+    e ∙ ap (λ b. cond b (Some i) was) (is_eq-slice_cmp g f ∙ bytes_eq_equiv.symm g f) ∙ ap (cond (bytes_eq f g) (Some i)) so_far ∙ sym here
 
 -- from the first name on the first places are
 pub all_noted : (names : List Bytes) (left : ℕ) (f : Bytes) (noted : Option ℕ) → left ≡ 0 → noted ≡ position_from (bytes_eq f) left (drop left names) → noted ≡ position (bytes_eq f) names

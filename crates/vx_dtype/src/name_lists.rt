@@ -1,29 +1,34 @@
-// Names in order, with the first place of each where they are many: so that a name costs one look-up, however many there are.
+// Names in order, with the first place of each where they are many: so that a name costs one look-up, however many there are. The map is an ordered one: no
+// chosen names make a list of it.
 ghost use Rattle.std.specs.Prelude.{◌≡◌, position, IfOk};
-ghost use Rattle.std.specs.HashMap.{get};
+ghost use Rattle.std.specs.BTreeMap.{get};
+ghost use Rattle.std.specs.Cmp.Lexicographic.{slice_cmp};
+ghost use Rattle.std.specs.Ordering.{nat_cmp};
 ghost use Rattle.std.specs.Str.{bytes_eq};
 ghost use Rattle.vx_dtype.specs.Types.{Bytes};
 
 use crate::memory::Mem;
 use crate::names::FieldName;
 use std::alloc::Global;
-use std::collections::HashMap;
+use std::collections::BTreeMap;
 use std::fmt;
 use std::marker::Model;
 
-/// How many names are few: among these a name is found sooner by comparing it with each than by its hash.
+/// How many names are few: among these a name is found sooner by comparing it with each than in a map.
 const FEW_NAMES: usize = 16;
 
 /// Names in order, and the first place of each where they aren't few. They are seen as their list.
 #[derive(Drop)]
 pub(crate) struct NameList {
     names: Vec<FieldName>,
-    places: Option<HashMap<FieldName, usize>>,
+    places: Option<BTreeMap<FieldName, usize>>,
 }
 
 impl Model for NameList {
     ghost use Rattle.std.specs.Prelude.{◌≡◌, ℕ, List, position, IfSome};
-    ghost use Rattle.std.specs.HashMap.{get};
+    ghost use Rattle.std.specs.BTreeMap.{get};
+    ghost use Rattle.std.specs.Cmp.Lexicographic.{slice_cmp};
+    ghost use Rattle.std.specs.Ordering.{nat_cmp};
     ghost use Rattle.std.specs.Str.{bytes_eq};
 
     ghost Value = { List (List ℕ) };
@@ -31,7 +36,7 @@ impl Model for NameList {
     ghost view = { λ list. list.names.items };
 
     ghost invariant = { λ list. IfSome list.places (λ places.
-        (name : List ℕ) → get bytes_eq places name ≡ position (bytes_eq name) list.names.items) };
+        (name : List ℕ) → get (slice_cmp nat_cmp) places name ≡ position (bytes_eq name) list.names.items) };
 }
 
 impl NameList {
@@ -81,10 +86,10 @@ impl fmt::Debug for NameList {
 }
 
 /// The place of the first name that equals each of these: from the last to the first, so that an earlier place takes that of a later one.
-fn first_places(alloc: Global, names: &[FieldName]) -> Mem<HashMap<FieldName, usize>>
-    ensures { IfOk result (λ places. (name : Bytes) → get bytes_eq places name ≡ position (bytes_eq name) names.now) }
+fn first_places(alloc: Global, names: &[FieldName]) -> Mem<BTreeMap<FieldName, usize>>
+    ensures { IfOk result (λ places. (name : Bytes) → get (slice_cmp nat_cmp) places name ≡ position (bytes_eq name) names.now) }
 {
-    let mut places = HashMap::with_capacity(alloc, names.len())?;
+    let mut places = BTreeMap::new(alloc);
     let mut left = names.len();
     while left > 0 {
         left -= 1;

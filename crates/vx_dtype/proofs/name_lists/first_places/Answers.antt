@@ -1,9 +1,17 @@
-use Rattle.std.proofs.Common.{◌≡◌, List, ℕ, subst, ◌+◌, ◌-◌, ◌<◌, length, sym, arith}
+use Rattle.std.proofs.Common.{◌≡◌, List, ℕ, subst, ◌+◌, ◌-◌, ◌<◌, length, ap, sym, arith}
 use Rattle.std.proofs.Math.ListN.{get_or}
-use Rattle.std.specs.HashMap.{get}
-use Rattle.std.specs.Str.{bytes_eq}
-use Rattle.vx_dtype.proofs.PlaceLemmas.{one_more_noted, all_noted}
+use Rattle.std.specs.BTreeMap.{get, is_at}
+use Rattle.std.specs.Cmp.Lexicographic.{slice_cmp}
+use Rattle.std.specs.Map.{lookup}
+use Rattle.std.specs.Ordering.{nat_cmp}
+use Rattle.vx_dtype.proofs.PlaceLemmas.{none_noted, one_more_noted, all_noted}
 use Rattle.vx_dtype.proofs.name_lists.first_places.Goals as goal
+
+pub loop-left-init : goal.loop-left-init
+loop-left-init c =
+    let names = c.args.names.now in
+    (omega arith, λ f. none_noted names (length names) f (get (slice_cmp nat_cmp) c.new-places.result f) (omega arith)
+        (ap (lookup (is_at (slice_cmp nat_cmp f))) c.new-places.ensures.empty))
 
 pub loop-left-preserved : goal.loop-left-preserved
 loop-left-preserved c =
@@ -15,9 +23,9 @@ loop-left-preserved c =
     let within : i < length names = omega (arith, c.loop-left-test.true, l.invariant.0) in
     let is : g ≡ get_or names i g = subst (λ (h : List ℕ). h ≡ get_or names i h) (sym c.in_ok-clone.ensures.cases) c.index-names-left.is in (
       omega (arith, l.invariant.0),
-      λ f. one_more_noted names i l.left g f (get bytes_eq l.places f) (get bytes_eq c.insert.new.self f) next within is (l.invariant.1 f) (c.in_ok-insert.ensures.updates.0 f),
+      λ f. one_more_noted names i l.left g f (get (slice_cmp nat_cmp) l.places f) (get (slice_cmp nat_cmp) c.insert.new.self f) next within is (l.invariant.1 f) (c.in_ok-insert.ensures.updates.0 f),
     )
 
 pub returns : goal.returns
 returns c = λ f.
-    all_noted c.args.names.now c.loop-left.left f (get bytes_eq c.loop-left.places f) (omega (arith, c.loop-left-test.false)) (c.loop-left.invariant.1 f)
+    all_noted c.args.names.now c.loop-left.left f (get (slice_cmp nat_cmp) c.loop-left.places f) (omega (arith, c.loop-left-test.false)) (c.loop-left.invariant.1 f)

@@ -1,6 +1,8 @@
 use Rattle.std.proofs.Common.{◌≡◌, List, ℕ, drop, length, ◌≤◌}
-use Rattle.std.specs.HashMap.{get}
+use Rattle.std.specs.BTreeMap.{get}
+use Rattle.std.specs.Cmp.Lexicographic.{slice_cmp}
 use Rattle.std.specs.List.{position_from}
+use Rattle.std.specs.Ordering.{nat_cmp}
 use Rattle.std.specs.Str.{bytes_eq}
 use Rattle.vx_dtype.proofs.name_lists.first_places.Given as goal
 
@@ -8,7 +10,7 @@ use Rattle.vx_dtype.proofs.name_lists.first_places.Given as goal
 abbrev pub invariant-loop-left : goal.invariant-loop-left
 invariant-loop-left l =
     (l.left ≤ length l.fn.names)
-    × ((name : List ℕ) → get bytes_eq l.places name ≡ position_from (bytes_eq name) l.left (drop l.left l.fn.names))
+    × ((name : List ℕ) → get (slice_cmp nat_cmp) l.places name ≡ position_from (bytes_eq name) l.left (drop l.left l.fn.names))
 
 -- how many names are left to note
 abbrev pub decreases-loop-left : goal.decreases-loop-left

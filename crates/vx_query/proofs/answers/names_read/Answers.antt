@@ -1,4 +1,4 @@
-use Rattle.std.proofs.Common.{◌≡◌, ◌∙◌, true, cond, sym, ap, subst, List, ℕ, map, take}
+use Rattle.std.proofs.Common.{◌≡◌, ◌∙◌, true, cond, ap, subst, map}
 use Rattle.std.proofs.lemmas.List.{take_all}
 use Rattle.std.specs.HashSet.{contains}
 use Rattle.std.specs.List.{list_any}
