@@ -9,9 +9,11 @@ use Rattle.vx_dtype.proofs.name_lists.first_places.Goals as goal
 
 pub loop-left-init : goal.loop-left-init
 loop-left-init c =
-    let names = c.args.names.now in
-    (omega arith, λ f. none_noted names (length names) f (get (slice_cmp nat_cmp) c.new-places.result f) (omega arith)
-        (ap (lookup (is_at (slice_cmp nat_cmp f))) c.new-places.ensures.empty))
+    let names = c.args.names.now in (
+      omega arith,
+      λ f. none_noted names (length names) f (get (slice_cmp nat_cmp) c.new-places.result f) (omega arith)
+          (ap (lookup (is_at (slice_cmp nat_cmp f))) c.new-places.ensures.empty),
+    )
 
 pub loop-left-preserved : goal.loop-left-preserved
 loop-left-preserved c =
