@@ -1,5 +1,5 @@
-use Rattle.std.proofs.Common.{◌≡◌, true, false, cond, not, sym, ap, subst, ◌∙◌, ◌++◌, [], ◌∷◌}
-use Rattle.std.specs.Prelude.{OnFalse}
+use Rattle.std.proofs.Common.{◌≡◌, true, false, cond, sym, ap, subst, ◌∙◌, ◌++◌, [], ◌∷◌}
+use Rattle.std.specs.Bool.{OnFalse}
 use Rattle.std.specs.HashSet.{contains, IsUnchanged}
 use Rattle.std.specs.List.{list_any}
 use Rattle.vx_dtype.proofs.DistinctLemmas.{found, not_found}
