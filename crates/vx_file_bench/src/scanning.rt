@@ -4,7 +4,7 @@ ghost use Rattle.vx_file_scan.specs.FirstFailures.{IsUnread};
 
 use anyhow::{Result, bail};
 use std::alloc::Global;
-use std::fs;
+use std::fs::{self, File};
 use std::time::Instant;
 use vx_file::{BlockFile, open_file};
 use vx_file_disk::FileRange;
@@ -56,9 +56,7 @@ fn time_opening(rt: &HostRuntime, path: &str) -> Result<BlockFile<FileRange>>
 fn opened(rt: &HostRuntime, path: &str) -> Result<BlockFile<FileRange>>
     ensures { IfOk result (λ file. IsUnread file) }
 {
-    let Ok(source) = FileRange::open(rt, path) else {
-        bail!("no file");
-    };
+    let source = FileRange::new(File::open(rt, path)?);
     match open_file(rt.alloc(), source) {
         Ok(file) => Ok(file),
         Err(refused) => bail!("{:?}", refused.error),

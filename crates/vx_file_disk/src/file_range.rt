@@ -1,15 +1,10 @@
 // A file of the operating system as a source that is read by places.
-ghost use Rattle.std.specs.Prelude.{◌≡◌, None, IfOk};
+ghost use Rattle.std.specs.Prelude.{◌≡◌, None};
 
 use std::fmt;
 use std::fs::File;
 use std::os::unix::fs::FileExt;
-use std::rt::Files;
 use vx_file_ranges::{RangeFailed, Ranged};
-
-/// A file can't be opened for reading.
-#[derive(PartialEq, Eq, Debug, Drop)]
-pub struct OpenFailed;
 
 /// A file of the operating system as a source. It tells no bytes, since others may write to it, and counts its errors. A read gives what one call of the
 /// system gives, at the place that is asked, and leaves the position of the file where it is.
@@ -29,21 +24,11 @@ impl fmt::Debug for FileRange {
 }
 
 impl FileRange {
-    /// A file that is open as a source, without faults so far.
+    /// A file that is open for reading, as `File::open` gives it, as a source without faults so far.
     pub fn new(file: File) -> FileRange
         ensures { result.faults ≡ 0 }
     {
         FileRange { file, faults: 0 }
-    }
-
-    /// The file at a path as a source, without faults so far. It is opened for reading alone; refused where the system doesn't open it.
-    pub fn open<R: Files<File = File>>(files: &R, path: &str) -> Result<FileRange, OpenFailed>
-        ensures { IfOk result (λ range. range.faults ≡ 0) }
-    {
-        match File::open(files, path) {
-            Ok(file) => Ok(FileRange::new(file)),
-            Err(_) => Err(OpenFailed),
-        }
     }
 
     /// How many reads failed; at 2^64 - 1 the count stays.

@@ -3,4 +3,4 @@
 
 mod file_range;
 
-pub use file_range::{FileRange, OpenFailed};
+pub use file_range::FileRange;
