@@ -1,11 +1,11 @@
 -- The laws of the common type of integer types.
-use Rattle.std.proofs.Common.{◌≡◌, refl, ap, sym, ◌∙◌, subst, ℤ, pos, negsuc, ◌≤ℤ◌, Bool, true, false, cond, not, ◌&&◌, ◌||◌, List, [], ◌∷◌, Option, Some, None, int_le, arith}
+use Rattle.std.proofs.Common.{◌≡◌, refl, subst, ℤ, Bool, true, false, cond, not, ◌&&◌, ◌||◌, List, [], ◌∷◌, Option, Some, None, int_le, arith}
 use Rattle.std.specs.Prelude.{MatchOption}
 use Rattle.std.proofs.lemmas.Int.{ints}
 use Rattle.std.proofs.lemmas.Bool.{and_parts, and_from}
 use Rattle.vx_dtype.specs.declared.PType.{PType}
 use Rattle.vx_dtype.specs.declared.PType.TheVariants.{U8, U16, U32, U64, I8, I16, I32, I64}
-use Rattle.vx_dtype.specs.Fits.{least, greatest, in_range}
+use Rattle.vx_dtype.specs.Fits.{least, greatest}
 use Rattle.vx_laws_sql.specs.CommonTypes.{holds_type, by_width, first_where, common_type, common_of_three}
 use Rattle.vx_laws_sql.specs.TypeLaws.{HeldNumbersFit, CommonTypeHoldsBoth, CommonTypeIsNarrowest}
 
@@ -48,7 +48,8 @@ common_of_three-holds p q r c h =
 abbrev every : (PType → Bool) → Bool
 every test = test U8 && (test U16 && (test U32 && (test U64 && (test I8 && (test I16 && (test I32 && test I64))))))
 
-every-of : (test : PType → Bool) → test U8 ≡ true → test U16 ≡ true → test U32 ≡ true → test U64 ≡ true → test I8 ≡ true → test I16 ≡ true → test I32 ≡ true → test I64 ≡ true
+every-of : (test : PType → Bool) → test U8 ≡ true → test U16 ≡ true → test U32 ≡ true → test U64 ≡ true → test I8 ≡ true → test I16 ≡ true → test I32 ≡ true
+    → test I64 ≡ true
     → (p : PType) → test p ≡ true
 every-of test a b c d e f g h U8 = a
 every-of test a b c d e f g h U16 = b

@@ -1,35 +1,34 @@
 -- What comparisons and sums mean.
-use Rattle.std.proofs.Common.{◌≡◌, ℤ, refl, ap, sym, ◌∙◌, subst, Bool, true, false, cond, ◌&&◌, Option, Some, None, Result, Ok, Err}
+use Rattle.std.proofs.Common.{◌≡◌, ℤ, refl, ap, sym, ◌∙◌, subst, Bool, true, false, cond, Option, Some, None, Ok}
 use Rattle.std.specs.Prelude.{◌+ℤ◌, ◌-ℤ◌}
-use Rattle.std.proofs.lemmas.Bool.{and_parts, and_from}
+use Rattle.std.proofs.lemmas.Bool.{and_parts}
 use Rattle.vx_dtype.specs.declared.PType.{PType}
-use Rattle.vx_dtype.specs.declared.PType.TheVariants.{I64}
 use Rattle.vx_dtype.specs.declared.Nullability.{Nullability}
-use Rattle.vx_dtype.specs.declared.Nullability.TheVariants.{NonNullable, Nullable}
+use Rattle.vx_dtype.specs.declared.Nullability.TheVariants.{NonNullable}
 use Rattle.vx_dtype.specs.declared.CompareOperator.{CompareOperator}
-use Rattle.vx_dtype.specs.Types.{Ty, bool_ty, int_ty, text_ty, list_ty, struct_ty}
-use Rattle.vx_dtype.specs.TypeRules.{union, nullability_of, with_nullability, same_ptype, is_plain, is_int_ty}
-use Rattle.vx_dtype.specs.Values.{Raw, raw_null, raw_int, Val, null_val, bool_val, int_val, text_val, list_val, struct_val, fault, valued}
+use Rattle.vx_dtype.specs.Types.{Ty, int_ty}
+use Rattle.vx_dtype.specs.TypeRules.{nullability_of, with_nullability, same_ptype, is_int_ty}
+use Rattle.vx_dtype.specs.Values.{raw_int, Val, null_val, bool_val, int_val, text_val, list_val, struct_val, fault, valued}
 use Rattle.vx_dtype.specs.Fits.{in_range, fits_but_for_faults}
 use Rattle.vx_dtype.specs.Order.{compare3}
 use Rattle.vx_dtype.specs.Sums.{int_in, add3, sub3}
-use Rattle.vx_dtype.specs.Casts.{cast3}
 use Rattle.vx_expr.specs.declared.Operator.{Operator}
 use Rattle.vx_expr.specs.Operators.{operator_of}
-use Rattle.vx_expr.specs.Trees.{Tree, literal, binary, cast}
-use Rattle.vx_semantics.specs.Typing.{union_of, typed_of}
+use Rattle.vx_expr.specs.Trees.{Tree, binary, cast}
+use Rattle.vx_semantics.specs.Typing.{union_of}
 use Rattle.vx_semantics.specs.Meaning.{Slots, binary3, mean}
 use Rattle.vx_semantics.specs.Slots.{slots_fit}
 use Rattle.vx_laws.proofs.Comparing.{same_ptype-same, binary3-operator_of}
 use Rattle.vx_laws.proofs.Preserving.{meaning_fits}
 use Rattle.vx_laws_sql.specs.CommonTypes.{holds_type, common_type}
-use Rattle.vx_laws_sql.specs.Operands.{TypedTree, Operand, known, number, untyped_null, Mismatch, no_number, ◌>>=◌, where_it, type_alone, constant, null_of, number_in, taking, alone, ptype_of, in_wider, widened_to, in_common, matched_by, matched, both}
-use Rattle.vx_laws_sql.specs.Forms.{truth_of, comparison, sum_node, sum_by, sum, difference}
+use Rattle.vx_laws_sql.specs.Operands.{TypedTree, Operand, known, number, untyped_null, no_number, where_it, type_alone, constant, null_of, taking, ptype_of}
+use Rattle.vx_laws_sql.specs.Operands.{in_wider, widened_to, in_common, matched_by, both}
+use Rattle.vx_laws_sql.specs.Forms.{truth_of, sum_node, sum_by}
 use Rattle.vx_laws_sql.specs.Typing.{HasItsType, IsTyped}
 use Rattle.vx_laws_sql.specs.Meaning.{plain_number, value_at, IsAt, ComparisonsMean, arithmetic, SumsMean, DifferencesMean}
 use Rattle.vx_laws_sql.proofs.Steps.{stepped, passed, same_answer}
 use Rattle.vx_laws_sql.proofs.Common.{common_holds_both}
-use Rattle.vx_laws_sql.proofs.Typed.{IsNumberIn, number_across-is, taking-typed, ptype_of-is, alike_pair-is, both-is, both-matches}
+use Rattle.vx_laws_sql.proofs.Typed.{number_across-is, taking-typed, ptype_of-is, alike_pair-is, both-is, both-matches}
 use Rattle.vx_laws_sql.proofs.Numbers.{untyped, compare3-alike, cast-alike, arithmetic-alike}
 
 pub IsAt-IsTyped : (t : Ty) (slots : Slots) (o : Operand) → IsAt t slots o → IsTyped t o
@@ -50,13 +49,16 @@ null-stands : (t : Ty) (slots : Slots) (row : Val) (u : Ty) → Stands t slots r
 unfolding mean valued slots_fit
 null-stands t slots row u = record { slots_are = refl; means = refl }
 
-pub taking-stands : (t : Ty) (slots : Slots) (row : Val) (other o : Operand) (a : TypedTree) → IsAt t slots o → taking other o ≡ Ok a → Stands t slots row (value_at t slots row o) a
-taking-stands t slots row other (known e) a at h = subst (λ (z : TypedTree). Stands t slots row (mean t slots row e.tree) z) (same_answer (Ok e) e a refl h) (record { slots_are = at.1; means = refl })
+pub taking-stands : (t : Ty) (slots : Slots) (row : Val) (other o : Operand) (a : TypedTree) → IsAt t slots o → taking other o ≡ Ok a
+    → Stands t slots row (value_at t slots row o) a
+taking-stands t slots row other (known e) a at h = subst (λ (z : TypedTree). Stands t slots row (mean t slots row e.tree) z) (same_answer (Ok e) e a refl h)
+    (record { slots_are = at.1; means = refl })
 taking-stands t slots row other (number i) a at h =
     let k = number_across-is other i (type_alone other) a h in
     subst (λ (z : TypedTree). Stands t slots row (plain_number i) z) k.number.is (constant-stands t slots row k.ptype i)
 taking-stands t slots row other untyped_null a at h =
-    subst (λ (z : TypedTree). Stands t slots row null_val z) (same_answer (Ok (null_of (type_alone other))) (null_of (type_alone other)) a refl h) (null-stands t slots row (type_alone other))
+    subst (λ (z : TypedTree). Stands t slots row null_val z) (same_answer (Ok (null_of (type_alone other))) (null_of (type_alone other)) a refl h)
+    (null-stands t slots row (type_alone other))
 
 -- a typed expression in a wider integer type
 wider-stands : (t : Ty) (slots : Slots) (row : Val) (c p : PType) (n : Nullability) (e : Tree) (b : Bool) → holds_type c p ≡ true → slots_fit slots e ≡ true
@@ -66,7 +68,8 @@ unfolding mean slots_fit
 wider-stands t slots row c p n e true h s k = record { slots_are = s; means = refl }
 wider-stands t slots row c p n e false h s k = record { slots_are = s; means = cast-alike c p n (mean t slots row e) h k }
 
-in_wider-stands : (t : Ty) (slots : Slots) (row : Val) (c p : PType) (n : Nullability) (u : Ty) (e : Tree) → u ≡ int_ty p n → holds_type c p ≡ true → slots_fit slots e ≡ true
+in_wider-stands : (t : Ty) (slots : Slots) (row : Val) (c p : PType) (n : Nullability) (u : Ty) (e : Tree) → u ≡ int_ty p n → holds_type c p ≡ true
+    → slots_fit slots e ≡ true
     → fits_but_for_faults (mean t slots row e) u ≡ true → Stands t slots row (mean t slots row e) (in_wider c u e)
 in_wider-stands t slots row c p n u e is h s k =
     subst (λ (z : Ty). Stands t slots row (mean t slots row e) (in_wider c z e)) (sym is)
@@ -77,10 +80,12 @@ pub record IsSound (t : Ty) (slots : Slots) (row : Val) (a : TypedTree) : Type 0
   pub slots_are : slots_fit slots a.tree ≡ true
   pub fits : fits_but_for_faults (mean t slots row a.tree) a.ty ≡ true
 
-pub is_sound : (t : Ty) (slots : Slots) (row : Val) (a : TypedTree) → fits_but_for_faults row t ≡ true → HasItsType t a → slots_fit slots a.tree ≡ true → IsSound t slots row a
+pub is_sound : (t : Ty) (slots : Slots) (row : Val) (a : TypedTree) → fits_but_for_faults row t ≡ true → HasItsType t a → slots_fit slots a.tree ≡ true
+    → IsSound t slots row a
 is_sound t slots row a row_fits has s = record { slots_are = s; fits = meaning_fits t slots row a.tree a.ty row_fits s has }
 
-pub widened_to-stands : (t : Ty) (slots : Slots) (row : Val) (c p : PType) (a : TypedTree) → ptype_of a.ty ≡ Some p → holds_type c p ≡ true → IsSound t slots row a
+pub widened_to-stands : (t : Ty) (slots : Slots) (row : Val) (c p : PType) (a : TypedTree) → ptype_of a.ty ≡ Some p → holds_type c p ≡ true
+    → IsSound t slots row a
     → Stands t slots row (mean t slots row a.tree) (widened_to c a)
 widened_to-stands t slots row c p a is h k = in_wider-stands t slots row c p (nullability_of a.ty) a.ty a.tree (ptype_of-is a.ty p is) h k.slots_are k.fits
 
@@ -99,19 +104,22 @@ in_common-stand t slots row p q (Some c) a b x common ep eq ha hb h =
     (record { left = widened_to-stands t slots row c p a ep holds.0 ha; right = widened_to-stands t slots row c q b eq holds.1 hb })
 in_common-stand t slots row p q None a b x common ep eq ha hb h = let no : ⊥ = cc (h) in absurd no
 
-alike_pair-stand : (t : Ty) (slots : Slots) (row : Val) (a b : TypedTree) (x : TypedTree × TypedTree) → IsSound t slots row a → IsSound t slots row b → (a, b) ≡ x
+alike_pair-stand : (t : Ty) (slots : Slots) (row : Val) (a b : TypedTree) (x : TypedTree × TypedTree) → IsSound t slots row a → IsSound t slots row b
+    → (a, b) ≡ x
     → StandBoth t slots row (mean t slots row a.tree) (mean t slots row b.tree) x
 alike_pair-stand t slots row a b x ha hb is =
     subst (λ (z : TypedTree × TypedTree). StandBoth t slots row (mean t slots row a.tree) (mean t slots row b.tree) z) is
     (record { left = record { slots_are = ha.slots_are; means = refl }; right = record { slots_are = hb.slots_are; means = refl } })
 
-matched_by-stand : (t : Ty) (slots : Slots) (row : Val) (p q : Option PType) (a b : TypedTree) (x : TypedTree × TypedTree) → ptype_of a.ty ≡ p → ptype_of b.ty ≡ q
+matched_by-stand : (t : Ty) (slots : Slots) (row : Val) (p q : Option PType) (a b : TypedTree) (x : TypedTree × TypedTree) → ptype_of a.ty ≡ p
+    → ptype_of b.ty ≡ q
     → IsSound t slots row a → IsSound t slots row b → matched_by p q a b ≡ Ok x → StandBoth t slots row (mean t slots row a.tree) (mean t slots row b.tree) x
 matched_by-stand t slots row (Some p) (Some q) a b x ep eq ha hb h = in_common-stand t slots row p q (common_type p q) a b x refl ep eq ha hb h
 matched_by-stand t slots row None q a b x ep eq ha hb h = alike_pair-stand t slots row a b x ha hb (alike_pair-is a b x h).is
 matched_by-stand t slots row (Some p) None a b x ep eq ha hb h = alike_pair-stand t slots row a b x ha hb (alike_pair-is a b x h).is
 
-pub both-stand : (t : Ty) (slots : Slots) (row : Val) (l r : Operand) (x : TypedTree × TypedTree) → fits_but_for_faults row t ≡ true → IsAt t slots l → IsAt t slots r → both l r ≡ Ok x
+pub both-stand : (t : Ty) (slots : Slots) (row : Val) (l r : Operand) (x : TypedTree × TypedTree) → fits_but_for_faults row t ≡ true → IsAt t slots l
+    → IsAt t slots r → both l r ≡ Ok x
     → StandBoth t slots row (value_at t slots row l) (value_at t slots row r) x
 both-stand t slots row l r x row_fits hl hr h =
     let k = both-is l r x h in
@@ -125,7 +133,8 @@ both-stand t slots row l r x row_fits hl hr h =
       right = record { slots_are = m.right.slots_are; means = m.right.means ∙ b.means };
     }
 
-mean-compare : (t : Ty) (slots : Slots) (row : Val) (op : CompareOperator) (a b : Tree) → mean t slots row (binary a (operator_of op) b) ≡ compare3 op (mean t slots row a) (mean t slots row b)
+mean-compare : (t : Ty) (slots : Slots) (row : Val) (op : CompareOperator) (a b : Tree)
+    → mean t slots row (binary a (operator_of op) b) ≡ compare3 op (mean t slots row a) (mean t slots row b)
 unfolding mean
 mean-compare t slots row op a b = binary3-operator_of op (mean t slots row a) (mean t slots row b)
 
@@ -142,7 +151,8 @@ comparisons_mean op t slots row l r x row_fits hl hr h =
 
 -- ---- sums
 
-add-arithmetic : (c : PType) (n m : Nullability) (v w : Val) → fits_but_for_faults v (int_ty c n) ≡ true → add3 v w ≡ arithmetic (λ a b. a +ℤ b) (int_ty c m) v w
+add-arithmetic : (c : PType) (n m : Nullability) (v w : Val) → fits_but_for_faults v (int_ty c n) ≡ true
+    → add3 v w ≡ arithmetic (λ a b. a +ℤ b) (int_ty c m) v w
 unfolding fits_but_for_faults
 add-arithmetic c n m (int_val q i) (int_val r j) h = ap (λ (z : PType). int_in z (i +ℤ j)) (same_ptype-same q c (and_parts (same_ptype q c) (in_range c i) h).0)
 add-arithmetic c n m (int_val q i) null_val h = refl
@@ -161,7 +171,8 @@ add-arithmetic c n m null_val fault h = refl
 add-arithmetic c n m fault w h = refl
 add-arithmetic c n m _ w h = let no : ⊥ = cc (h) in absurd no
 
-sub-arithmetic : (c : PType) (n m : Nullability) (v w : Val) → fits_but_for_faults v (int_ty c n) ≡ true → sub3 v w ≡ arithmetic (λ a b. a -ℤ b) (int_ty c m) v w
+sub-arithmetic : (c : PType) (n m : Nullability) (v w : Val) → fits_but_for_faults v (int_ty c n) ≡ true
+    → sub3 v w ≡ arithmetic (λ a b. a -ℤ b) (int_ty c m) v w
 unfolding fits_but_for_faults
 sub-arithmetic c n m (int_val q i) (int_val r j) h = ap (λ (z : PType). int_in z (i -ℤ j)) (same_ptype-same q c (and_parts (same_ptype q c) (in_range c i) h).0)
 sub-arithmetic c n m (int_val q i) null_val h = refl
@@ -182,14 +193,17 @@ sub-arithmetic c n m _ w h = let no : ⊥ = cc (h) in absurd no
 
 -- an operator on two values of an integer type is a rule on their numbers
 abbrev pub IsArithmetic : Operator → (ℤ → ℤ → ℤ) → Type 0
-IsArithmetic op rule = (c : PType) (n m : Nullability) (v w : Val) → fits_but_for_faults v (int_ty c n) ≡ true → binary3 op v w ≡ arithmetic rule (int_ty c m) v w
+IsArithmetic op rule = (c : PType) (n m : Nullability) (v w : Val) → fits_but_for_faults v (int_ty c n) ≡ true
+    → binary3 op v w ≡ arithmetic rule (int_ty c m) v w
 
-in_int_type : (op : Operator) (rule : ℤ → ℤ → ℤ) → IsArithmetic op rule → (u : Ty) (m : Nullability) (v w : Val) → is_int_ty u ≡ true → fits_but_for_faults v u ≡ true
+in_int_type : (op : Operator) (rule : ℤ → ℤ → ℤ) → IsArithmetic op rule → (u : Ty) (m : Nullability) (v w : Val) → is_int_ty u ≡ true
+    → fits_but_for_faults v u ≡ true
     → binary3 op v w ≡ arithmetic rule (with_nullability u m) v w
 in_int_type op rule is (int_ty c n) m v w h k = is c n m v w k
 in_int_type op rule is _ m v w h k = let no : ⊥ = cc (h) in absurd no
 
-pub mean-binary : (t : Ty) (slots : Slots) (row : Val) (op : Operator) (a b : Tree) → mean t slots row (binary a op b) ≡ binary3 op (mean t slots row a) (mean t slots row b)
+pub mean-binary : (t : Ty) (slots : Slots) (row : Val) (op : Operator) (a b : Tree)
+    → mean t slots row (binary a op b) ≡ binary3 op (mean t slots row a) (mean t slots row b)
 unfolding mean
 mean-binary t slots row op a b = refl
 

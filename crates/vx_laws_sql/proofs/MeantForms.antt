@@ -1,29 +1,31 @@
 -- What connectives, null tests, patterns, casts and ranges mean.
-use Rattle.std.proofs.Common.{◌≡◌, ℤ, refl, ap, sym, ◌∙◌, subst, Bool, true, false, cond, Option, Some, None, Result, Ok, Err}
+use Rattle.std.proofs.Common.{◌≡◌, ℤ, refl, ap, sym, ◌∙◌, subst, Bool, true, false, cond, Option, Some, None, Ok}
 use Rattle.vx_dtype.specs.declared.PType.{PType}
 use Rattle.vx_dtype.specs.declared.PType.TheVariants.{I64}
 use Rattle.vx_dtype.specs.declared.Nullability.{Nullability}
 use Rattle.vx_dtype.specs.declared.Nullability.TheVariants.{NonNullable, Nullable}
-use Rattle.vx_dtype.specs.declared.CompareOperator.TheVariants.{Gt, Gte, Lt, Lte}
+use Rattle.vx_dtype.specs.declared.CompareOperator.TheVariants.{Gte, Lt, Lte}
 use Rattle.vx_dtype.specs.Types.{Ty, bool_ty, int_ty, text_ty, list_ty, struct_ty}
-use Rattle.vx_dtype.specs.TypeRules.{union, is_nullable, nullability_of, widened, is_plain, is_bool_ty, is_text_ty}
-use Rattle.vx_dtype.specs.Values.{Raw, raw_null, raw_int, Val, null_val, bool_val, int_val, text_val, list_val, struct_val, fault, valued}
-use Rattle.vx_dtype.specs.Fits.{in_range, fits, fits_but_for_faults}
+use Rattle.vx_dtype.specs.TypeRules.{is_nullable, nullability_of, widened, is_plain, is_bool_ty, is_text_ty}
+use Rattle.vx_dtype.specs.Values.{raw_int, Val, null_val, bool_val, int_val, text_val, fault, valued}
+use Rattle.vx_dtype.specs.Fits.{fits, fits_but_for_faults}
 use Rattle.vx_dtype.specs.Logic.{and3, or3, not3, is_null3}
 use Rattle.vx_dtype.specs.Like.{like3}
-use Rattle.vx_dtype.specs.Order.{compare3, between3}
+use Rattle.vx_dtype.specs.Order.{compare3}
 use Rattle.vx_dtype.specs.Casts.{takes_cast, cast3}
 use Rattle.vx_expr.specs.declared.Operator.{Operator}
-use Rattle.vx_expr.specs.Trees.{Tree, literal, binary, not_of, is_null_of, like, between, cast}
+use Rattle.vx_expr.specs.Trees.{Tree, not_of, is_null_of, like, cast}
 use Rattle.vx_semantics.specs.Meaning.{Slots, binary3, mean}
-use Rattle.vx_semantics.specs.Slots.{slots_fit}
 use Rattle.vx_laws.proofs.Kleene.{not3-and3}
 use Rattle.vx_laws.proofs.Comparing.{compare3-swap, not3-compare3}
 use Rattle.vx_laws.proofs.Fitting.{is_nullable-right}
-use Rattle.vx_laws_sql.specs.CommonTypes.{holds_type, common_of_three}
-use Rattle.vx_laws_sql.specs.Operands.{TypedTree, Operand, known, number, untyped_null, no_boolean, no_text, no_cast, where_it, constant, null_of, ptype_of, widened_to, taking, alone}
-use Rattle.vx_laws_sql.specs.Forms.{as_boolean, as_text, connective, negation, null_test, not_null_test, pattern_test, InRange, three_in_common, three_matched_by, both_count, range_node, ranged, first_known, range_test, cast_node, cast_to}
-use Rattle.vx_laws_sql.specs.Meaning.{value_at, IsAt, ConjunctionsMean, DisjunctionsMean, NegationsMean, NullTestsMean, NotNullTestsMean, PatternsMean, NegatedPatternsMean, within, RangesMean, NegatedRangesMean, in_type, CastsMean}
+use Rattle.vx_laws_sql.specs.CommonTypes.{common_of_three}
+use Rattle.vx_laws_sql.specs.Operands.{TypedTree, Operand, known, number, untyped_null, no_boolean, no_text, no_cast, constant, null_of, ptype_of, widened_to}
+use Rattle.vx_laws_sql.specs.Operands.{alone}
+use Rattle.vx_laws_sql.specs.Forms.{as_boolean, as_text, connective, negation, InRange, three_in_common, three_matched_by, range_node, ranged, first_known}
+use Rattle.vx_laws_sql.specs.Forms.{cast_node}
+use Rattle.vx_laws_sql.specs.Meaning.{value_at, IsAt, ConjunctionsMean, DisjunctionsMean, NegationsMean, NullTestsMean, NotNullTestsMean, PatternsMean}
+use Rattle.vx_laws_sql.specs.Meaning.{NegatedPatternsMean, within, RangesMean, NegatedRangesMean, in_type, CastsMean}
 use Rattle.vx_laws_sql.proofs.Steps.{stepped, passed, same_answer}
 use Rattle.vx_laws_sql.proofs.Common.{common_of_three-holds}
 use Rattle.vx_laws_sql.proofs.Typed.{taking-typed}
@@ -43,7 +45,8 @@ mean-is_null : (t : Ty) (slots : Slots) (row : Val) (e : Tree) → mean t slots 
 unfolding mean
 mean-is_null t slots row e = refl
 
-mean-like : (t : Ty) (slots : Slots) (row : Val) (e p : Tree) → mean t slots row (like e p false false) ≡ like3 false false (mean t slots row e) (mean t slots row p)
+mean-like : (t : Ty) (slots : Slots) (row : Val) (e p : Tree)
+    → mean t slots row (like e p false false) ≡ like3 false false (mean t slots row e) (mean t slots row p)
 unfolding mean
 mean-like t slots row e p = refl
 
@@ -59,7 +62,8 @@ as_boolean-means t slots row (known e) a h =
     ap (λ (z : TypedTree). mean t slots row z.tree) (sym (same_answer (Ok e) e a refl k.gave))
 as_boolean-means t slots row (number i) a h = let no : ⊥ = cc (h) in absurd no
 as_boolean-means t slots row untyped_null a h =
-    ap (λ (z : TypedTree). mean t slots row z.tree) (sym (same_answer (Ok (null_of (bool_ty Nullable))) (null_of (bool_ty Nullable)) a refl h)) ∙ mean-null t slots row (bool_ty Nullable)
+    ap (λ (z : TypedTree). mean t slots row z.tree) (sym (same_answer (Ok (null_of (bool_ty Nullable))) (null_of (bool_ty Nullable)) a refl h))
+    ∙ mean-null t slots row (bool_ty Nullable)
 
 as_text-means : (t : Ty) (slots : Slots) (row : Val) (o : Operand) (a : TypedTree) → as_text o ≡ Ok a → mean t slots row a.tree ≡ value_at t slots row o
 as_text-means t slots row (known e) a h =
@@ -67,7 +71,8 @@ as_text-means t slots row (known e) a h =
     ap (λ (z : TypedTree). mean t slots row z.tree) (sym (same_answer (Ok e) e a refl k.gave))
 as_text-means t slots row (number i) a h = let no : ⊥ = cc (h) in absurd no
 as_text-means t slots row untyped_null a h =
-    ap (λ (z : TypedTree). mean t slots row z.tree) (sym (same_answer (Ok (null_of (text_ty Nullable))) (null_of (text_ty Nullable)) a refl h)) ∙ mean-null t slots row (text_ty Nullable)
+    ap (λ (z : TypedTree). mean t slots row z.tree) (sym (same_answer (Ok (null_of (text_ty Nullable))) (null_of (text_ty Nullable)) a refl h))
+    ∙ mean-null t slots row (text_ty Nullable)
 
 connective-means : (op : Operator) (t : Ty) (slots : Slots) (row : Val) (l r : Operand) (x : TypedTree) → connective op l r ≡ Ok x
     → mean t slots row x.tree ≡ binary3 op (value_at t slots row l) (value_at t slots row r)
@@ -84,7 +89,8 @@ conjunctions_mean t slots row l r x fit hl hr h = connective-means Operator.And 
 pub disjunctions_mean : DisjunctionsMean
 disjunctions_mean t slots row l r x fit hl hr h = connective-means Operator.Or t slots row l r x h
 
-pub negation-means : (t : Ty) (slots : Slots) (row : Val) (o : Operand) (x : TypedTree) → negation o ≡ Ok x → mean t slots row x.tree ≡ not3 (value_at t slots row o)
+pub negation-means : (t : Ty) (slots : Slots) (row : Val) (o : Operand) (x : TypedTree) → negation o ≡ Ok x
+    → mean t slots row x.tree ≡ not3 (value_at t slots row o)
 negation-means t slots row o x h =
     let s = stepped (as_boolean o) (λ e. Ok (record { ty = e.ty; tree = not_of e.tree })) x h in
     let made : TypedTree = record { ty = s.given.ty; tree = not_of s.given.tree } in
@@ -100,7 +106,8 @@ is_null3-untyped : (v : Val) → is_null3 (untyped v) ≡ is_null3 v
 is_null3-untyped (int_val p i) = refl
 is_null3-untyped _ = refl
 
-alone-null : (t : Ty) (slots : Slots) (row : Val) (o : Operand) (a : TypedTree) → IsAt t slots o → alone o ≡ Ok a → is_null3 (mean t slots row a.tree) ≡ is_null3 (value_at t slots row o)
+alone-null : (t : Ty) (slots : Slots) (row : Val) (o : Operand) (a : TypedTree) → IsAt t slots o → alone o ≡ Ok a
+    → is_null3 (mean t slots row a.tree) ≡ is_null3 (value_at t slots row o)
 alone-null t slots row o a ho h =
     let k = taking-stands t slots row untyped_null o a ho h in
     sym (is_null3-untyped (mean t slots row a.tree)) ∙ (ap is_null3 k.means ∙ is_null3-untyped (value_at t slots row o))
@@ -162,7 +169,8 @@ cast3-widened a (int_ty q m) (bool_val b) h k = refl
 cast3-widened a (text_ty m) (bool_val b) h k = refl
 cast3-widened a _ _ h k = refl
 
-number-cast : (t : Ty) (slots : Slots) (row : Val) (u : Ty) (i : ℤ) → fits (raw_int i) u ≡ true → mean t slots row (constant u (raw_int i)).tree ≡ in_type u (int_val I64 i)
+number-cast : (t : Ty) (slots : Slots) (row : Val) (u : Ty) (i : ℤ) → fits (raw_int i) u ≡ true
+    → mean t slots row (constant u (raw_int i)).tree ≡ in_type u (int_val I64 i)
 unfolding mean valued fits
 number-cast t slots row (int_ty p n) i h = sym (ap (λ (b : Bool). cond b (int_val p i) fault) h)
 number-cast t slots row _ i h = let no : ⊥ = cc (h) in absurd no
@@ -201,7 +209,8 @@ three_in_common-stand : (t : Ty) (slots : Slots) (row : Val) (p q r : PType) (o 
 three_in_common-stand t slots row p q r (Some c) a x common ep eq er s h =
     let holds = common_of_three-holds p q r c common in
     let made : InRange = record { value = widened_to c a.value; lower = widened_to c a.lower; upper = widened_to c a.upper } in
-    subst (λ (z : InRange). StandThree t slots row (mean t slots row a.value.tree) (mean t slots row a.lower.tree) (mean t slots row a.upper.tree) z) (same_answer (Ok made) made x refl h)
+    subst (λ (z : InRange). StandThree t slots row (mean t slots row a.value.tree) (mean t slots row a.lower.tree) (mean t slots row a.upper.tree) z)
+    (same_answer (Ok made) made x refl h)
     (record {
       value = widened_to-stands t slots row c p a.value ep holds.0 s.value;
       lower = widened_to-stands t slots row c q a.lower eq holds.1.0 s.lower;
@@ -222,7 +231,8 @@ alike_three-stand t slots row a x s is =
 three_matched_by-stand : (t : Ty) (slots : Slots) (row : Val) (p q r : Option PType) (a x : InRange)
     → ptype_of a.value.ty ≡ p → ptype_of a.lower.ty ≡ q → ptype_of a.upper.ty ≡ r → AreSound t slots row a → three_matched_by p q r a ≡ Ok x
     → StandThree t slots row (mean t slots row a.value.tree) (mean t slots row a.lower.tree) (mean t slots row a.upper.tree) x
-three_matched_by-stand t slots row (Some p) (Some q) (Some r) a x ep eq er s h = three_in_common-stand t slots row p q r (common_of_three p q r) a x refl ep eq er s h
+three_matched_by-stand t slots row (Some p) (Some q) (Some r) a x ep eq er s h =
+    three_in_common-stand t slots row p q r (common_of_three p q r) a x refl ep eq er s h
 three_matched_by-stand t slots row None q r a x ep eq er s h = alike_three-stand t slots row a x s (alike_three-is a x h).is
 three_matched_by-stand t slots row (Some p) None r a x ep eq er s h = alike_three-stand t slots row a x s (alike_three-is a x h).is
 three_matched_by-stand t slots row (Some p) (Some q) None a x ep eq er s h = alike_three-stand t slots row a x s (alike_three-is a x h).is
@@ -258,7 +268,8 @@ ranges_mean t slots row o lower upper x fit ho hl hu h =
     ap (λ (z : TypedTree). mean t slots row z.tree) (sym (same_answer (Ok (range_node s.given)) (range_node s.given) x refl s.gave))
     ∙ (mean-between t slots row s.given
     ∙ within-alike (mean t slots row s.given.value.tree) (mean t slots row s.given.lower.tree) (mean t slots row s.given.upper.tree)
-    (value_at t slots row o) (value_at t slots row lower) (value_at t slots row upper) (m.value.means ∙ a.means) (m.lower.means ∙ b.means) (m.upper.means ∙ c.means))
+    (value_at t slots row o) (value_at t slots row lower) (value_at t slots row upper) (m.value.means ∙ a.means) (m.lower.means ∙ b.means)
+    (m.upper.means ∙ c.means))
 
 pub negated_ranges_mean : NegatedRangesMean
 negated_ranges_mean t slots row o lower upper x y fit ho hl hu h k =

@@ -1,29 +1,28 @@
 -- What membership means.
-use Rattle.std.proofs.Common.{◌≡◌, ℤ, refl, ap, sym, ◌∙◌, subst, Bool, true, false, cond, ◌||◌, List, [], ◌∷◌, Result, Ok, Err}
+use Rattle.std.proofs.Common.{◌≡◌, refl, ap, sym, ◌∙◌, Bool, true, false, cond, ◌||◌, List, [], ◌∷◌, Ok}
 use Rattle.std.specs.Ordering.{nat_cmp, int_cmp, bool_cmp, is_eq}
 use Rattle.std.specs.Cmp.Lexicographic.{slice_cmp}
-use Rattle.vx_dtype.specs.declared.Nullability.{Nullability}
-use Rattle.vx_dtype.specs.declared.Nullability.TheVariants.{NonNullable, Nullable}
+use Rattle.vx_dtype.specs.declared.Nullability.TheVariants.{NonNullable}
 use Rattle.vx_dtype.specs.declared.CompareOperator.TheVariants.{Eq, NotEq}
 use Rattle.vx_dtype.specs.Types.{Ty, bool_ty, int_ty, text_ty, list_ty, struct_ty}
 use Rattle.vx_dtype.specs.TypeRules.{with_nullability, is_plain}
-use Rattle.vx_dtype.specs.Values.{Raw, raw_null, raw_bool, raw_int, raw_text, raw_list, raw_struct, Raws, no_raws, raw, Val, null_val, bool_val, int_val, text_val, list_val, struct_val, fault, Vals, valued, all_valued}
+use Rattle.vx_dtype.specs.Values.{Raw, raw_null, raw_bool, raw_int, raw_text, raw_list, raw_struct, Raws, no_raws, raw, Val, null_val, bool_val, int_val}
+use Rattle.vx_dtype.specs.Values.{text_val, list_val, struct_val, fault, Vals, valued, all_valued}
 use Rattle.vx_dtype.specs.Fits.{fits, fits_but_for_faults}
 use Rattle.vx_dtype.specs.Logic.{and3, or3, not3, is_true_val}
 use Rattle.vx_dtype.specs.Order.{compare3}
 use Rattle.vx_dtype.specs.Lists.{has_element, contains3}
-use Rattle.vx_expr.specs.Trees.{Tree}
 use Rattle.vx_semantics.specs.Meaning.{Slots, mean}
 use Rattle.vx_laws.proofs.Kleene.{not3-or3}
 use Rattle.vx_laws.proofs.Comparing.{compare3-swap, not3-compare3}
-use Rattle.vx_laws_sql.specs.Operands.{TypedTree, Operand, known, ◌>>=◌, where_it, taking}
-use Rattle.vx_laws_sql.specs.Membership.{first_typed, wrong_constant, with_constant, elements, has_null, element_type, listed_in, member_node, member_of, membership}
-use Rattle.vx_laws_sql.specs.Meaning.{value_at, IsAt, constant_value, equals_one, differs_from_all, MembershipsMean, NegatedMembershipsMean}
+use Rattle.vx_laws_sql.specs.Operands.{TypedTree, known, where_it, taking}
+use Rattle.vx_laws_sql.specs.Membership.{first_typed, wrong_constant, with_constant, elements, has_null, element_type, member_node, member_of, membership}
+use Rattle.vx_laws_sql.specs.Meaning.{value_at, constant_value, equals_one, differs_from_all, MembershipsMean, NegatedMembershipsMean}
 use Rattle.vx_laws_sql.proofs.Steps.{stepped, passed, same_answer}
 use Rattle.vx_laws_sql.proofs.Typed.{taking-typed}
-use Rattle.vx_laws_sql.proofs.TypedMembers.{IsMember, member_of-is}
+use Rattle.vx_laws_sql.proofs.TypedMembers.{member_of-is}
 use Rattle.vx_laws_sql.proofs.Numbers.{untyped, compare3-alike}
-use Rattle.vx_laws_sql.proofs.Means.{IsAt-IsTyped, taking-stands, IsSound, is_sound}
+use Rattle.vx_laws_sql.proofs.Means.{IsAt-IsTyped, taking-stands, is_sound}
 use Rattle.vx_laws_sql.proofs.MeantForms.{negation-means}
 
 -- whether a value is neither null nor a fault
@@ -41,7 +40,8 @@ bool-answer true = refl
 bool-answer false = refl
 
 -- a value equals a constant where the constant's value in the list equals it
-eq-constant : (u : Ty) (v : Val) (c : Raw) → is_known v ≡ true → is_plain u ≡ true → fits_but_for_faults v u ≡ true → fits c (with_nullability u NonNullable) ≡ true
+eq-constant : (u : Ty) (v : Val) (c : Raw) → is_known v ≡ true → is_plain u ≡ true → fits_but_for_faults v u ≡ true
+    → fits c (with_nullability u NonNullable) ≡ true
     → compare3 Eq v (constant_value c) ≡ bool_val (is_true_val (compare3 Eq (valued c (with_nullability u NonNullable)) v))
 unfolding fits_but_for_faults fits valued
 eq-constant (bool_ty n) (bool_val a) (raw_bool b) h k l m =
@@ -76,7 +76,8 @@ eq-null _ h = refl
 -- the step for a constant that is no null
 known-step : (e : TypedTree) (v : Val) (c : Raw) (rs out : Raws) (n : Bool) → is_known v ≡ true → is_plain e.ty ≡ true → fits_but_for_faults v e.ty ≡ true
     → where_it (fits c (element_type e)) (wrong_constant e (element_type e) c) (Ok (raw c rs)) ≡ Ok out
-    → or3 (compare3 Eq v (constant_value c)) (answer n (has_element (all_valued rs (element_type e)) v)) ≡ answer n (has_element (all_valued out (element_type e)) v)
+    → or3 (compare3 Eq v (constant_value c)) (answer n (has_element (all_valued rs (element_type e)) v))
+    ≡ answer n (has_element (all_valued out (element_type e)) v)
 unfolding all_valued
 known-step e v c rs out n h k l w =
     let d = element_type e in
@@ -88,7 +89,8 @@ known-step e v c rs out n h k l w =
 
 step : (e : TypedTree) (v : Val) (c : Raw) (cs : List Raw) (rs out : Raws) → is_known v ≡ true → is_plain e.ty ≡ true → fits_but_for_faults v e.ty ≡ true
     → with_constant e (element_type e) c rs ≡ Ok out
-    → or3 (compare3 Eq v (constant_value c)) (answer (has_null cs) (has_element (all_valued rs (element_type e)) v)) ≡ answer (has_null (c ∷ cs)) (has_element (all_valued out (element_type e)) v)
+    → or3 (compare3 Eq v (constant_value c)) (answer (has_null cs) (has_element (all_valued rs (element_type e)) v))
+    ≡ answer (has_null (c ∷ cs)) (has_element (all_valued out (element_type e)) v)
 step e v raw_null cs rs out h k l w =
     let f = has_element (all_valued rs (element_type e)) v in
     ap (λ (z : Val). or3 z (answer (has_null cs) f)) (eq-null v h)
@@ -125,18 +127,22 @@ no_nested (text_ty n) (raw_struct xs) k m = let no : ⊥ = cc (m) in absurd no
 no_nested (list_ty d n) (raw_struct xs) k m = let no : ⊥ = cc (k) in absurd no
 no_nested (struct_ty fs n) (raw_struct xs) k m = let no : ⊥ = cc (k) in absurd no
 
-null-constant : (e : TypedTree) (c : Raw) (rs out : Raws) → is_plain e.ty ≡ true → with_constant e (element_type e) c rs ≡ Ok out → compare3 Eq null_val (constant_value c) ≡ null_val
+null-constant : (e : TypedTree) (c : Raw) (rs out : Raws) → is_plain e.ty ≡ true → with_constant e (element_type e) c rs ≡ Ok out
+    → compare3 Eq null_val (constant_value c) ≡ null_val
 null-constant e raw_null rs out k w = refl
 null-constant e (raw_bool b) rs out k w = refl
 null-constant e (raw_int i) rs out k w = refl
 null-constant e (raw_text s) rs out k w = refl
 null-constant e (raw_list xs) rs out k w =
-    no_nested e.ty (raw_list xs) k (passed (fits (raw_list xs) (element_type e)) (wrong_constant e (element_type e) (raw_list xs)) (Ok (raw (raw_list xs) rs)) out w).holds
+    no_nested e.ty (raw_list xs) k (passed (fits (raw_list xs) (element_type e)) (wrong_constant e (element_type e) (raw_list xs))
+    (Ok (raw (raw_list xs) rs)) out w).holds
 null-constant e (raw_struct xs) rs out k w =
-    no_nested e.ty (raw_struct xs) k (passed (fits (raw_struct xs) (element_type e)) (wrong_constant e (element_type e) (raw_struct xs)) (Ok (raw (raw_struct xs) rs)) out w).holds
+    no_nested e.ty (raw_struct xs) k (passed (fits (raw_struct xs) (element_type e)) (wrong_constant e (element_type e) (raw_struct xs))
+    (Ok (raw (raw_struct xs) rs)) out w).holds
 
 -- null is equal to none of some constants and to no other
-null-one : (e : TypedTree) (c : Raw) (cs : List Raw) (rs : Raws) → is_plain e.ty ≡ true → elements e (element_type e) (c ∷ cs) ≡ Ok rs → equals_one null_val (c ∷ cs) ≡ null_val
+null-one : (e : TypedTree) (c : Raw) (cs : List Raw) (rs : Raws) → is_plain e.ty ≡ true → elements e (element_type e) (c ∷ cs) ≡ Ok rs
+    → equals_one null_val (c ∷ cs) ≡ null_val
 null-one e c [] rs k w =
     let s = stepped (elements e (element_type e) []) (with_constant e (element_type e) c) rs w in
     ap (λ (z : Val). or3 z (bool_val false)) (null-constant e c s.given rs k s.gave)
@@ -165,7 +171,8 @@ found-or_null true f = refl
 found-or_null false true = refl
 found-or_null false false = refl
 
-known-node : (e : TypedTree) (v : Val) (cs : List Raw) (rs : Raws) → is_known v ≡ true → is_plain e.ty ≡ true → fits_but_for_faults v e.ty ≡ true → elements e (element_type e) cs ≡ Ok rs
+known-node : (e : TypedTree) (v : Val) (cs : List Raw) (rs : Raws) → is_known v ≡ true → is_plain e.ty ≡ true → fits_but_for_faults v e.ty ≡ true
+    → elements e (element_type e) cs ≡ Ok rs
     → or_null_if (has_null cs) (contains3 (list_val (all_valued rs (element_type e))) v) ≡ equals_one v cs
 known-node e v cs rs h k l w =
     let xs = all_valued rs (element_type e) in
@@ -179,7 +186,8 @@ fault-node : (n : Bool) → or_null_if n fault ≡ fault
 fault-node true = refl
 fault-node false = refl
 
-value-node : (e : TypedTree) (v : Val) (c : Raw) (cs : List Raw) (rs : Raws) → is_plain e.ty ≡ true → fits_but_for_faults v e.ty ≡ true → elements e (element_type e) (c ∷ cs) ≡ Ok rs
+value-node : (e : TypedTree) (v : Val) (c : Raw) (cs : List Raw) (rs : Raws) → is_plain e.ty ≡ true → fits_but_for_faults v e.ty ≡ true
+    → elements e (element_type e) (c ∷ cs) ≡ Ok rs
     → or_null_if (has_null (c ∷ cs)) (contains3 (list_val (all_valued rs (element_type e))) v) ≡ equals_one v (c ∷ cs)
 value-node e null_val c cs rs k l w = null-node (has_null (c ∷ cs)) ∙ sym (null-one e c cs rs k w)
 value-node e fault c cs rs k l w = fault-node (has_null (c ∷ cs))
@@ -192,7 +200,8 @@ value-node e (struct_val ms) c cs rs k l w = known-node e (struct_val ms) (c ∷
 equals_one-alike : (v a : Val) (cs : List Raw) → untyped v ≡ untyped a → equals_one v cs ≡ equals_one a cs
 equals_one-alike v a [] h = refl
 equals_one-alike v a (c ∷ cs) h =
-    ap (λ (z : Val). or3 z (equals_one v cs)) (compare3-alike Eq v (constant_value c) a (constant_value c) h refl) ∙ ap (or3 (compare3 Eq a (constant_value c))) (equals_one-alike v a cs h)
+    ap (λ (z : Val). or3 z (equals_one v cs)) (compare3-alike Eq v (constant_value c) a (constant_value c) h refl)
+    ∙ ap (or3 (compare3 Eq a (constant_value c))) (equals_one-alike v a cs h)
 
 pub memberships_mean : MembershipsMean
 memberships_mean [] t slots row o x fit ho h = let no : ⊥ = cc (h) in absurd no
@@ -211,7 +220,8 @@ not3-equals_one : (v : Val) (cs : List Raw) → not3 (equals_one v cs) ≡ diffe
 not3-equals_one v [] = refl
 not3-equals_one v (c ∷ cs) =
     not3-or3 (compare3 Eq v (constant_value c)) (equals_one v cs)
-    ∙ (ap (λ (z : Val). and3 z (not3 (equals_one v cs))) (not3-compare3 Eq v (constant_value c)) ∙ ap (and3 (compare3 NotEq v (constant_value c))) (not3-equals_one v cs))
+    ∙ (ap (λ (z : Val). and3 z (not3 (equals_one v cs))) (not3-compare3 Eq v (constant_value c))
+    ∙ ap (and3 (compare3 NotEq v (constant_value c))) (not3-equals_one v cs))
 
 pub negated_memberships_mean : NegatedMembershipsMean
 negated_memberships_mean t slots row o cs x y fit ho h k =

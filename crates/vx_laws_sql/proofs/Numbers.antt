@@ -1,19 +1,18 @@
 -- Values without their integer types: comparisons don't ask them.
-use Rattle.std.proofs.Common.{◌≡◌, refl, ap, sym, ◌∙◌, subst, Bool, true, false, cond, not, ◌&&◌, ℤ}
+use Rattle.std.proofs.Common.{◌≡◌, refl, ap, sym, ◌∙◌, Bool, true, false, cond, not, ℤ}
 use Rattle.std.proofs.lemmas.Bool.{and_parts}
 use Rattle.vx_dtype.specs.declared.PType.{PType}
 use Rattle.vx_dtype.specs.declared.PType.TheVariants.{I64}
 use Rattle.vx_dtype.specs.declared.Nullability.{Nullability}
 use Rattle.vx_dtype.specs.declared.CompareOperator.{CompareOperator}
-use Rattle.vx_dtype.specs.Types.{Ty, bool_ty, int_ty, text_ty, list_ty, struct_ty}
-use Rattle.vx_dtype.specs.TypeRules.{is_nullable, nullability_of, union, widened, same_ptype}
+use Rattle.vx_dtype.specs.Types.{Ty, int_ty}
+use Rattle.vx_dtype.specs.TypeRules.{is_nullable, same_ptype}
 use Rattle.vx_dtype.specs.Values.{Val, null_val, bool_val, int_val, text_val, list_val, struct_val, fault}
 use Rattle.vx_dtype.specs.Fits.{in_range, fits_but_for_faults}
 use Rattle.vx_dtype.specs.Logic.{not3}
 use Rattle.vx_dtype.specs.Order.{swapped_comparison, compare3}
 use Rattle.vx_dtype.specs.Like.{text_matches, like3}
 use Rattle.vx_dtype.specs.Casts.{cast3}
-use Rattle.vx_dtype.specs.Sums.{int_in}
 use Rattle.vx_laws.proofs.Comparing.{compare3-swap}
 use Rattle.vx_laws_sql.specs.CommonTypes.{holds_type}
 use Rattle.vx_laws_sql.specs.Meaning.{arithmetic}
@@ -57,7 +56,8 @@ null-cast true h = refl
 null-cast false h = let no : ⊥ = cc (h) in absurd no
 
 -- a number in a wider type is the number
-pub cast-alike : (c p : PType) (n : Nullability) (v : Val) → holds_type c p ≡ true → fits_but_for_faults v (int_ty p n) ≡ true → untyped (cast3 (int_ty c n) v) ≡ untyped v
+pub cast-alike : (c p : PType) (n : Nullability) (v : Val) → holds_type c p ≡ true → fits_but_for_faults v (int_ty p n) ≡ true
+    → untyped (cast3 (int_ty c n) v) ≡ untyped v
 unfolding fits_but_for_faults
 cast-alike c p n null_val h k = null-cast (is_nullable n) k
 cast-alike c p n (int_val q i) h k = int-cast c i (in_range c i) (held_numbers_fit c p i h (and_parts (same_ptype q p) (in_range p i) k).1)
@@ -110,7 +110,9 @@ arithmetic-right rule t v (list_val xs) = refl
 arithmetic-right rule t v (struct_val ms) = refl
 arithmetic-right rule t v fault = refl
 
-pub arithmetic-alike : (rule : ℤ → ℤ → ℤ) (t : Ty) (v w a b : Val) → untyped v ≡ untyped a → untyped w ≡ untyped b → arithmetic rule t v w ≡ arithmetic rule t a b
+pub arithmetic-alike : (rule : ℤ → ℤ → ℤ) (t : Ty) (v w a b : Val) → untyped v ≡ untyped a → untyped w ≡ untyped b
+    → arithmetic rule t v w ≡ arithmetic rule t a b
 arithmetic-alike rule t v w a b h k =
     sym (arithmetic-left rule t v w) ∙ (sym (arithmetic-right rule t (untyped v) w)
-    ∙ (ap (λ (z : Val). arithmetic rule t z (untyped w)) h ∙ (ap (arithmetic rule t (untyped a)) k ∙ (arithmetic-right rule t (untyped a) b ∙ arithmetic-left rule t a b))))
+    ∙ (ap (λ (z : Val). arithmetic rule t z (untyped w)) h
+    ∙ (ap (arithmetic rule t (untyped a)) k ∙ (arithmetic-right rule t (untyped a) b ∙ arithmetic-left rule t a b))))

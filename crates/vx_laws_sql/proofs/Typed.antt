@@ -1,31 +1,31 @@
 -- What the forms give is strictly typed.
-use Rattle.std.proofs.Common.{◌≡◌, ℤ, refl, ap, sym, ◌∙◌, subst, Bool, true, false, cond, ◌&&◌, List, [], ◌∷◌, Option, Some, None, Result, Ok, Err}
-use Rattle.std.proofs.lemmas.Bool.{and_parts, and_from}
+use Rattle.std.proofs.Common.{◌≡◌, ℤ, refl, ap, sym, ◌∙◌, subst, Bool, true, false, cond, ◌&&◌, Option, Some, None, Result, Ok}
+use Rattle.std.proofs.lemmas.Bool.{and_from}
 use Rattle.vx_dtype.specs.declared.PType.{PType}
 use Rattle.vx_dtype.specs.declared.PType.TheVariants.{I64}
 use Rattle.vx_dtype.specs.declared.Nullability.{Nullability}
 use Rattle.vx_dtype.specs.declared.Nullability.TheVariants.{NonNullable, Nullable}
 use Rattle.vx_dtype.specs.declared.CompareOperator.{CompareOperator}
 use Rattle.vx_dtype.specs.declared.CompareOperator.TheVariants.{Eq, NotEq, Gt, Gte, Lt, Lte}
-use Rattle.vx_dtype.specs.Types.{Bytes, Ty, bool_ty, int_ty, text_ty, list_ty, struct_ty}
-use Rattle.vx_dtype.specs.TypeRules.{union, nullability_of, with_nullability, widened, same_ptype, alike, is_plain, is_bool_ty, is_int_ty, is_text_ty, no_name_twice}
-use Rattle.vx_dtype.specs.Values.{Raw, raw_null, raw_bool, raw_int, raw_text}
+use Rattle.vx_dtype.specs.Types.{Ty, bool_ty, int_ty, text_ty, list_ty, struct_ty}
+use Rattle.vx_dtype.specs.TypeRules.{nullability_of, with_nullability, same_ptype, alike, is_plain, no_name_twice}
+use Rattle.vx_dtype.specs.Values.{Raw, raw_null, raw_int}
 use Rattle.vx_dtype.specs.Fits.{in_range, fits}
 use Rattle.vx_dtype.specs.ScalarAnswers.{typed}
 use Rattle.vx_dtype.specs.Casts.{takes_cast}
 use Rattle.vx_expr.specs.declared.Operator.{Operator}
 use Rattle.vx_expr.specs.Operators.{operator_of}
-use Rattle.vx_expr.specs.Trees.{Tree, literal, binary, not_of, is_null_of, like, between, cast, list_contains}
-use Rattle.vx_semantics.specs.Typing.{Refusal, duplicate_field, type_mismatch, and_then, unless, union_of, equal_plain, compare_type, binary_type, not_type, like_type, between_type, contains_type, cast_type, typed_of}
+use Rattle.vx_expr.specs.Trees.{Tree, binary, cast}
+use Rattle.vx_semantics.specs.Typing.{Refusal, duplicate_field, type_mismatch, and_then, unless, union_of, equal_plain, binary_type, cast_type, typed_of}
 use Rattle.vx_laws.proofs.Comparing.{same_ptype-same}
 use Rattle.vx_laws.proofs.Fitting.{same_ptype-itself}
-use Rattle.vx_laws_sql.specs.CommonTypes.{common_type, common_of_three}
-use Rattle.vx_laws_sql.specs.Operands.{TypedTree, Operand, known, number, untyped_null, Mismatch, out_of_range, other_kinds, not_plain, no_common_type, no_boolean, no_text, no_number, no_cast}
-use Rattle.vx_laws_sql.specs.Operands.{◌>>=◌, where_it, type_alone, constant, null_of, number_in, number_across, taking, alone, ptype_of, in_wider, widened_to, alike_pair, in_common, matched_by, matched, both}
-use Rattle.vx_laws_sql.specs.Forms.{truth_of, comparison, sum_node, sum_by, sum, difference, as_boolean, as_text, connective, conjunction, disjunction, negation, null_test, not_null_test, pattern_test}
-use Rattle.vx_laws_sql.specs.Forms.{InRange, alike_three, three_in_common, three_matched_by, three_matched, both_count, range_node, ranged, first_known, range_test, cast_node, cast_to}
-use Rattle.vx_laws_sql.specs.Typing.{HasItsType, IsTest, IsTyped, ComparisonsAreTests, ConjunctionsAreTests, DisjunctionsAreTests, NegationsAreTests, NullTestsAreTests, NotNullTestsAreTests, PatternsAreTests, RangesAreTests, SumsAreTyped, DifferencesAreTyped, CastsAreTyped}
-use Rattle.vx_laws_sql.proofs.Steps.{Stepped, stepped, Passed, passed, same_answer}
+use Rattle.vx_laws_sql.specs.CommonTypes.{common_type}
+use Rattle.vx_laws_sql.specs.Operands.{TypedTree, Operand, known, number, untyped_null, out_of_range, other_kinds, not_plain}
+use Rattle.vx_laws_sql.specs.Operands.{◌>>=◌, where_it, type_alone, constant, null_of, number_in, number_across, taking, alone, ptype_of, in_wider, widened_to}
+use Rattle.vx_laws_sql.specs.Operands.{alike_pair, in_common, matched_by, matched, both}
+use Rattle.vx_laws_sql.specs.Forms.{truth_of}
+use Rattle.vx_laws_sql.specs.Typing.{HasItsType, IsTest, IsTyped, ComparisonsAreTests}
+use Rattle.vx_laws_sql.proofs.Steps.{stepped, passed, same_answer}
 
 -- ---- constants
 
@@ -162,7 +162,8 @@ alike_pair-is a b x h =
 alike_pair-matches : (t : Ty) (a b : TypedTree) (x : TypedTree × TypedTree) → HasItsType t a → HasItsType t b → alike_pair a b ≡ Ok x → IsMatch t x
 alike_pair-matches t a b x ha hb h =
     let k = alike_pair-is a b x h in
-    subst (λ (z : TypedTree × TypedTree). IsMatch t z) k.is (record { left = ha; right = hb; plain = and_from (alike a.ty b.ty) (is_plain a.ty) k.same k.first })
+    subst (λ (z : TypedTree × TypedTree). IsMatch t z) k.is
+    (record { left = ha; right = hb; plain = and_from (alike a.ty b.ty) (is_plain a.ty) k.same k.first })
 
 matched_by-matches : (t : Ty) (p q : Option PType) (a b : TypedTree) (x : TypedTree × TypedTree)
     → ptype_of a.ty ≡ p → ptype_of b.ty ≡ q → HasItsType t a → HasItsType t b → matched_by p q a b ≡ Ok x → IsMatch t x
@@ -210,7 +211,8 @@ both-matches t l r x hl hr h =
 
 -- ---- the forms
 
-pub binary-typed : (t : Ty) (a b : TypedTree) (op : Operator) (u : Ty) → HasItsType t a → HasItsType t b → binary_type op a.ty b.ty ≡ Ok u → typed_of t (binary a.tree op b.tree) ≡ Ok u
+pub binary-typed : (t : Ty) (a b : TypedTree) (op : Operator) (u : Ty) → HasItsType t a → HasItsType t b → binary_type op a.ty b.ty ≡ Ok u
+    → typed_of t (binary a.tree op b.tree) ≡ Ok u
 unfolding typed_of
 binary-typed t a b op u ha hb h =
     ap (λ (r : Result Ty Refusal). and_then r (λ z. and_then (typed_of t b.tree) (binary_type op z))) ha
@@ -230,5 +232,8 @@ comparisons_are_tests op t l r x hl hr h =
     let m = both-matches t l r s.given hl hr s.was in
     let made = truth_of s.given.0.ty s.given.1.ty (binary s.given.0.tree (operator_of op) s.given.1.tree) in
     let is = same_answer (Ok made) made x refl s.gave in
-    subst (λ (z : TypedTree). IsTest t z) is
-    (binary-typed t s.given.0 s.given.1 (operator_of op) (bool_ty (union_of s.given.0.ty s.given.1.ty)) m.left m.right (compare_type-of op s.given.0.ty s.given.1.ty m.plain), refl)
+    subst (λ (z : TypedTree). IsTest t z) is (
+      binary-typed t s.given.0 s.given.1 (operator_of op) (bool_ty (union_of s.given.0.ty s.given.1.ty)) m.left m.right
+          (compare_type-of op s.given.0.ty s.given.1.ty m.plain),
+      refl,
+    )

@@ -1,37 +1,34 @@
 -- What sums, connectives, null tests, patterns, ranges and casts give is strictly typed.
-use Rattle.std.proofs.Common.{◌≡◌, ℤ, refl, ap, sym, ◌∙◌, subst, Bool, true, false, cond, ◌&&◌, List, [], ◌∷◌, Option, Some, None, Result, Ok, Err}
+use Rattle.std.proofs.Common.{◌≡◌, ℤ, refl, ap, ◌∙◌, subst, Bool, true, false, ◌&&◌, Option, Some, None, Result, Ok}
 use Rattle.std.proofs.lemmas.Bool.{and_parts, and_from}
 use Rattle.vx_dtype.specs.declared.PType.{PType}
-use Rattle.vx_dtype.specs.declared.PType.TheVariants.{I64}
 use Rattle.vx_dtype.specs.declared.Nullability.{Nullability}
 use Rattle.vx_dtype.specs.declared.Nullability.TheVariants.{NonNullable, Nullable}
-use Rattle.vx_dtype.specs.declared.CompareOperator.{CompareOperator}
-use Rattle.vx_dtype.specs.declared.CompareOperator.TheVariants.{Eq, NotEq, Gt, Gte, Lt, Lte}
-use Rattle.vx_dtype.specs.Types.{Bytes, Ty, bool_ty, int_ty, text_ty, list_ty, struct_ty}
-use Rattle.vx_dtype.specs.TypeRules.{union, nullability_of, with_nullability, widened, same_ptype, alike, is_plain, is_bool_ty, is_int_ty, is_text_ty, no_name_twice}
-use Rattle.vx_dtype.specs.Values.{Raw, raw_null, raw_bool, raw_int, raw_text}
-use Rattle.vx_dtype.specs.Fits.{in_range, fits}
+use Rattle.vx_dtype.specs.Types.{Ty, bool_ty, int_ty, text_ty, list_ty, struct_ty}
+use Rattle.vx_dtype.specs.TypeRules.{union, nullability_of, with_nullability, widened, alike, is_plain, is_bool_ty, is_int_ty, is_text_ty}
+use Rattle.vx_dtype.specs.Values.{raw_int}
+use Rattle.vx_dtype.specs.Fits.{fits}
 use Rattle.vx_dtype.specs.ScalarAnswers.{typed}
 use Rattle.vx_dtype.specs.Casts.{takes_cast}
 use Rattle.vx_expr.specs.declared.Operator.{Operator}
-use Rattle.vx_expr.specs.Operators.{operator_of}
-use Rattle.vx_expr.specs.Trees.{Tree, literal, binary, not_of, is_null_of, like, between, cast, list_contains}
-use Rattle.vx_semantics.specs.Typing.{Refusal, duplicate_field, type_mismatch, and_then, unless, union_of, equal_plain, compare_type, binary_type, not_type, like_type, between_type, contains_type, cast_type, typed_of}
-use Rattle.vx_laws.proofs.Comparing.{same_ptype-same}
-use Rattle.vx_laws.proofs.Fitting.{same_ptype-itself}
-use Rattle.vx_laws_sql.specs.CommonTypes.{common_type, common_of_three}
-use Rattle.vx_laws_sql.specs.Operands.{TypedTree, Operand, known, number, untyped_null, Mismatch, out_of_range, other_kinds, not_plain, no_common_type, no_boolean, no_text, no_number, no_cast}
-use Rattle.vx_laws_sql.specs.Operands.{◌>>=◌, where_it, type_alone, constant, null_of, number_in, number_across, taking, alone, ptype_of, in_wider, widened_to, alike_pair, in_common, matched_by, matched, both}
-use Rattle.vx_laws_sql.specs.Forms.{truth_of, comparison, sum_node, sum_by, sum, difference, as_boolean, as_text, connective, conjunction, disjunction, negation, null_test, not_null_test, pattern_test}
-use Rattle.vx_laws_sql.specs.Forms.{InRange, alike_three, three_in_common, three_matched_by, three_matched, both_count, range_node, ranged, first_known, range_test, cast_node, cast_to}
-use Rattle.vx_laws_sql.specs.Typing.{HasItsType, IsTest, IsTyped, ComparisonsAreTests, ConjunctionsAreTests, DisjunctionsAreTests, NegationsAreTests, NullTestsAreTests, NotNullTestsAreTests, PatternsAreTests, RangesAreTests, SumsAreTyped, DifferencesAreTyped, CastsAreTyped}
-use Rattle.vx_laws_sql.proofs.Steps.{Stepped, stepped, Passed, passed, same_answer}
+use Rattle.vx_expr.specs.Trees.{Tree, binary, not_of, is_null_of, like}
+use Rattle.vx_semantics.specs.Typing.{Refusal, type_mismatch, and_then, unless, union_of, equal_plain, binary_type, not_type, like_type, between_type, typed_of}
+use Rattle.vx_laws_sql.specs.CommonTypes.{common_of_three}
+use Rattle.vx_laws_sql.specs.Operands.{TypedTree, Operand, known, number, untyped_null, other_kinds, not_plain, no_boolean, no_text, no_number, no_cast}
+use Rattle.vx_laws_sql.specs.Operands.{◌>>=◌, where_it, constant, null_of, taking, alone, ptype_of, widened_to, both}
+use Rattle.vx_laws_sql.specs.Forms.{truth_of, sum_node, sum_by, as_boolean, as_text, connective, pattern_test}
+use Rattle.vx_laws_sql.specs.Forms.{InRange, alike_three, three_in_common, three_matched_by, three_matched, range_node, ranged, first_known, cast_node}
+use Rattle.vx_laws_sql.specs.Typing.{HasItsType, IsTest, IsTyped, ConjunctionsAreTests, DisjunctionsAreTests, NegationsAreTests, NullTestsAreTests}
+use Rattle.vx_laws_sql.specs.Typing.{NotNullTestsAreTests, PatternsAreTests, RangesAreTests, SumsAreTyped, DifferencesAreTyped, CastsAreTyped}
+use Rattle.vx_laws_sql.proofs.Steps.{stepped, passed, same_answer}
 use Rattle.vx_semantics.specs.Typing.{sum_type, logic_type}
-use Rattle.vx_laws_sql.proofs.Typed.{constant-typed, plain-no_name_twice, null_of-typed, taking-typed, alone-typed, ptype_of-is, IsWidened, widened_to-typed, IsMatch, ints-equal, int-plain, cast-typed, both-matches, binary-typed}
+use Rattle.vx_laws_sql.proofs.Typed.{constant-typed, plain-no_name_twice, null_of-typed, taking-typed, alone-typed, widened_to-typed, ints-equal, int-plain}
+use Rattle.vx_laws_sql.proofs.Typed.{cast-typed, both-matches, binary-typed}
 
 -- ---- sums
 
-sum_by-typed : (op : Operator) → ((a b : Ty) → binary_type op a b ≡ sum_type a b) → (t : Ty) (l r : Operand) (x : TypedTree) → IsTyped t l → IsTyped t r → sum_by op l r ≡ Ok x → HasItsType t x
+sum_by-typed : (op : Operator) → ((a b : Ty) → binary_type op a b ≡ sum_type a b) → (t : Ty) (l r : Operand) (x : TypedTree) → IsTyped t l → IsTyped t r
+    → sum_by op l r ≡ Ok x → HasItsType t x
 sum_by-typed op is_sum t l r x hl hr h =
     let s = stepped (both l r) (λ y. where_it (is_int_ty y.0.ty) (no_number (known y.0)) (Ok (sum_node op y))) x h in
     let m = both-matches t l r s.given hl hr s.was in
@@ -58,7 +55,8 @@ as_boolean-typed t (known e) a typed h =
     subst (λ (z : TypedTree). IsTest t z) (same_answer (Ok e) e a refl k.gave) (typed, k.holds)
 as_boolean-typed t (number i) a typed h = let no : ⊥ = cc (h) in absurd no
 as_boolean-typed t untyped_null a typed h =
-    subst (λ (z : TypedTree). IsTest t z) (same_answer (Ok (null_of (bool_ty Nullable))) (null_of (bool_ty Nullable)) a refl h) (null_of-typed t (bool_ty Nullable) refl, refl)
+    subst (λ (z : TypedTree). IsTest t z) (same_answer (Ok (null_of (bool_ty Nullable))) (null_of (bool_ty Nullable)) a refl h)
+    (null_of-typed t (bool_ty Nullable) refl, refl)
 
 pub as_text-typed : (t : Ty) (o : Operand) (a : TypedTree) → IsTyped t o → as_text o ≡ Ok a → HasItsType t a × (is_text_ty a.ty ≡ true)
 as_text-typed t (known e) a typed h =
@@ -84,7 +82,8 @@ connective-is op l r x h =
     let made = truth_of a.given.ty b.given.ty (binary a.given.tree op b.given.tree) in
     record { first = a.given; second = b.given; left = a.was; right = b.was; is = same_answer (Ok made) made x refl b.gave }
 
-connective-typed : (op : Operator) → ((a b : Ty) → binary_type op a b ≡ logic_type a b) → (t : Ty) (l r : Operand) (x : TypedTree) → IsTyped t l → IsTyped t r → connective op l r ≡ Ok x → IsTest t x
+connective-typed : (op : Operator) → ((a b : Ty) → binary_type op a b ≡ logic_type a b) → (t : Ty) (l r : Operand) (x : TypedTree) → IsTyped t l → IsTyped t r
+    → connective op l r ≡ Ok x → IsTest t x
 connective-typed op is_logic t l r x hl hr h =
     let k = connective-is op l r x h in
     let a = as_boolean-typed t l k.first hl k.left in
@@ -121,14 +120,16 @@ pub null_tests_are_tests : NullTestsAreTests
 null_tests_are_tests t o x ho h =
     let s = stepped (alone o) (λ e. Ok (record { ty = bool_ty NonNullable; tree = is_null_of e.tree })) x h in
     let made : TypedTree = record { ty = bool_ty NonNullable; tree = is_null_of s.given.tree } in
-    subst (λ (z : TypedTree). IsTest t z) (same_answer (Ok made) made x refl s.gave) (is_null-typed t s.given.ty s.given.tree (alone-typed t o s.given ho s.was), refl)
+    subst (λ (z : TypedTree). IsTest t z) (same_answer (Ok made) made x refl s.gave)
+    (is_null-typed t s.given.ty s.given.tree (alone-typed t o s.given ho s.was), refl)
 
 pub not_null_tests_are_tests : NotNullTestsAreTests
 not_null_tests_are_tests t o x ho h =
     let s = stepped (alone o) (λ e. Ok (record { ty = bool_ty NonNullable; tree = not_of (is_null_of e.tree) })) x h in
     let made : TypedTree = record { ty = bool_ty NonNullable; tree = not_of (is_null_of s.given.tree) } in
     let inner = is_null-typed t s.given.ty s.given.tree (alone-typed t o s.given ho s.was) in
-    subst (λ (z : TypedTree). IsTest t z) (same_answer (Ok made) made x refl s.gave) (not-typed t (bool_ty NonNullable) (is_null_of s.given.tree) inner refl, refl)
+    subst (λ (z : TypedTree). IsTest t z) (same_answer (Ok made) made x refl s.gave)
+    (not-typed t (bool_ty NonNullable) (is_null_of s.given.tree) inner refl, refl)
 
 -- ---- patterns
 
@@ -191,7 +192,8 @@ casts_are_typed target t (number i) x ho h =
     (constant-typed t target (raw_int i) (plain-no_name_twice target (int_fit-plain target i k.holds)) k.holds)
 casts_are_typed target t untyped_null x ho h =
     let k = passed (is_plain target) (no_cast untyped_null target) (Ok (null_of target)) x h in
-    subst (λ (z : TypedTree). HasItsType t z) (same_answer (Ok (null_of target)) (null_of target) x refl k.gave) (null_of-typed t target (nullable-plain target k.holds))
+    subst (λ (z : TypedTree). HasItsType t z) (same_answer (Ok (null_of target)) (null_of target) x refl k.gave)
+    (null_of-typed t target (nullable-plain target k.holds))
 
 -- ---- ranges
 
@@ -203,7 +205,8 @@ pub record IsThree (t : Ty) (x : InRange) : Type 0 where
   pub low_plain : equal_plain x.value.ty x.lower.ty ≡ true
   pub up_plain : equal_plain x.value.ty x.upper.ty ≡ true
 
-three_in_common-matches : (t : Ty) (p q r : PType) (c : Option PType) (a x : InRange) → ptype_of a.value.ty ≡ Some p → ptype_of a.lower.ty ≡ Some q → ptype_of a.upper.ty ≡ Some r
+three_in_common-matches : (t : Ty) (p q r : PType) (c : Option PType) (a x : InRange) → ptype_of a.value.ty ≡ Some p → ptype_of a.lower.ty ≡ Some q
+    → ptype_of a.upper.ty ≡ Some r
     → HasItsType t a.value → HasItsType t a.lower → HasItsType t a.upper → three_in_common p r c a ≡ Ok x → IsThree t x
 three_in_common-matches t p q r (Some c) a x ep eq er ha hb hc h =
     let made : InRange = record { value = widened_to c a.value; lower = widened_to c a.lower; upper = widened_to c a.upper } in
@@ -230,7 +233,8 @@ pub record AreAlike (a x : InRange) : Type 0 where
 pub alike_three-is : (a x : InRange) → alike_three a ≡ Ok x → AreAlike a x
 alike_three-is a x h =
     let third = where_it (alike a.value.ty a.upper.ty) (other_kinds (known a.value) (known a.upper)) (Ok a) in
-    let k = passed (is_plain a.value.ty) (not_plain (known a.value)) (where_it (alike a.value.ty a.lower.ty) (other_kinds (known a.value) (known a.lower)) third) x h in
+    let k = passed (is_plain a.value.ty) (not_plain (known a.value))
+    (where_it (alike a.value.ty a.lower.ty) (other_kinds (known a.value) (known a.lower)) third) x h in
     let l = passed (alike a.value.ty a.lower.ty) (other_kinds (known a.value) (known a.lower)) third x k.gave in
     let m = passed (alike a.value.ty a.upper.ty) (other_kinds (known a.value) (known a.upper)) (Ok a) x l.gave in
     record { plain = k.holds; low = l.holds; up = m.holds; is = same_answer (Ok a) a x refl m.gave }
@@ -255,7 +259,8 @@ alike_three-plain a x h =
     let k = alike_three-is a x h in
     record { value = k.plain; lower = alike-plain a.value.ty a.lower.ty k.low k.plain; upper = alike-plain a.value.ty a.upper.ty k.up k.plain }
 
-three_matched_by-plain : (p q r : Option PType) (a x : InRange) → ptype_of a.value.ty ≡ p → ptype_of a.lower.ty ≡ q → ptype_of a.upper.ty ≡ r → three_matched_by p q r a ≡ Ok x → ArePlain a
+three_matched_by-plain : (p q r : Option PType) (a x : InRange) → ptype_of a.value.ty ≡ p → ptype_of a.lower.ty ≡ q → ptype_of a.upper.ty ≡ r
+    → three_matched_by p q r a ≡ Ok x → ArePlain a
 three_matched_by-plain (Some p) (Some q) (Some r) a x ep eq er h =
     record { value = int-plain a.value.ty p ep; lower = int-plain a.lower.ty q eq; upper = int-plain a.upper.ty r er }
 three_matched_by-plain None q r a x ep eq er h = alike_three-plain a x h
@@ -292,7 +297,8 @@ pub record AreRanged (across o lower upper : Operand) (x : InRange) : Type 0 whe
 
 pub ranged-is : (across o lower upper : Operand) (x : InRange) → ranged across o lower upper ≡ Ok x → AreRanged across o lower upper x
 ranged-is across o lower upper x h =
-    let a = stepped (taking across o) (λ a. taking across lower >>= λ b. taking across upper >>= λ c. three_matched (record { value = a; lower = b; upper = c })) x h in
+    let a = stepped (taking across o)
+    (λ a. taking across lower >>= λ b. taking across upper >>= λ c. three_matched (record { value = a; lower = b; upper = c })) x h in
     let b = stepped (taking across lower) (λ b. taking across upper >>= λ c. three_matched (record { value = a.given; lower = b; upper = c })) x a.gave in
     let c = stepped (taking across upper) (λ c. three_matched (record { value = a.given; lower = b.given; upper = c })) x b.gave in
     let three : InRange = record { value = a.given; lower = b.given; upper = c.given } in
@@ -312,7 +318,8 @@ between-typed t x k =
     ap (λ (r : Result Ty Refusal). and_then r (λ a. and_then (typed_of t x.lower.tree) (λ b. and_then (typed_of t x.upper.tree) (between_type a b)))) k.value
     ∙ (ap (λ (r : Result Ty Refusal). and_then r (λ b. and_then (typed_of t x.upper.tree) (between_type x.value.ty b))) k.lower
     ∙ (ap (λ (r : Result Ty Refusal). and_then r (between_type x.value.ty x.lower.ty)) k.upper
-    ∙ ap (λ (z : Bool). unless z type_mismatch (Ok u)) (and_from (equal_plain x.value.ty x.lower.ty) (equal_plain x.value.ty x.upper.ty) k.low_plain k.up_plain)))
+    ∙ ap (λ (z : Bool). unless z type_mismatch (Ok u))
+    (and_from (equal_plain x.value.ty x.lower.ty) (equal_plain x.value.ty x.upper.ty) k.low_plain k.up_plain)))
 
 pub ranges_are_tests : RangesAreTests
 ranges_are_tests t o lower upper x ho hl hu h =

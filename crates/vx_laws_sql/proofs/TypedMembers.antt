@@ -1,24 +1,26 @@
 -- What membership gives is strictly typed.
-use Rattle.std.proofs.Common.{◌≡◌, refl, ap, sym, ◌∙◌, subst, Bool, true, false, ◌&&◌, List, [], ◌∷◌, Result, Ok, Err}
-use Rattle.std.proofs.lemmas.Bool.{and_parts, and_from}
+use Rattle.std.proofs.Common.{◌≡◌, refl, ap, ◌∙◌, subst, Bool, true, false, ◌&&◌, List, [], ◌∷◌, Result, Ok}
+use Rattle.std.proofs.lemmas.Bool.{and_from}
 use Rattle.vx_dtype.specs.declared.Nullability.{Nullability}
 use Rattle.vx_dtype.specs.declared.Nullability.TheVariants.{NonNullable, Nullable}
-use Rattle.vx_dtype.specs.Types.{Ty, bool_ty, int_ty, text_ty, list_ty, struct_ty}
-use Rattle.vx_dtype.specs.TypeRules.{union, nullability_of, with_nullability, alike, is_plain, is_bool_ty, no_name_twice}
+use Rattle.vx_dtype.specs.Types.{Ty, bool_ty, int_ty, text_ty, list_ty}
+use Rattle.vx_dtype.specs.TypeRules.{nullability_of, with_nullability, alike, is_plain, no_name_twice}
 use Rattle.vx_dtype.specs.Values.{Raw, raw_null, raw_bool, raw_int, raw_text, raw_list, raw_struct, Raws, no_raws, raw}
 use Rattle.vx_dtype.specs.Fits.{fits, all_fit}
 use Rattle.vx_expr.specs.declared.Operator.{Operator}
-use Rattle.vx_expr.specs.Trees.{Tree, binary, list_contains}
-use Rattle.vx_semantics.specs.Typing.{Refusal, type_mismatch, and_then, unless, union_of, equal_plain, logic_type, binary_type, contains_type, typed_of}
+use Rattle.vx_expr.specs.Trees.{list_contains}
+use Rattle.vx_semantics.specs.Typing.{Refusal, type_mismatch, and_then, unless, equal_plain, binary_type, contains_type, typed_of}
 use Rattle.vx_laws.proofs.Fitting.{same_ptype-itself}
-use Rattle.vx_laws_sql.specs.Operands.{TypedTree, Operand, known, Mismatch, not_plain, ◌>>=◌, where_it, constant, null_of, taking}
-use Rattle.vx_laws_sql.specs.Membership.{first_typed, wrong_constant, with_constant, elements, has_null, element_type, listed_in, listed_or_null, member_node, member_of, membership}
-use Rattle.vx_laws_sql.specs.Typing.{HasItsType, IsTest, IsTyped, MembershipsAreTests}
+use Rattle.vx_laws_sql.specs.Operands.{TypedTree, known, not_plain, ◌>>=◌, where_it, constant, null_of, taking}
+use Rattle.vx_laws_sql.specs.Membership.{first_typed, wrong_constant, with_constant, elements, has_null, element_type, listed_in, member_node, member_of}
+use Rattle.vx_laws_sql.specs.Membership.{membership}
+use Rattle.vx_laws_sql.specs.Typing.{HasItsType, IsTest, MembershipsAreTests}
 use Rattle.vx_laws_sql.proofs.Steps.{stepped, passed, same_answer}
 use Rattle.vx_laws_sql.proofs.Typed.{constant-typed, plain-no_name_twice, null_of-typed, taking-typed, binary-typed}
 
 -- a list without null is as it was with one more constant that fits
-fitting : (e : TypedTree) (t : Ty) (c : Raw) (rs out : Raws) → all_fit rs t ≡ true → where_it (fits c t) (wrong_constant e t c) (Ok (raw c rs)) ≡ Ok out → all_fit out t ≡ true
+fitting : (e : TypedTree) (t : Ty) (c : Raw) (rs out : Raws) → all_fit rs t ≡ true → where_it (fits c t) (wrong_constant e t c) (Ok (raw c rs)) ≡ Ok out
+    → all_fit out t ≡ true
 unfolding all_fit
 fitting e t c rs out fit h =
     let k = passed (fits c t) (wrong_constant e t c) (Ok (raw c rs)) out h in
@@ -61,9 +63,11 @@ contains-typed : (t : Ty) (l e : TypedTree) (d : Ty) → l.ty ≡ list_ty d NonN
 unfolding typed_of
 contains-typed t l e d is hl he h =
     ap (λ (r : Result Ty Refusal). and_then r (λ a. and_then (typed_of t e.tree) (contains_type a))) (hl ∙ ap Ok is)
-    ∙ (ap (λ (r : Result Ty Refusal). and_then r (contains_type (list_ty d NonNullable))) he ∙ ap (λ (z : Bool). unless z type_mismatch (Ok (bool_ty (nullability_of e.ty)))) h)
+    ∙ (ap (λ (r : Result Ty Refusal). and_then r (contains_type (list_ty d NonNullable))) he
+    ∙ ap (λ (z : Bool). unless z type_mismatch (Ok (bool_ty (nullability_of e.ty)))) h)
 
-pub listed_in-typed : (t : Ty) (e : TypedTree) (rs : Raws) → HasItsType t e → is_plain e.ty ≡ true → all_fit rs (element_type e) ≡ true → HasItsType t (listed_in e rs)
+pub listed_in-typed : (t : Ty) (e : TypedTree) (rs : Raws) → HasItsType t e → is_plain e.ty ≡ true → all_fit rs (element_type e) ≡ true
+    → HasItsType t (listed_in e rs)
 listed_in-typed t e rs he plain fit =
     contains-typed t (constant (list_ty (element_type e) NonNullable) (raw_list rs)) e (element_type e) refl
     (list-typed t (element_type e) rs (plain-no_name_twice (element_type e) (element-plain e.ty plain)) fit) he (element-alike e.ty plain)
@@ -72,7 +76,8 @@ or_null-type : (n : Nullability) → binary_type Operator.Or (bool_ty n) (bool_t
 or_null-type NonNullable = refl
 or_null-type Nullable = refl
 
-pub member_node-typed : (t : Ty) (null : Bool) (e : TypedTree) (rs : Raws) → HasItsType t e → is_plain e.ty ≡ true → all_fit rs (element_type e) ≡ true → IsTest t (member_node null e rs)
+pub member_node-typed : (t : Ty) (null : Bool) (e : TypedTree) (rs : Raws) → HasItsType t e → is_plain e.ty ≡ true → all_fit rs (element_type e) ≡ true
+    → IsTest t (member_node null e rs)
 member_node-typed t false e rs he plain fit = (listed_in-typed t e rs he plain fit, refl)
 member_node-typed t true e rs he plain fit = (
   binary-typed t (listed_in e rs) (null_of (bool_ty Nullable)) Operator.Or (bool_ty Nullable) (listed_in-typed t e rs he plain fit)

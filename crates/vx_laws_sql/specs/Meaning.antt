@@ -1,5 +1,5 @@
 -- What the forms of SQL mean at a row, in SQL's words: by three-valued logic, and numbers by what they are, whatever their integer types.
-use Rattle.std.specs.Prelude.{◌≡◌, ℤ, ◌+ℤ◌, ◌-ℤ◌, Bool, true, false, List, [], ◌∷◌, Result, Ok}
+use Rattle.std.specs.Prelude.{◌≡◌, ℤ, ◌+ℤ◌, ◌-ℤ◌, true, false, List, [], ◌∷◌, Result, Ok}
 use Rattle.vx_dtype.specs.declared.CompareOperator.{CompareOperator}
 use Rattle.vx_dtype.specs.declared.CompareOperator.TheVariants.{Eq, NotEq, Gt, Gte, Lt, Lte}
 use Rattle.vx_dtype.specs.declared.PType.TheVariants.{I64}
@@ -14,7 +14,8 @@ use Rattle.vx_dtype.specs.Sums.{int_in}
 use Rattle.vx_semantics.specs.Meaning.{Slots, mean}
 use Rattle.vx_semantics.specs.Slots.{slots_fit}
 use Rattle.vx_laws_sql.specs.Operands.{TypedTree, Operand, known, number, untyped_null, Mismatch}
-use Rattle.vx_laws_sql.specs.Forms.{comparison, sum, difference, conjunction, disjunction, negation, null_test, not_null_test, pattern_test, range_test, cast_to}
+use Rattle.vx_laws_sql.specs.Forms.{comparison, sum, difference, conjunction, disjunction, negation, null_test, not_null_test, pattern_test, range_test}
+use Rattle.vx_laws_sql.specs.Forms.{cast_to}
 use Rattle.vx_laws_sql.specs.Membership.{membership}
 use Rattle.vx_laws_sql.specs.Typing.{HasItsType}
 

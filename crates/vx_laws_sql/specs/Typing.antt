@@ -6,7 +6,8 @@ use Rattle.vx_dtype.specs.TypeRules.{is_bool_ty}
 use Rattle.vx_dtype.specs.Values.{Raw}
 use Rattle.vx_semantics.specs.Typing.{typed_of}
 use Rattle.vx_laws_sql.specs.Operands.{TypedTree, Operand, known, number, untyped_null, Mismatch}
-use Rattle.vx_laws_sql.specs.Forms.{comparison, sum, difference, conjunction, disjunction, negation, null_test, not_null_test, pattern_test, range_test, cast_to}
+use Rattle.vx_laws_sql.specs.Forms.{comparison, sum, difference, conjunction, disjunction, negation, null_test, not_null_test, pattern_test, range_test}
+use Rattle.vx_laws_sql.specs.Forms.{cast_to}
 use Rattle.vx_laws_sql.specs.Membership.{membership}
 
 -- an expression that has its type over the scope
