@@ -23,7 +23,7 @@ use Rattle.vx_laws_sql.specs.CommonTypes.{common_of_three}
 use Rattle.vx_laws_sql.specs.Operands.{TypedTree, Operand, known, number, untyped_null, no_boolean, no_text, no_cast, constant, null_of, ptype_of, widened_to}
 use Rattle.vx_laws_sql.specs.Operands.{alone}
 use Rattle.vx_laws_sql.specs.Forms.{as_boolean, as_text, connective, negation, InRange, three_in_common, three_matched_by, range_node, ranged, first_known}
-use Rattle.vx_laws_sql.specs.Forms.{cast_node}
+use Rattle.vx_laws_sql.specs.Forms.{cast_node, wrong_number}
 use Rattle.vx_laws_sql.specs.Meaning.{value_at, IsAt, ConjunctionsMean, DisjunctionsMean, NegationsMean, NullTestsMean, NotNullTestsMean, PatternsMean}
 use Rattle.vx_laws_sql.specs.Meaning.{NegatedPatternsMean, within, RangesMean, NegatedRangesMean, in_type, CastsMean}
 use Rattle.vx_laws_sql.proofs.Steps.{stepped, passed, same_answer}
@@ -182,7 +182,7 @@ casts_mean target t slots row (known e) x fit ho h =
     ap (λ (z : TypedTree). mean t slots row z.tree) (sym (same_answer (Ok (cast_node target e)) (cast_node target e) x refl k.gave))
     ∙ (mean-cast t slots row e.tree (widened target (nullability_of e.ty)) ∙ cast3-widened e.ty target (mean t slots row e.tree) k.holds sound.fits)
 casts_mean target t slots row (number i) x fit ho h =
-    let k = passed (fits (raw_int i) target) (no_cast (number i) target) (Ok (constant target (raw_int i))) x h in
+    let k = passed (fits (raw_int i) target) (wrong_number i target) (Ok (constant target (raw_int i))) x h in
     ap (λ (z : TypedTree). mean t slots row z.tree) (sym (same_answer (Ok (constant target (raw_int i))) (constant target (raw_int i)) x refl k.gave))
     ∙ number-cast t slots row target i k.holds
 casts_mean target t slots row untyped_null x fit ho h =

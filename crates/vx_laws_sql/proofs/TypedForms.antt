@@ -18,6 +18,7 @@ use Rattle.vx_laws_sql.specs.Operands.{TypedTree, Operand, known, number, untype
 use Rattle.vx_laws_sql.specs.Operands.{◌>>=◌, where_it, constant, null_of, taking, alone, ptype_of, widened_to, both}
 use Rattle.vx_laws_sql.specs.Forms.{truth_of, sum_node, sum_by, as_boolean, as_text, connective, pattern_test}
 use Rattle.vx_laws_sql.specs.Forms.{InRange, alike_three, three_in_common, three_matched_by, three_matched, range_node, ranged, first_known, cast_node}
+use Rattle.vx_laws_sql.specs.Forms.{wrong_number}
 use Rattle.vx_laws_sql.specs.Typing.{HasItsType, IsTest, IsTyped, ConjunctionsAreTests, DisjunctionsAreTests, NegationsAreTests, NullTestsAreTests}
 use Rattle.vx_laws_sql.specs.Typing.{NotNullTestsAreTests, PatternsAreTests, RangesAreTests, SumsAreTyped, DifferencesAreTyped, CastsAreTyped}
 use Rattle.vx_laws_sql.proofs.Steps.{stepped, passed, same_answer}
@@ -187,7 +188,7 @@ casts_are_typed target t (known e) x ho h =
     subst (λ (z : TypedTree). HasItsType t z) (same_answer (Ok (cast_node target e)) (cast_node target e) x refl k.gave)
     (cast-typed t e.ty (widened target (nullability_of e.ty)) e.tree ho (takes_cast-widened e.ty target (nullability_of e.ty) k.holds))
 casts_are_typed target t (number i) x ho h =
-    let k = passed (fits (raw_int i) target) (no_cast (number i) target) (Ok (constant target (raw_int i))) x h in
+    let k = passed (fits (raw_int i) target) (wrong_number i target) (Ok (constant target (raw_int i))) x h in
     subst (λ (z : TypedTree). HasItsType t z) (same_answer (Ok (constant target (raw_int i))) (constant target (raw_int i)) x refl k.gave)
     (constant-typed t target (raw_int i) (plain-no_name_twice target (int_fit-plain target i k.holds)) k.holds)
 casts_are_typed target t untyped_null x ho h =

@@ -1,7 +1,7 @@
 -- The expression of each form of SQL over its operands, with its type, or why they have no place in it.
-use Rattle.std.specs.Prelude.{false, Option, Some, None, Result, Ok, Err}
+use Rattle.std.specs.Prelude.{ℤ, false, Option, Some, None, Result, Ok, Err}
 use Rattle.vx_dtype.specs.declared.Nullability.TheVariants.{NonNullable, Nullable}
-use Rattle.vx_dtype.specs.Types.{Ty, bool_ty, text_ty}
+use Rattle.vx_dtype.specs.Types.{Ty, bool_ty, int_ty, text_ty}
 use Rattle.vx_dtype.specs.TypeRules.{union, nullability_of, with_nullability, widened, is_plain, is_bool_ty, is_int_ty, is_text_ty, alike}
 use Rattle.vx_dtype.specs.Values.{raw_int}
 use Rattle.vx_dtype.specs.Fits.{fits}
@@ -15,7 +15,7 @@ use Rattle.vx_expr.specs.Operators.{operator_of}
 use Rattle.vx_expr.specs.Trees.{Tree, binary, not_of, is_null_of, like, between, cast}
 use Rattle.vx_semantics.specs.Typing.{union_of}
 use Rattle.vx_laws_sql.specs.CommonTypes.{common_of_three}
-use Rattle.vx_laws_sql.specs.Operands.{TypedTree, Operand, known, number, untyped_null, Mismatch, other_kinds, not_plain, no_common_type}
+use Rattle.vx_laws_sql.specs.Operands.{TypedTree, Operand, known, number, untyped_null, Mismatch, out_of_range, other_kinds, not_plain, no_common_type}
 use Rattle.vx_laws_sql.specs.Operands.{no_boolean, no_text, no_number, no_cast, ◌>>=◌, where_it, constant, null_of}
 use Rattle.vx_laws_sql.specs.Operands.{taking, alone, ptype_of, widened_to, both}
 
@@ -130,8 +130,13 @@ range_test o lower upper = ranged (first_known o (first_known lower upper)) o lo
 abbrev pub cast_node : Ty → TypedTree → TypedTree
 cast_node target e = record { ty = widened target (nullability_of e.ty); tree = cast e.tree (widened target (nullability_of e.ty)) }
 
+-- a number that is none of the type: out of an integer type's range, or of another kind
+abbrev pub wrong_number : ℤ → Ty → Mismatch
+wrong_number i (int_ty p n) = out_of_range i p
+wrong_number i t = no_cast (number i) t
+
 -- `CAST(e AS target)`; a number and NULL are constants of the target
 abbrev pub cast_to : Ty → Operand → Result TypedTree Mismatch
 cast_to target (known e) = where_it (takes_cast e.ty target) (no_cast (known e) target) (Ok (cast_node target e))
-cast_to target (number i) = where_it (fits (raw_int i) target) (no_cast (number i) target) (Ok (constant target (raw_int i)))
+cast_to target (number i) = where_it (fits (raw_int i) target) (wrong_number i target) (Ok (constant target (raw_int i)))
 cast_to target untyped_null = where_it (is_plain target) (no_cast untyped_null target) (Ok (null_of target))
