@@ -1,0 +1,6 @@
+pub mod Refusals
+pub mod Constants
+pub mod Expressions
+pub mod Clauses
+pub mod Statements
+pub mod Typing
