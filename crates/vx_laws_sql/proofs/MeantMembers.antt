@@ -16,11 +16,11 @@ use Rattle.vx_semantics.specs.Meaning.{Slots, mean}
 use Rattle.vx_laws.proofs.Kleene.{not3-or3}
 use Rattle.vx_laws.proofs.Comparing.{compare3-swap, not3-compare3}
 use Rattle.vx_laws_sql.specs.Operands.{TypedTree, known, where_it, taking}
-use Rattle.vx_laws_sql.specs.Membership.{first_typed, wrong_constant, with_constant, elements, has_null, element_type, member_node, member_of, membership}
+use Rattle.vx_laws_sql.specs.Membership.{first_typed, wrong_constant, with_constant, elements, has_null, element_type, member_node, member_of}
 use Rattle.vx_laws_sql.specs.Meaning.{value_at, constant_value, equals_one, differs_from_all, MembershipsMean, NegatedMembershipsMean}
 use Rattle.vx_laws_sql.proofs.Steps.{stepped, passed, same_answer}
 use Rattle.vx_laws_sql.proofs.Typed.{taking-typed}
-use Rattle.vx_laws_sql.proofs.TypedMembers.{member_of-is}
+use Rattle.vx_laws_sql.proofs.TypedMembers.{stands_before, member_of-is}
 use Rattle.vx_laws_sql.proofs.Numbers.{untyped, compare3-alike}
 use Rattle.vx_laws_sql.proofs.Means.{IsAt-IsTyped, taking-stands, is_sound}
 use Rattle.vx_laws_sql.proofs.MeantForms.{negation-means}
@@ -88,7 +88,7 @@ known-step e v c rs out n h k l w =
     ∙ (or-found b n f ∙ ap (λ (z : Raws). answer n (has_element (all_valued z d) v)) (same_answer (Ok (raw c rs)) (raw c rs) out refl p.gave))
 
 step : (e : TypedTree) (v : Val) (c : Raw) (cs : List Raw) (rs out : Raws) → is_known v ≡ true → is_plain e.ty ≡ true → fits_but_for_faults v e.ty ≡ true
-    → with_constant e (element_type e) c rs ≡ Ok out
+    → with_constant e (element_type e) c (Ok rs) ≡ Ok out
     → or3 (compare3 Eq v (constant_value c)) (answer (has_null cs) (has_element (all_valued rs (element_type e)) v))
     ≡ answer (has_null (c ∷ cs)) (has_element (all_valued out (element_type e)) v)
 step e v raw_null cs rs out h k l w =
@@ -107,7 +107,7 @@ known-one : (e : TypedTree) (v : Val) (cs : List Raw) (rs : Raws) → is_known v
 unfolding all_valued
 known-one e v [] rs h k l w = ap (λ (z : Raws). answer false (has_element (all_valued z (element_type e)) v)) (same_answer (Ok no_raws) no_raws rs refl w)
 known-one e v (c ∷ cs) rs h k l w =
-    let s = stepped (elements e (element_type e) cs) (with_constant e (element_type e) c) rs w in
+    let s = stands_before e (element_type e) c (elements e (element_type e) cs) rs w in
     ap (or3 (compare3 Eq v (constant_value c))) (known-one e v cs s.given h k l s.was) ∙ step e v c cs s.given rs h k l s.gave
 
 no_nested : (u : Ty) (c : Raw) → is_plain u ≡ true → fits c (with_nullability u NonNullable) ≡ true → compare3 Eq null_val (constant_value c) ≡ null_val
@@ -127,7 +127,7 @@ no_nested (text_ty n) (raw_struct xs) k m = let no : ⊥ = cc (m) in absurd no
 no_nested (list_ty d n) (raw_struct xs) k m = let no : ⊥ = cc (k) in absurd no
 no_nested (struct_ty fs n) (raw_struct xs) k m = let no : ⊥ = cc (k) in absurd no
 
-null-constant : (e : TypedTree) (c : Raw) (rs out : Raws) → is_plain e.ty ≡ true → with_constant e (element_type e) c rs ≡ Ok out
+null-constant : (e : TypedTree) (c : Raw) (rs out : Raws) → is_plain e.ty ≡ true → with_constant e (element_type e) c (Ok rs) ≡ Ok out
     → compare3 Eq null_val (constant_value c) ≡ null_val
 null-constant e raw_null rs out k w = refl
 null-constant e (raw_bool b) rs out k w = refl
@@ -144,10 +144,10 @@ null-constant e (raw_struct xs) rs out k w =
 null-one : (e : TypedTree) (c : Raw) (cs : List Raw) (rs : Raws) → is_plain e.ty ≡ true → elements e (element_type e) (c ∷ cs) ≡ Ok rs
     → equals_one null_val (c ∷ cs) ≡ null_val
 null-one e c [] rs k w =
-    let s = stepped (elements e (element_type e) []) (with_constant e (element_type e) c) rs w in
+    let s = stands_before e (element_type e) c (elements e (element_type e) []) rs w in
     ap (λ (z : Val). or3 z (bool_val false)) (null-constant e c s.given rs k s.gave)
 null-one e c (d ∷ cs) rs k w =
-    let s = stepped (elements e (element_type e) (d ∷ cs)) (with_constant e (element_type e) c) rs w in
+    let s = stands_before e (element_type e) c (elements e (element_type e) (d ∷ cs)) rs w in
     ap (λ (z : Val). or3 z (equals_one null_val (d ∷ cs))) (null-constant e c s.given rs k s.gave) ∙ ap (or3 null_val) (null-one e d cs s.given k s.was)
 
 -- the answer of the list, null where it isn't true if null is among the constants

@@ -1,5 +1,5 @@
 -- What membership gives is strictly typed.
-use Rattle.std.proofs.Common.{◌≡◌, refl, ap, ◌∙◌, subst, Bool, true, false, ◌&&◌, List, [], ◌∷◌, Result, Ok}
+use Rattle.std.proofs.Common.{◌≡◌, refl, ap, ◌∙◌, subst, Bool, true, false, ◌&&◌, List, [], ◌∷◌, Result, Ok, Err}
 use Rattle.std.proofs.lemmas.Bool.{and_from}
 use Rattle.vx_dtype.specs.declared.Nullability.{Nullability}
 use Rattle.vx_dtype.specs.declared.Nullability.TheVariants.{NonNullable, Nullable}
@@ -11,9 +11,8 @@ use Rattle.vx_expr.specs.declared.Operator.{Operator}
 use Rattle.vx_expr.specs.Trees.{list_contains}
 use Rattle.vx_semantics.specs.Typing.{Refusal, type_mismatch, and_then, unless, equal_plain, binary_type, contains_type, typed_of}
 use Rattle.vx_laws.proofs.Fitting.{same_ptype-itself}
-use Rattle.vx_laws_sql.specs.Operands.{TypedTree, known, not_plain, ◌>>=◌, where_it, constant, null_of, taking}
+use Rattle.vx_laws_sql.specs.Operands.{TypedTree, known, Mismatch, not_plain, ◌>>=◌, where_it, constant, null_of, taking}
 use Rattle.vx_laws_sql.specs.Membership.{first_typed, wrong_constant, with_constant, elements, has_null, element_type, listed_in, member_node, member_of}
-use Rattle.vx_laws_sql.specs.Membership.{membership}
 use Rattle.vx_laws_sql.specs.Typing.{HasItsType, IsTest, MembershipsAreTests}
 use Rattle.vx_laws_sql.proofs.Steps.{stepped, passed, same_answer}
 use Rattle.vx_laws_sql.proofs.Typed.{constant-typed, plain-no_name_twice, null_of-typed, taking-typed, binary-typed}
@@ -26,7 +25,31 @@ fitting e t c rs out fit h =
     let k = passed (fits c t) (wrong_constant e t c) (Ok (raw c rs)) out h in
     subst (λ (z : Raws). all_fit z t ≡ true) (same_answer (Ok (raw c rs)) (raw c rs) out refl k.gave) (and_from (fits c t) (all_fit rs t) k.holds fit)
 
-with_constant-fit : (e : TypedTree) (t : Ty) (c : Raw) (rs out : Raws) → all_fit rs t ≡ true → with_constant e t c rs ≡ Ok out → all_fit out t ≡ true
+-- a refusal behind a test is refused, whether it holds or not
+refused-behind : (test : Bool) (wrong r : Mismatch) (out : Raws) → where_it test wrong (Err r) ≡ Ok out → ⊥
+refused-behind true wrong r out h = cc (h)
+refused-behind false wrong r out h = cc (h)
+
+no_values-behind : (e : TypedTree) (t : Ty) (c : Raw) (r : Mismatch) (out : Raws) → with_constant e t c (Err r) ≡ Ok out → ⊥
+no_values-behind e t raw_null r out h = cc (h)
+no_values-behind e t (raw_bool b) r out h = refused-behind (fits (raw_bool b) t) (wrong_constant e t (raw_bool b)) r out h
+no_values-behind e t (raw_int i) r out h = refused-behind (fits (raw_int i) t) (wrong_constant e t (raw_int i)) r out h
+no_values-behind e t (raw_text s) r out h = refused-behind (fits (raw_text s) t) (wrong_constant e t (raw_text s)) r out h
+no_values-behind e t (raw_list xs) r out h = refused-behind (fits (raw_list xs) t) (wrong_constant e t (raw_list xs)) r out h
+no_values-behind e t (raw_struct xs) r out h = refused-behind (fits (raw_struct xs) t) (wrong_constant e t (raw_struct xs)) r out h
+
+-- the constants behind one have values, and the constant stands before these
+pub record StandsBefore (e : TypedTree) (t : Ty) (c : Raw) (behind : Result Raws Mismatch) (out : Raws) : Type 0 where
+  pub given : Raws
+  pub was : behind ≡ Ok given
+  pub gave : with_constant e t c (Ok given) ≡ Ok out
+
+pub stands_before : (e : TypedTree) (t : Ty) (c : Raw) (behind : Result Raws Mismatch) (out : Raws) → with_constant e t c behind ≡ Ok out
+    → StandsBefore e t c behind out
+stands_before e t c (Ok rs) out h = record { given = rs; was = refl; gave = h }
+stands_before e t c (Err r) out h = absurd (no_values-behind e t c r out h)
+
+with_constant-fit : (e : TypedTree) (t : Ty) (c : Raw) (rs out : Raws) → all_fit rs t ≡ true → with_constant e t c (Ok rs) ≡ Ok out → all_fit out t ≡ true
 with_constant-fit e t raw_null rs out fit h = subst (λ (z : Raws). all_fit z t ≡ true) (same_answer (Ok rs) rs out refl h) fit
 with_constant-fit e t (raw_bool b) rs out fit h = fitting e t (raw_bool b) rs out fit h
 with_constant-fit e t (raw_int i) rs out fit h = fitting e t (raw_int i) rs out fit h
@@ -38,7 +61,7 @@ pub elements-fit : (e : TypedTree) (t : Ty) (cs : List Raw) (rs : Raws) → elem
 unfolding all_fit
 elements-fit e t [] rs h = subst (λ (z : Raws). all_fit z t ≡ true) (same_answer (Ok no_raws) no_raws rs refl h) refl
 elements-fit e t (c ∷ cs) rs h =
-    let s = stepped (elements e t cs) (with_constant e t c) rs h in
+    let s = stands_before e t c (elements e t cs) rs h in
     with_constant-fit e t c s.given rs (elements-fit e t cs s.given s.was) s.gave
 
 element-alike : (u : Ty) → is_plain u ≡ true → equal_plain (with_nullability u NonNullable) u ≡ true

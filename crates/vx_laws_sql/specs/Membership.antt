@@ -25,18 +25,20 @@ first_typed (raw_bool b ∷ cs) = known (boolean b)
 first_typed (raw_text s ∷ cs) = known (text s)
 first_typed (c ∷ cs) = first_typed cs
 
--- the constants but NULL, as the values of a list; the first that is no value of the element type is refused
+-- why a constant is no value of the element type
 abbrev pub wrong_constant : TypedTree → Ty → Raw → Mismatch
 wrong_constant e (int_ty p n) (raw_int i) = out_of_range i p
 wrong_constant e t c = other_kinds (known e) (constant_operand c)
 
-abbrev pub with_constant : TypedTree → Ty → Raw → Raws → Result Raws Mismatch
-with_constant e t raw_null rs = Ok rs
-with_constant e t c rs = where_it (fits c t) (wrong_constant e t c) (Ok (raw c rs))
+-- a constant before the values of those behind it, which are looked at only where it is a value of the element type; NULL is left out
+abbrev pub with_constant : TypedTree → Ty → Raw → Result Raws Mismatch → Result Raws Mismatch
+with_constant e t raw_null behind = behind
+with_constant e t c behind = where_it (fits c t) (wrong_constant e t c) (behind >>= λ rs. Ok (raw c rs))
 
+-- the constants but NULL, as the values of a list; the first that is no value of the element type is refused
 abbrev pub elements : TypedTree → Ty → List Raw → Result Raws Mismatch
 elements e t [] = Ok no_raws
-elements e t (c ∷ cs) = elements e t cs >>= with_constant e t c
+elements e t (c ∷ cs) = with_constant e t c (elements e t cs)
 
 -- whether NULL is among the constants
 abbrev pub has_null : List Raw → Bool
