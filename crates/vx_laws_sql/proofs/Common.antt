@@ -6,8 +6,8 @@ use Rattle.std.proofs.lemmas.Bool.{and_parts, and_from}
 use Rattle.vx_dtype.specs.declared.PType.{PType}
 use Rattle.vx_dtype.specs.declared.PType.TheVariants.{U8, U16, U32, U64, I8, I16, I32, I64}
 use Rattle.vx_dtype.specs.Fits.{least, greatest}
-use Rattle.vx_laws_sql.specs.CommonTypes.{holds_type, by_width, first_where, common_type, common_of_three}
-use Rattle.vx_laws_sql.specs.TypeLaws.{HeldNumbersFit, CommonTypeHoldsBoth, CommonTypeIsNarrowest}
+use Rattle.vx_laws_sql.specs.CommonTypes.{holds_type, by_width, first_where, common_type, common_of_three, first_apart}
+use Rattle.vx_laws_sql.specs.TypeLaws.{HeldNumbersFit, CommonTypeHoldsBoth, CommonTypeIsNarrowest, TypesApartHaveNone}
 
 int_le-by : (a b c : ℤ) (v : Bool) → int_le a c ≡ v → int_le a b ≡ true → int_le b c ≡ true → int_le a c ≡ true
 int_le-by a b c true e h k = e
@@ -93,3 +93,25 @@ common_is_narrowest p q r h =
     let first = every-at (λ (a : PType). every (λ b. every (is_narrowest a b))) all_narrowest p in
     let second = every-at (λ (b : PType). every (is_narrowest p b)) first q in
     narrowest-of (holds_type r p && holds_type r q) r (common_type p q) (every-at (is_narrowest p q) second r) h
+
+abbrev is_found : Option PType → Bool
+is_found None = false
+is_found (Some c) = true
+
+-- whether the two that are named of three have no common type, where the three have none
+abbrev are_apart : PType → PType → PType → Bool
+are_apart p q r = is_found (common_of_three p q r) || not (is_found (common_type (first_apart p q r).0 (first_apart p q r).1))
+
+all_apart : every (λ p. every (λ q. every (are_apart p q))) ≡ true
+all_apart = refl
+
+apart-of : (three two : Option PType) → is_found three || not (is_found two) ≡ true → three ≡ None → two ≡ None
+apart-of three None h e = refl
+apart-of None (Some c) h e = let no : ⊥ = cc (h) in absurd no
+apart-of (Some d) (Some c) h e = let no : ⊥ = cc (e) in absurd no
+
+pub types_apart_have_none : TypesApartHaveNone
+types_apart_have_none p q r h =
+    let first = every-at (λ (a : PType). every (λ b. every (are_apart a b))) all_apart p in
+    let second = every-at (λ (b : PType). every (are_apart p b)) first q in
+    apart-of (common_of_three p q r) (common_type (first_apart p q r).0 (first_apart p q r).1) (every-at (are_apart p q) second r) h

@@ -204,7 +204,7 @@ pub record AreSound (t : Ty) (slots : Slots) (row : Val) (a : InRange) : Type 0 
   pub upper : IsSound t slots row a.upper
 
 three_in_common-stand : (t : Ty) (slots : Slots) (row : Val) (p q r : PType) (o : Option PType) (a x : InRange) → common_of_three p q r ≡ o
-    → ptype_of a.value.ty ≡ Some p → ptype_of a.lower.ty ≡ Some q → ptype_of a.upper.ty ≡ Some r → AreSound t slots row a → three_in_common p r o a ≡ Ok x
+    → ptype_of a.value.ty ≡ Some p → ptype_of a.lower.ty ≡ Some q → ptype_of a.upper.ty ≡ Some r → AreSound t slots row a → three_in_common p q r o a ≡ Ok x
     → StandThree t slots row (mean t slots row a.value.tree) (mean t slots row a.lower.tree) (mean t slots row a.upper.tree) x
 three_in_common-stand t slots row p q r (Some c) a x common ep eq er s h =
     let holds = common_of_three-holds p q r c common in

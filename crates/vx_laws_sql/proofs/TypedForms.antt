@@ -208,7 +208,7 @@ pub record IsThree (t : Ty) (x : InRange) : Type 0 where
 
 three_in_common-matches : (t : Ty) (p q r : PType) (c : Option PType) (a x : InRange) → ptype_of a.value.ty ≡ Some p → ptype_of a.lower.ty ≡ Some q
     → ptype_of a.upper.ty ≡ Some r
-    → HasItsType t a.value → HasItsType t a.lower → HasItsType t a.upper → three_in_common p r c a ≡ Ok x → IsThree t x
+    → HasItsType t a.value → HasItsType t a.lower → HasItsType t a.upper → three_in_common p q r c a ≡ Ok x → IsThree t x
 three_in_common-matches t p q r (Some c) a x ep eq er ha hb hc h =
     let made : InRange = record { value = widened_to c a.value; lower = widened_to c a.lower; upper = widened_to c a.upper } in
     let v = widened_to-typed t c p a.value ep ha in

@@ -24,3 +24,12 @@ common_type p q = first_where (λ c. holds_type c p && holds_type c q) by_width
 -- the same of three
 abbrev pub common_of_three : PType → PType → PType → Option PType
 common_of_three p q r = first_where (λ c. holds_type c p && (holds_type c q && holds_type c r)) by_width
+
+abbrev pub apart_by : Option PType → Option PType → PType → PType → PType → PType × PType
+apart_by None with_third p q r = (p, q)
+apart_by (Some c) None p q r = (p, r)
+apart_by (Some c) (Some d) p q r = (q, r)
+
+-- of three types without a common type the first two that have none: the first and the second, the first and the third, else the second and the third
+abbrev pub first_apart : PType → PType → PType → PType × PType
+first_apart p q r = apart_by (common_type p q) (common_type p r) p q r

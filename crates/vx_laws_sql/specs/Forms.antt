@@ -14,7 +14,7 @@ use Rattle.vx_expr.specs.declared.Operator.{Operator}
 use Rattle.vx_expr.specs.Operators.{operator_of}
 use Rattle.vx_expr.specs.Trees.{Tree, binary, not_of, is_null_of, like, between, cast}
 use Rattle.vx_semantics.specs.Typing.{union_of}
-use Rattle.vx_laws_sql.specs.CommonTypes.{common_of_three}
+use Rattle.vx_laws_sql.specs.CommonTypes.{common_of_three, first_apart}
 use Rattle.vx_laws_sql.specs.Operands.{TypedTree, Operand, known, number, untyped_null, Mismatch, out_of_range, other_kinds, not_plain, no_common_type}
 use Rattle.vx_laws_sql.specs.Operands.{no_boolean, no_text, no_number, no_cast, ◌>>=◌, where_it, constant, null_of}
 use Rattle.vx_laws_sql.specs.Operands.{taking, alone, ptype_of, widened_to, both}
@@ -90,12 +90,12 @@ alike_three x =
     (where_it (alike x.value.ty x.lower.ty) (other_kinds (known x.value) (known x.lower))
     (where_it (alike x.value.ty x.upper.ty) (other_kinds (known x.value) (known x.upper)) (Ok x)))
 
-abbrev pub three_in_common : PType → PType → Option PType → InRange → Result InRange Mismatch
-three_in_common p r (Some c) x = Ok (record { value = widened_to c x.value; lower = widened_to c x.lower; upper = widened_to c x.upper })
-three_in_common p r None x = Err (no_common_type p r)
+abbrev pub three_in_common : PType → PType → PType → Option PType → InRange → Result InRange Mismatch
+three_in_common p q r (Some c) x = Ok (record { value = widened_to c x.value; lower = widened_to c x.lower; upper = widened_to c x.upper })
+three_in_common p q r None x = Err (no_common_type (first_apart p q r).0 (first_apart p q r).1)
 
 abbrev pub three_matched_by : Option PType → Option PType → Option PType → InRange → Result InRange Mismatch
-three_matched_by (Some p) (Some q) (Some r) x = three_in_common p r (common_of_three p q r) x
+three_matched_by (Some p) (Some q) (Some r) x = three_in_common p q r (common_of_three p q r) x
 three_matched_by _ _ _ x = alike_three x
 
 abbrev pub three_matched : InRange → Result InRange Mismatch

@@ -1,8 +1,8 @@
 -- What the common type of numbers of two integer types is.
-use Rattle.std.specs.Prelude.{◌≡◌, ℤ, true, ◌&&◌, Some, MatchOption}
+use Rattle.std.specs.Prelude.{◌≡◌, ℤ, true, ◌&&◌, Some, None, MatchOption}
 use Rattle.vx_dtype.specs.declared.PType.{PType}
 use Rattle.vx_dtype.specs.Fits.{in_range}
-use Rattle.vx_laws_sql.specs.CommonTypes.{holds_type, common_type}
+use Rattle.vx_laws_sql.specs.CommonTypes.{holds_type, common_type, common_of_three, first_apart}
 
 -- a number of a type is one of each type that holds it
 abbrev pub HeldNumbersFit : Type 0
@@ -16,3 +16,7 @@ CommonTypeHoldsBoth = (p q c : PType) → common_type p q ≡ Some c → (holds_
 abbrev pub CommonTypeIsNarrowest : Type 0
 CommonTypeIsNarrowest =
     (p q r : PType) → holds_type r p && holds_type r q ≡ true → MatchOption (common_type p q) ⊥ (λ c. holds_type r c ≡ true)
+
+-- of three types without a common type there are two that have none: those that are named
+abbrev pub TypesApartHaveNone : Type 0
+TypesApartHaveNone = (p q r : PType) → common_of_three p q r ≡ None → common_type (first_apart p q r).0 (first_apart p q r).1 ≡ None
