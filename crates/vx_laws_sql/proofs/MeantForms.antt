@@ -29,7 +29,7 @@ use Rattle.vx_laws_sql.specs.Meaning.{NegatedPatternsMean, within, RangesMean, N
 use Rattle.vx_laws_sql.proofs.Steps.{stepped, passed, same_answer}
 use Rattle.vx_laws_sql.proofs.Common.{common_of_three-holds}
 use Rattle.vx_laws_sql.proofs.Typed.{taking-typed}
-use Rattle.vx_laws_sql.proofs.TypedForms.{connective-is, pattern-is, alike_three-is, ranged-is}
+use Rattle.vx_laws_sql.proofs.TypedForms.{connective-is, pattern-is, alike_three-is, integers_with_another, ranged-is}
 use Rattle.vx_laws_sql.proofs.Numbers.{untyped, compare3-alike, not3-like}
 use Rattle.vx_laws_sql.proofs.Means.{IsAt-IsTyped, Stands, taking-stands, IsSound, is_sound, widened_to-stands, mean-binary}
 
@@ -235,7 +235,7 @@ three_matched_by-stand t slots row (Some p) (Some q) (Some r) a x ep eq er s h =
     three_in_common-stand t slots row p q r (common_of_three p q r) a x refl ep eq er s h
 three_matched_by-stand t slots row None q r a x ep eq er s h = alike_three-stand t slots row a x s (alike_three-is a x h).is
 three_matched_by-stand t slots row (Some p) None r a x ep eq er s h = alike_three-stand t slots row a x s (alike_three-is a x h).is
-three_matched_by-stand t slots row (Some p) (Some q) None a x ep eq er s h = alike_three-stand t slots row a x s (alike_three-is a x h).is
+three_matched_by-stand t slots row (Some p) (Some q) None a x ep eq er s h = absurd (integers_with_another p q a x h)
 
 mean-between : (t : Ty) (slots : Slots) (row : Val) (x : InRange)
     → mean t slots row (range_node x).tree ≡ within (mean t slots row x.value.tree) (mean t slots row x.lower.tree) (mean t slots row x.upper.tree)

@@ -1,5 +1,5 @@
 -- What sums, connectives, null tests, patterns, ranges and casts give is strictly typed.
-use Rattle.std.proofs.Common.{◌≡◌, ℤ, refl, ap, ◌∙◌, subst, Bool, true, false, ◌&&◌, Option, Some, None, Result, Ok}
+use Rattle.std.proofs.Common.{◌≡◌, ℤ, refl, ap, ◌∙◌, subst, Bool, true, false, ◌&&◌, Option, Some, None, Result, Ok, Err}
 use Rattle.std.proofs.lemmas.Bool.{and_parts, and_from}
 use Rattle.vx_dtype.specs.declared.PType.{PType}
 use Rattle.vx_dtype.specs.declared.Nullability.{Nullability}
@@ -13,9 +13,9 @@ use Rattle.vx_dtype.specs.Casts.{takes_cast}
 use Rattle.vx_expr.specs.declared.Operator.{Operator}
 use Rattle.vx_expr.specs.Trees.{Tree, binary, not_of, is_null_of, like}
 use Rattle.vx_semantics.specs.Typing.{Refusal, type_mismatch, and_then, unless, union_of, equal_plain, binary_type, not_type, like_type, between_type, typed_of}
-use Rattle.vx_laws_sql.specs.CommonTypes.{common_of_three}
+use Rattle.vx_laws_sql.specs.CommonTypes.{common_type, common_of_three}
 use Rattle.vx_laws_sql.specs.Operands.{TypedTree, Operand, known, number, untyped_null, other_kinds, not_plain, no_boolean, no_text, no_number, no_cast}
-use Rattle.vx_laws_sql.specs.Operands.{◌>>=◌, where_it, constant, null_of, taking, alone, ptype_of, widened_to, both}
+use Rattle.vx_laws_sql.specs.Operands.{◌>>=◌, where_it, constant, null_of, taking, alone, ptype_of, widened_to, in_common, both}
 use Rattle.vx_laws_sql.specs.Forms.{truth_of, sum_node, sum_by, as_boolean, as_text, connective, pattern_test}
 use Rattle.vx_laws_sql.specs.Forms.{InRange, alike_three, three_in_common, three_matched_by, three_matched, range_node, ranged, first_known, cast_node}
 use Rattle.vx_laws_sql.specs.Forms.{wrong_number}
@@ -260,13 +260,19 @@ alike_three-plain a x h =
     let k = alike_three-is a x h in
     record { value = k.plain; lower = alike-plain a.value.ty a.lower.ty k.low k.plain; upper = alike-plain a.value.ty a.upper.ty k.up k.plain }
 
+-- two integers and an operand of another kind are refused
+pub integers_with_another : (p q : PType) (a x : InRange) → three_matched_by (Some p) (Some q) None a ≡ Ok x → ⊥
+integers_with_another p q a x h =
+    let s = stepped (in_common p q (common_type p q) a.value a.lower) (λ y. Err (other_kinds (known a.value) (known a.upper))) x h in
+    cc (s.gave)
+
 three_matched_by-plain : (p q r : Option PType) (a x : InRange) → ptype_of a.value.ty ≡ p → ptype_of a.lower.ty ≡ q → ptype_of a.upper.ty ≡ r
     → three_matched_by p q r a ≡ Ok x → ArePlain a
 three_matched_by-plain (Some p) (Some q) (Some r) a x ep eq er h =
     record { value = int-plain a.value.ty p ep; lower = int-plain a.lower.ty q eq; upper = int-plain a.upper.ty r er }
 three_matched_by-plain None q r a x ep eq er h = alike_three-plain a x h
 three_matched_by-plain (Some p) None r a x ep eq er h = alike_three-plain a x h
-three_matched_by-plain (Some p) (Some q) None a x ep eq er h = alike_three-plain a x h
+three_matched_by-plain (Some p) (Some q) None a x ep eq er h = absurd (integers_with_another p q a x h)
 
 alike_three-matches : (t : Ty) (a x : InRange) → HasItsType t a.value → HasItsType t a.lower → HasItsType t a.upper → alike_three a ≡ Ok x → IsThree t x
 alike_three-matches t a x ha hb hc h =
@@ -285,7 +291,7 @@ three_matched_by-matches : (t : Ty) (p q r : Option PType) (a x : InRange) → p
 three_matched_by-matches t (Some p) (Some q) (Some r) a x ep eq er ha hb hc h = three_in_common-matches t p q r (common_of_three p q r) a x ep eq er ha hb hc h
 three_matched_by-matches t None q r a x ep eq er ha hb hc h = alike_three-matches t a x ha hb hc h
 three_matched_by-matches t (Some p) None r a x ep eq er ha hb hc h = alike_three-matches t a x ha hb hc h
-three_matched_by-matches t (Some p) (Some q) None a x ep eq er ha hb hc h = alike_three-matches t a x ha hb hc h
+three_matched_by-matches t (Some p) (Some q) None a x ep eq er ha hb hc h = absurd (integers_with_another p q a x h)
 
 -- the three operands as they stand in the range, and where they come from
 pub record AreRanged (across o lower upper : Operand) (x : InRange) : Type 0 where

@@ -14,10 +14,10 @@ use Rattle.vx_expr.specs.declared.Operator.{Operator}
 use Rattle.vx_expr.specs.Operators.{operator_of}
 use Rattle.vx_expr.specs.Trees.{Tree, binary, not_of, is_null_of, like, between, cast}
 use Rattle.vx_semantics.specs.Typing.{union_of}
-use Rattle.vx_laws_sql.specs.CommonTypes.{common_of_three, first_apart}
+use Rattle.vx_laws_sql.specs.CommonTypes.{common_type, common_of_three, first_apart}
 use Rattle.vx_laws_sql.specs.Operands.{TypedTree, Operand, known, number, untyped_null, Mismatch, out_of_range, other_kinds, not_plain, no_common_type}
 use Rattle.vx_laws_sql.specs.Operands.{no_boolean, no_text, no_number, no_cast, ◌>>=◌, where_it, constant, null_of}
-use Rattle.vx_laws_sql.specs.Operands.{taking, alone, ptype_of, widened_to, both}
+use Rattle.vx_laws_sql.specs.Operands.{taking, alone, ptype_of, widened_to, in_common, both}
 
 -- an expression as an operand of a further form
 abbrev pub truth_of : Ty → Ty → Tree → TypedTree
@@ -96,6 +96,7 @@ three_in_common p q r None x = Err (no_common_type (first_apart p q r).0 (first_
 
 abbrev pub three_matched_by : Option PType → Option PType → Option PType → InRange → Result InRange Mismatch
 three_matched_by (Some p) (Some q) (Some r) x = three_in_common p q r (common_of_three p q r) x
+three_matched_by (Some p) (Some q) None x = in_common p q (common_type p q) x.value x.lower >>= λ y. Err (other_kinds (known x.value) (known x.upper))
 three_matched_by _ _ _ x = alike_three x
 
 abbrev pub three_matched : InRange → Result InRange Mismatch
