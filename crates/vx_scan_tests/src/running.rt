@@ -65,7 +65,7 @@ fn sink(alloc: Global, writes: Option<u32>) -> Result<MemorySink, Fail> {
 }
 
 /// The end of a run of these arguments.
-fn ended(
+fn ran(
     alloc: Global,
     arguments: &[String],
     mut source: MemorySource,
@@ -92,7 +92,7 @@ fn run_over(
     let arguments = arguments(alloc, texts)?;
     let source = source(alloc, reads)?;
     let sink = sink(alloc, writes)?;
-    Ok(ended(alloc, arguments.as_slice(), source, sink))
+    Ok(ran(alloc, arguments.as_slice(), source, sink))
 }
 
 /// Whether a run answered this text.
