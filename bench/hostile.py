@@ -167,7 +167,7 @@ INPUTS = {
     "400,000 blocks without rows": ("scan", blocks_without_rows, "each block types its parts again"),
     "1,365 tests of the row": ("scan", tests_of_the_row, "the packed row is copied for each"),
     "1,000 rows in a pack": ("scan", packed_rows, "the packed row is copied for each"),
-    "100,000 fields with a statistic each": ("scan", statistic_a_field, "names are looked up in lists"),
+    "100,000 fields with a statistic each": ("scan", statistic_a_field, None),
     "a merge of 400,000 names": ("scan", merged_names, "names are looked up in lists"),
     "1,500 blocks of 1,024 columns": ("scan", many_narrow_blocks, "names are looked up in lists, and parts are typed again"),
     "1,500,000 objects as blocks": ("scan", objects_as_blocks, "a request is read as a tree of values"),
