@@ -1,5 +1,4 @@
 pub mod TruthLemmas
-pub mod StandingLemmas
 pub mod AvailableLemmas
 pub mod RunLemmas
 pub mod ColumnLemmas

@@ -27,8 +27,7 @@ use Rattle.vx_column.specs.StructColumns.{column_types, all_have_rows, lengths_a
 use Rattle.vx_laws_pruning.specs.PruningLaws.{AreAccepted}
 use Rattle.vx_laws_pruning.proofs.Accepted.{follows_rules}
 use Rattle.vx_laws_pruning.proofs.ColumnTypes.{first-plain, distinct-row}
-use Rattle.vx_block_pruning.specs.Standing.{name_of}
-use Rattle.vx_block_pruning.specs.Available.{flagged, TellsAvailable}
+use Rattle.vx_block_pruning.specs.Available.{flagged, name_of, TellsAvailable}
 use Rattle.vx_block_pruning.specs.StatisticColumns.{column_type, column_of, IsUniform, HasRunOf}
 use Rattle.vx_block_pruning.specs.PruningTruths.{pruning_table}
 use Rattle.vx_block_pruning.proofs.RunLemmas.{run-length, run-get, same-runs}

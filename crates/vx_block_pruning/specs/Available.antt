@@ -1,9 +1,12 @@
 -- Which statistics of a table are available, as truths beside all of them.
 use Rattle.std.specs.Prelude.{◌≡◌, Bool, cond, List, [], ◌∷◌, map, length}
 use Rattle.vx_dtype.specs.Types.{Bytes}
-use Rattle.vx_semantics.specs.Tables.{Zones}
+use Rattle.vx_semantics.specs.Tables.{Zones, ZoneStat, joined_name}
 use Rattle.vx_passes.specs.PruningTables.{available_statistics}
-use Rattle.vx_block_pruning.specs.Standing.{name_of}
+
+-- the joined name of a statistic
+abbrev pub name_of : ZoneStat → Bytes
+name_of z = joined_name z.path z.stat
 
 -- the items beside which a truth stands that is true
 abbrev pub flagged : {X : Type 0} → List Bool → List X → List X

@@ -2,7 +2,6 @@ pub mod Available
 pub mod BlocksRuledOut
 pub mod PruningRules
 pub mod PruningTruths
-pub mod Standing
 pub mod StatisticColumns
 pub use Rattle.vx_semantics.specs.Typing
 pub use Rattle.vx_semantics.specs.Slots

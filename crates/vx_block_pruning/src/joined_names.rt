@@ -1,47 +1,58 @@
-// Which joined names stand once among statistics: one look-up a statistic, however many there are.
+// The joined names of statistics, and which of them stand once: one look-up a statistic, however many there are.
 ghost use Rattle.std.specs.Prelude.{◌≡◌, map, IfOk};
-ghost use Rattle.std.specs.HashMap.{get};
-ghost use Rattle.std.specs.Str.{bytes_eq};
-ghost use Rattle.vx_dtype.specs.Types.{Bytes};
+ghost use Rattle.std.specs.BTreeMap.{get};
+ghost use Rattle.std.specs.Cmp.Lexicographic.{slice_cmp};
+ghost use Rattle.std.specs.List.{filter};
+ghost use Rattle.std.specs.Ordering.{nat_cmp};
+ghost use Rattle.vx_prune.specs.Standing.{is_once};
 ghost use Rattle.vx_zones.specs.ZoneViews.{stat_view};
-ghost use Rattle.vx_block_pruning.specs.Standing.{standing, is_alone_by, name_of};
+ghost use Rattle.vx_block_pruning.specs.Available.{name_of};
 
 use std::alloc::Global;
-use std::collections::HashMap;
+use std::collections::BTreeMap;
 use vx_dtype::{FieldName, Mem};
-use vx_prune::field_path_stat_field_name;
+use vx_prune::{field_path_stat_field_name, stands_once};
 use vx_zones::ZoneStat;
 
-/// Whether each joined name of statistics stands once among them.
-pub(crate) fn standing(alloc: Global, stats: &[ZoneStat]) -> Mem<HashMap<FieldName, bool>>
-    ensures { IfOk result (λ names. (n : Bytes) → get bytes_eq names n ≡ standing (map stat_view stats.now) n) }
+/// The joined names of statistics, in order.
+pub(crate) fn joined_names(alloc: Global, stats: &[ZoneStat]) -> Mem<Vec<FieldName>>
+    ensures { IfOk result (λ names. names.items ≡ map name_of (map stat_view stats.now)) }
 {
-    let mut names = HashMap::new(alloc);
+    let mut names = Vec::with_capacity(alloc, stats.len())?;
     for stat in stats {
-        let name = joined_name(alloc, stat)?;
-        let alone = !names.contains_key(&name);
-        names.insert(name, alone)?;
+        names.push(field_path_stat_field_name(alloc, &stat.path, stat.stat)?)?;
     }
     Ok(names)
 }
 
-/// Whether a statistic's joined name stands once, by what is known of each joined name.
-pub(crate) fn is_alone(
+/// Of each of these names, whether it is noted that it stands once.
+pub(crate) fn alone(
     alloc: Global,
-    names: &HashMap<FieldName, bool>,
-    stat: &ZoneStat,
-) -> Mem<bool>
-    ensures { IfOk result (λ alone. alone ≡ is_alone_by (get bytes_eq names.now) (stat_view stat.now)) }
+    names: &[FieldName],
+    noted: &BTreeMap<FieldName, bool>,
+) -> Mem<Vec<bool>>
+    ensures { IfOk result (λ flags. flags.items ≡ map (λ n. is_once (get (slice_cmp nat_cmp) noted.now n)) names.now) }
 {
-    match names.get(&joined_name(alloc, stat)?) {
-        Some(alone) => Ok(*alone),
-        None => Ok(false),
+    let mut flags = Vec::with_capacity(alloc, names.len())?;
+    for name in names {
+        flags.push(stands_once(noted, name))?;
     }
+    Ok(flags)
 }
 
-/// The joined name of a statistic.
-pub(crate) fn joined_name(alloc: Global, stat: &ZoneStat) -> Mem<FieldName>
-    ensures { IfOk result (λ name. name ≡ name_of (stat_view stat.now)) }
+/// Those of these names of which it is noted that they stand once, in order.
+pub(crate) fn alone_names(
+    alloc: Global,
+    names: &[FieldName],
+    noted: &BTreeMap<FieldName, bool>,
+) -> Mem<Vec<FieldName>>
+    ensures { IfOk result (λ kept. kept.items ≡ filter (λ n. is_once (get (slice_cmp nat_cmp) noted.now n)) names.now) }
 {
-    field_path_stat_field_name(alloc, &stat.path, stat.stat)
+    let mut kept = Vec::new(alloc);
+    for name in names {
+        if stands_once(noted, name) {
+            kept.push(name.clone()?)?;
+        }
+    }
+    Ok(kept)
 }

@@ -1,30 +1,25 @@
 // A filter's rule over a table's statistics, made once and asked of runs of blocks.
-ghost use Rattle.std.specs.Prelude.{◌≡◌, ◌+◌, ◌≤◌, true, false, length, map, Ok, IfOk};
-ghost use Rattle.std.specs.HashMap.{get};
-ghost use Rattle.std.specs.Str.{bytes_eq};
+ghost use Rattle.std.specs.Prelude.{◌≡◌, ◌+◌, ◌≤◌, true, false, length, Ok, IfOk};
 ghost use Rattle.std.proofs.Math.ListN.{replicate};
 ghost use Rattle.vx_dtype.specs.Types.{Ty};
 ghost use Rattle.vx_expr.specs.Trees.{Tree};
 ghost use Rattle.vx_semantics.specs.Typing.{typed_of};
 ghost use Rattle.vx_semantics.specs.Slots.{slots_fit};
 ghost use Rattle.vx_semantics.specs.Tables.{row_type};
-ghost use Rattle.vx_zones.specs.ZoneViews.{stat_view};
 ghost use Rattle.vx_block_pruning.specs.Available.{TellsAvailable};
 ghost use Rattle.vx_block_pruning.specs.BlocksRuledOut.{run_ruled_out};
 ghost use Rattle.vx_block_pruning.specs.PruningRules.{IsRuleOf, pruning_tree};
 ghost use Rattle.vx_block_pruning.specs.PruningTruths.{IsEvaluable, pruning_truths};
-ghost use Rattle.vx_block_pruning.specs.Standing.{is_alone_by};
 
-use crate::joined_names::{is_alone, standing};
-use crate::tables::{available_names, statistics_table};
+use crate::joined_names::{alone, alone_names, joined_names};
+use crate::tables::statistics_table;
 use crate::truths::{evaluated, truths};
 use std::alloc::Global;
-use std::collections::HashMap;
-use vx_dtype::{FieldName, FieldNames, Mem, Scalar};
+use vx_dtype::{FieldNames, Mem, Scalar};
 use vx_eval::Scope;
 use vx_expr::ExprRef;
-use vx_prune::checked_pruning_expr;
-use vx_zones::{ZoneMap, ZoneStat};
+use vx_prune::{checked_pruning_expr, standing};
+use vx_zones::ZoneMap;
 
 /// A filter's rule over a table's statistics, made once and asked of runs of blocks: a run is one evaluation over its own blocks' statistics,
 /// however many blocks the table has, and the slots may change from one run to the next.
@@ -44,10 +39,11 @@ impl PruningRule {
         requires typed { (u : Ty) × (typed_of (row_type zones.now.columns) filter.now ≡ Ok u) }
         ensures { IfOk result (λ rule. IsRuleOf zones.now filter.now rule) }
     {
-        let stats = zones.stats();
-        let standing = standing(alloc, stats)?;
-        let available = alone(alloc, stats, &standing)?;
-        let names = FieldNames::new(alloc, available_names(alloc, stats, &standing)?)?;
+        let joined = joined_names(alloc, zones.stats())?;
+        let all = joined.as_slice();
+        let noted = standing(alloc, all)?;
+        let available = alone(alloc, all, &noted)?;
+        let names = FieldNames::new(alloc, alone_names(alloc, all, &noted)?)?;
         let pruning = pruning_of(alloc, zones, filter)?;
         Ok(PruningRule {
             pruning,
@@ -102,17 +98,6 @@ impl PruningRule {
         let scope = Scope::new(table).with_slots(copied(alloc, slots)?);
         truths(alloc, &evaluated(alloc, pruning, &scope)?)
     }
-}
-
-/// Of each statistic, whether its joined name stands once.
-fn alone(alloc: Global, stats: &[ZoneStat], standing: &HashMap<FieldName, bool>) -> Mem<Vec<bool>>
-    ensures { IfOk result (λ flags. flags.items ≡ map (is_alone_by (get bytes_eq standing.now)) (map stat_view stats.now)) }
-{
-    let mut flags = Vec::with_capacity(alloc, stats.len())?;
-    for stat in stats {
-        flags.push(is_alone(alloc, standing, stat)?)?;
-    }
-    Ok(flags)
 }
 
 /// The pruning expression of a filter over a table's available statistics, None where they tell of none.

@@ -1,20 +1,15 @@
 // The table over which pruning expressions are evaluated: a row for each block of a run, with the statistics that are available there.
 ghost use Rattle.std.specs.Prelude.{◌≡◌, ◌+◌, ◌≤◌, length, map, IfOk};
-ghost use Rattle.std.specs.List.{All, filter};
-ghost use Rattle.std.specs.HashMap.{get};
-ghost use Rattle.std.specs.Str.{bytes_eq};
+ghost use Rattle.std.specs.List.{All};
 ghost use Rattle.vx_zones.specs.ZoneViews.{stat_view};
 ghost use Rattle.vx_block_pruning.specs.Available.{flagged, TellsAvailable};
-ghost use Rattle.vx_block_pruning.specs.Standing.{is_alone_by, name_of};
 ghost use Rattle.vx_block_pruning.specs.StatisticColumns.{column_of, HasRunOf};
 ghost use Rattle.vx_block_pruning.specs.PruningTruths.{pruning_table};
 
-use crate::joined_names::{is_alone, joined_name};
 use crate::statistics::column_of;
 use std::alloc::Global;
-use std::collections::HashMap;
 use vx_column::{ColumnRef, made};
-use vx_dtype::{FieldName, FieldNames, Mem};
+use vx_dtype::{FieldNames, Mem};
 use vx_zones::{ZoneMap, ZoneStat};
 
 /// The available statistics under their joined names, with a row for each block of a run, where it is known which are available. The run begins
@@ -34,23 +29,6 @@ pub(crate) fn statistics_table(
     let stats = zones.stats();
     let columns = available_columns(alloc, stats, available, first as usize, count as usize)?;
     made(ColumnRef::struct_(alloc, names.clone()?, columns, count as usize, None))
-}
-
-/// The joined names of those statistics that alone have theirs.
-pub(crate) fn available_names(
-    alloc: Global,
-    stats: &[ZoneStat],
-    standing: &HashMap<FieldName, bool>,
-) -> Mem<Vec<FieldName>>
-    ensures { IfOk result (λ names. names.items ≡ map name_of (filter (is_alone_by (get bytes_eq standing.now)) (map stat_view stats.now))) }
-{
-    let mut names = Vec::new(alloc);
-    for stat in stats {
-        if is_alone(alloc, standing, stat)? {
-            names.push(joined_name(alloc, stat)?)?;
-        }
-    }
-    Ok(names)
 }
 
 /// The columns of the flagged statistics over a run of blocks.

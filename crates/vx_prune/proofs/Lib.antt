@@ -3,4 +3,5 @@ pub mod FindingLemmas
 pub mod JoinedLemmas
 pub mod RelationLemmas
 pub mod RequiredLemmas
+pub mod StandingLemmas
 pub mod StepLemmas

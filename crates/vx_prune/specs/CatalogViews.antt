@@ -11,7 +11,7 @@ tracked_questions c = c.asked.items
 
 -- the available statistics as paths, and what was asked of their catalog
 abbrev pub available_members : ScopeStatsCatalog → List (List Bytes)
-available_members c = c.available.now
+available_members c = c.available
 
 abbrev pub scope_questions : ScopeStatsCatalog → List Question
 scope_questions c = c.asked.items

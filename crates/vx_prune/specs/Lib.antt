@@ -4,6 +4,7 @@ pub mod Finding
 pub mod Relations
 pub mod Required
 pub mod Separators
+pub mod Standing
 pub mod Steps
 pub use Rattle.vx_passes.specs.Catalogs
 pub use Rattle.vx_passes.specs.Falsifying

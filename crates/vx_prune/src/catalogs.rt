@@ -1,15 +1,15 @@
 // Catalogs of statistics: what stands for a statistic of a path, and what was asked.
-ghost use Rattle.std.specs.Prelude.{◌≡◌, [], ◌∷◌, ◌++◌, List, length, IfOk, OnErr};
+ghost use Rattle.std.specs.Prelude.{◌≡◌, [], ◌∷◌, ◌++◌, List, IfOk, OnErr};
 ghost use Rattle.std.specs.List.{filter};
-ghost use Rattle.std.specs.Str.{bytes_eq};
 ghost use Rattle.vx_passes.specs.Catalogs.{Catalog, every_statistic, is_alone_among, statistic_column, statistics_among};
-ghost use Rattle.vx_semantics.specs.Tables.{statistic_path, joined_path};
+ghost use Rattle.vx_semantics.specs.Tables.{statistic_path};
 ghost use Rattle.vx_passes.specs.Falsifying.{Question};
 ghost use Rattle.vx_passes.specs.PruningTables.{answered_once};
 ghost use Rattle.vx_prune.specs.CatalogViews.{available_members, scope_questions, tracked_questions};
 ghost use Rattle.vx_prune.specs.Required.{Requires};
 
-use crate::joined_names::{field_path_stat_field_name, joined_path, statistic_path};
+use crate::available_paths::AvailablePaths;
+use crate::joined_names::{field_path_stat_field_name, statistic_path};
 use crate::relations::{Relation, RequiredStats};
 use std::alloc::Global;
 use vx_build::{get_item, root};
@@ -84,7 +84,7 @@ impl StatsCatalog for TrackingStatsCatalog {
 /// the set, and no other path of the set has the same joined name.
 #[derive(Debug, Drop)]
 pub struct ScopeStatsCatalog<'a> {
-    available: &'a FieldPathSet,
+    available: AvailablePaths<'a>,
     asked: Vec<(FieldPath, Stat)>,
 }
 
@@ -95,7 +95,7 @@ impl<'a> ScopeStatsCatalog<'a> {
         ensures unasked { scope_questions result ≡ [] }
     {
         ScopeStatsCatalog {
-            available,
+            available: AvailablePaths::new(available),
             asked: Vec::new(alloc),
         }
     }
@@ -104,8 +104,11 @@ impl<'a> ScopeStatsCatalog<'a> {
     pub fn into_required(self, alloc: Global) -> Mem<RequiredStats>
         ensures { IfOk result (Requires (answered_once (statistics_among (available_members self.entry)) [] (scope_questions self.entry))) }
     {
-        let ScopeStatsCatalog { available, asked } = self;
-        let answered = answered(alloc, available, asked)?;
+        let ScopeStatsCatalog {
+            mut available,
+            asked,
+        } = self;
+        let answered = answered(alloc, &mut available, asked)?;
         required_by(alloc, answered)
     }
 }
@@ -121,7 +124,7 @@ impl<'a> StatsCatalog for ScopeStatsCatalog<'a> {
         field_path: &FieldPath,
         stat: Stat,
     ) -> Mem<Option<ExprRef>> {
-        let column = available_column(alloc, self.available, field_path, stat)?;
+        let column = available_column(alloc, &mut self.available, field_path, stat)?;
         self.asked.push((field_path.clone()?, stat))?;
         Ok(column)
     }
@@ -141,10 +144,10 @@ fn required_by(alloc: Global, asked: Vec<(FieldPath, Stat)>) -> Mem<RequiredStat
 /// Those of these statistics that are available.
 fn answered(
     alloc: Global,
-    available: &FieldPathSet,
+    available: &mut AvailablePaths<'_>,
     asked: Vec<(FieldPath, Stat)>,
 ) -> Mem<Vec<(FieldPath, Stat)>>
-    ensures { IfOk result (λ kept. kept.items ≡ filter (λ q. is_alone_among available.now (statistic_path q.0 q.1)) asked.items) }
+    ensures { IfOk result (λ kept. kept.items ≡ filter (λ q. is_alone_among available.old (statistic_path q.0 q.1)) asked.items) }
 {
     let mut kept = Vec::new(alloc);
     for (path, stat) in asked {
@@ -169,11 +172,12 @@ fn statistic_column(alloc: Global, path: &FieldPath, stat: Stat) -> Mem<ExprRef>
 /// The same where the statistic is available.
 fn available_column(
     alloc: Global,
-    available: &FieldPathSet,
+    available: &mut AvailablePaths<'_>,
     path: &FieldPath,
     stat: Stat,
 ) -> Mem<Option<ExprRef>>
-    ensures { IfOk result (λ made. made ≡ statistics_among available.now path.now stat) }
+    ensures same { available.new ≡ available.old }
+    ensures made { IfOk result (λ made. made ≡ statistics_among available.old path.now stat) }
 {
     if is_available(alloc, available, path, stat)? {
         return Ok(Some(statistic_column(alloc, path, stat)?));
@@ -182,32 +186,14 @@ fn available_column(
 }
 
 /// Whether a statistic is available.
-fn is_available(alloc: Global, available: &FieldPathSet, path: &FieldPath, stat: Stat) -> Mem<bool>
-    ensures { IfOk result (λ alone. alone ≡ is_alone_among available.now (statistic_path path.now stat)) }
+fn is_available(
+    alloc: Global,
+    available: &mut AvailablePaths<'_>,
+    path: &FieldPath,
+    stat: Stat,
+) -> Mem<bool>
+    ensures same { available.new ≡ available.old }
+    ensures alone { IfOk result (λ alone. alone ≡ is_alone_among available.old (statistic_path path.now stat)) }
 {
-    is_alone(alloc, available, &statistic_path(alloc, path, stat)?)
-}
-
-/// Whether a path is in the set, and no other path there has its joined name.
-fn is_alone(alloc: Global, available: &FieldPathSet, path: &FieldPath) -> Mem<bool>
-    ensures { IfOk result (λ alone. alone ≡ is_alone_among available.now path.now) }
-{
-    if !available.contains(path) {
-        return Ok(false);
-    }
-    Ok(namesakes(alloc, available.as_slice(), path)? == 1)
-}
-
-/// How many of these paths have the joined name of a path.
-fn namesakes(alloc: Global, paths: &[FieldPath], path: &FieldPath) -> Mem<usize>
-    ensures { IfOk result (λ count. count ≡ length (filter (λ p. bytes_eq (joined_path path.now) (joined_path p)) paths.now)) }
-{
-    let joined = joined_path(alloc, path)?;
-    let mut count = 0;
-    for other in paths {
-        if joined.as_str() == joined_path(alloc, other)?.as_str() {
-            count += 1;
-        }
-    }
-    Ok(count)
+    available.is_alone(alloc, &statistic_path(alloc, path, stat)?)
 }

@@ -13,8 +13,14 @@ use vx_dtype::{Field, FieldName, FieldPath, Mem, Stat};
 pub fn field_path_stat_field_name(alloc: Global, path: &FieldPath, stat: Stat) -> Mem<FieldName>
     ensures { IfOk result (λ name. name ≡ joined_name path.now stat) }
 {
-    let whole = statistic_path(alloc, path, stat)?;
-    FieldName::new(alloc, joined_path(alloc, &whole)?.as_str())
+    joined_name(alloc, &statistic_path(alloc, path, stat)?)
+}
+
+/// The joined name of a path: its names with `_` between.
+pub(crate) fn joined_name(alloc: Global, path: &FieldPath) -> Mem<FieldName>
+    ensures { IfOk result (λ name. name ≡ joined_path path.now) }
+{
+    FieldName::new(alloc, joined_path(alloc, path)?.as_str())
 }
 
 /// A statistic as a path: the path and, behind it, the statistic's name.
@@ -25,7 +31,7 @@ pub(crate) fn statistic_path(alloc: Global, path: &FieldPath, stat: Stat) -> Mem
 }
 
 /// The names of a path with `_` between.
-pub(crate) fn joined_path(alloc: Global, path: &FieldPath) -> Mem<String>
+fn joined_path(alloc: Global, path: &FieldPath) -> Mem<String>
     ensures { IfOk result (λ joined. string_bytes joined ≡ joined_path path.now) }
 {
     let parts = path.parts();

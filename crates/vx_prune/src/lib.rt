@@ -3,6 +3,7 @@
 #![tactic(auto)]
 
 mod analysis;
+mod available_paths;
 mod bounds;
 mod catalogs;
 mod comparisons;
@@ -10,6 +11,7 @@ mod falsify;
 mod joined_names;
 mod joins;
 mod lists;
+mod name_counts;
 mod pruning;
 mod ranges;
 mod relations;
@@ -17,6 +19,7 @@ mod relations;
 pub use analysis::AnalysisExpr;
 pub use catalogs::{ScopeStatsCatalog, StatsCatalog, TrackingStatsCatalog};
 pub use joined_names::field_path_stat_field_name;
+pub use name_counts::{standing, stands_once};
 pub use pruning::checked_pruning_expr;
 pub use relations::{Relation, RequiredStats, is_required};
 pub use vx_zones::{Scalars, ZoneError, ZoneMap, ZoneStat};

@@ -12,7 +12,7 @@ use Rattle.vx_semantics.specs.Tables.{ZoneStat}
 use Rattle.vx_zones.specs.declared.errors.ZoneError.{ZoneError}
 use Rattle.vx_zones.specs.declared.errors.ZoneError.TheVariants as errors
 use Rattle.vx_zones.specs.LeafTypes.{leaf_in}
-use Rattle.vx_zones.specs.Zoning.{statistic_type, distinct_statistics, counts_blocks, values_have}
+use Rattle.vx_zones.specs.Zoning.{type_at, plain_only, statistic_type, distinct_statistics, counts_blocks, values_have}
 
 -- names, with one more
 abbrev pub with_name : Bytes → (Bytes → Bool) → Bytes → Bool
@@ -35,6 +35,10 @@ abbrev mutual
 -- a map has at each path what is found there, and else what it had
 abbrev pub Adds : {S : Type 0} → (List Bytes → Option Ty) → HashMap (List Bytes) DType S → HashMap (List Bytes) DType S → Type 0
 Adds found old new = (q : List Bytes) → leaf_in new q ≡ option_or (found q) (leaf_in old q)
+
+-- the plain type that a path leads to, from a type on through fields of structs
+abbrev pub plain_from : Ty → List Bytes → Option Ty
+plain_from t path = option_and_then plain_only (type_at path t)
 
 -- the type of a statistic, by the plain types that paths lead to
 abbrev pub type_by : (List Bytes → Option Ty) → ZoneStat → Option Ty

@@ -4,3 +4,4 @@ pub mod ZoneCodes
 pub mod ZoneAnswers
 pub mod LeafTypes
 pub mod Leaves
+pub mod OwnNames

@@ -3,6 +3,7 @@
 
 mod errors;
 mod leaves;
+mod plain_fields;
 mod zone_rules;
 mod zones;
 

@@ -1,18 +1,16 @@
-use Rattle.std.proofs.Common.{◌≡◌, true, List, ◌≤◌, length, map, drop}
-use Rattle.std.specs.HashSet as set
-use Rattle.vx_dtype.specs.declared.Stat.{Stat}
-use Rattle.vx_dtype.specs.Types.{Bytes}
+use Rattle.std.proofs.Common.{◌≡◌, true, ◌≤◌, length, map, drop}
+use Rattle.std.specs.BTreeSet as set
 use Rattle.vx_zones.specs.ZoneViews.{stat_view}
 use Rattle.vx_zones.specs.Zoning.{distinct_statistics}
-use Rattle.vx_zones.proofs.DistinctLemmas.{has_key, key_eq}
+use Rattle.vx_zones.proofs.DistinctLemmas.{has_names, names_cmp}
 use Rattle.vx_zones.proofs.zone_rules.are_distinct.Given as goal
 
--- the statistics from the place on are distinct, and the set has their paths and kinds
+-- the statistics from the place on are distinct, and the set has the names of their kinds and paths
 abbrev pub invariant-loop-left : goal.invariant-loop-left
 invariant-loop-left l =
     (l.left ≤ length l.fn.stats)
     × (distinct_statistics (map stat_view (drop l.left l.fn.stats)) ≡ true)
-    × ((k : List Bytes × Stat) → set.contains key_eq l.behind k ≡ has_key k (map stat_view (drop l.left l.fn.stats)))
+    × ((k : _) → set.contains (λ x y. names_cmp x.items y.items) l.behind k ≡ has_names k.items (map stat_view (drop l.left l.fn.stats)))
 
 -- how many statistics are left to test
 abbrev pub decreases-loop-left : goal.decreases-loop-left

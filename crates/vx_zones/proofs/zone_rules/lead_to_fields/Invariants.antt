@@ -1,12 +1,12 @@
 use Rattle.std.proofs.Common.{◌≡◌, map, drop, is_some}
 use Rattle.std.specs.List.{list_all}
+use Rattle.vx_dtype.specs.TypeViews.{type_view}
 use Rattle.vx_zones.specs.ZoneViews.{stat_view}
-use Rattle.vx_zones.specs.LeafTypes.{leaf_in}
-use Rattle.vx_zones.specs.Leaves.{type_by}
+use Rattle.vx_zones.specs.Leaves.{plain_from, type_by}
 use Rattle.vx_zones.proofs.zone_rules.lead_to_fields.Given as goal
 
 -- what is left to test
 abbrev pub invariant-loop-stat : goal.invariant-loop-stat
 invariant-loop-stat l =
-    list_all (λ z. is_some (type_by (leaf_in l.fn.leaves) z)) (map stat_view l.fn.stats)
-    ≡ list_all (λ z. is_some (type_by (leaf_in l.fn.leaves) z)) (map stat_view (drop l.stat-index l.fn.stats))
+    list_all (λ z. is_some (type_by (plain_from (type_view l.fn.row)) z)) (map stat_view l.fn.stats)
+    ≡ list_all (λ z. is_some (type_by (plain_from (type_view l.fn.row)) z)) (map stat_view (drop l.stat-index l.fn.stats))

@@ -8,6 +8,6 @@ use Rattle.vx_prune.proofs.catalogs.ScopeStatsCatalog.into_required.Goals as goa
 
 pub returns : goal.returns
 returns c =
-    let members = c.args.self.available.now in
+    let members = c.args.self.available in
     IfOk-weaker c.required_by.result (Requires c.in_ok-answered.answered.items) (Requires (answered_once (statistics_among members) [] c.args.self.asked.items))
     (requires_available members c.args.self.asked.items c.in_ok-answered.answered.items c.in_ok-answered.ensures) c.required_by.ensures

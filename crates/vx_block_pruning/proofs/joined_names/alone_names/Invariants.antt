@@ -1,0 +1,11 @@
+use Rattle.std.proofs.Common.{◌≡◌, take}
+use Rattle.std.specs.BTreeMap.{get}
+use Rattle.std.specs.Cmp.Lexicographic.{slice_cmp}
+use Rattle.std.specs.List.{filter}
+use Rattle.std.specs.Ordering.{nat_cmp}
+use Rattle.vx_prune.specs.Standing.{is_once}
+use Rattle.vx_block_pruning.proofs.joined_names.alone_names.Given as goal
+
+-- those of the names so far that stand once
+abbrev pub invariant-loop-name : goal.invariant-loop-name
+invariant-loop-name l = l.kept.items ≡ filter (λ n. is_once (get (slice_cmp nat_cmp) l.fn.noted n)) (take l.name-index l.fn.names)
