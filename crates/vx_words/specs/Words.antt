@@ -56,3 +56,15 @@ pub record IsFirstPlace (p : ℕ → Bool) (n from k : ℕ) : Type 0 where
 abbrev pub IsNextPlace : (ℕ → Bool) → ℕ → ℕ → Option ℕ → Type 0
 IsNextPlace p n from None = (i : ℕ) → from ≤ i → i < n → p i ≡ false
 IsNextPlace p n from (Some k) = IsFirstPlace p n from k
+
+-- the words of validity and of values of two sides and of an answer are as many
+abbrev pub AreAsLong : List ℕ → List ℕ → List ℕ → List ℕ → List ℕ → List ℕ → Type 0
+AreAsLong lv lb rv rb ov ob =
+    (length lb ≡ length lv) × (length rv ≡ length lv) × (length rb ≡ length lv) × (length ov ≡ length lv) × (length ob ≡ length lv)
+
+-- the words of an answer are as many as those of the two sides, have at each place what a connective makes of these, and no value under null
+abbrev pub AreConnected : (Val → Val → Val) → List ℕ → List ℕ → List ℕ → List ℕ → List ℕ → List ℕ → Type 0
+AreConnected both lv lb rv rb ov ob =
+    (length ov ≡ length lv) × (length ob ≡ length lv)
+    × ((i : ℕ) → i < 64 * length lv → val_of_words ov ob i ≡ both (val_of_words lv lb i) (val_of_words rv rb i))
+    × AreBareUnderNull ov ob

@@ -1,7 +1,7 @@
 // Kleene's logic on words of bits: whole vectors of words, and then the words that are left.
 ghost use Rattle.std.specs.Prelude.{◌≡◌, ℕ, ◌+◌, ◌*◌, ◌<◌, ◌≤◌, length};
 ghost use Rattle.vx_dtype.specs.Logic.{and3, or3, not3};
-ghost use Rattle.vx_words.specs.Words.{val_of_words, AreBareUnderNull, Holds, KeepFirst};
+ghost use Rattle.vx_words.specs.Words.{val_of_words, AreBareUnderNull, Holds, KeepFirst, AreAsLong, AreConnected};
 ghost use Rattle.vx_words.specs.Connectives.{connected3};
 
 use std::simd::Simd;
@@ -19,13 +19,8 @@ pub(crate) enum Connective {
 /// Whether both sides hold, place by place, by Kleene's logic: false beside anything is false, true beside true is true, all else is null. Each pair
 /// of lists holds truths: the first has the bits of validity, the second those of the values.
 pub fn and_words(lv: &[u64], lb: &[u64], rv: &[u64], rb: &[u64], ov: &mut [u64], ob: &mut [u64])
-    requires left { length lb.now ≡ length lv.now }
-    requires right { (length rv.now ≡ length lv.now) × (length rb.now ≡ length lv.now) }
-    requires out { (length ov.old ≡ length lv.now) × (length ob.old ≡ length lv.now) }
-    ensures lengths { (length ov.new ≡ length lv.now) × (length ob.new ≡ length lv.now) }
-    ensures truths { (i : ℕ) → i < 64 * length lv.now
-        → val_of_words ov.new ob.new i ≡ and3 (val_of_words lv.now lb.now i) (val_of_words rv.now rb.now i) }
-    ensures bare { AreBareUnderNull ov.new ob.new }
+    requires { AreAsLong lv.now lb.now rv.now rb.now ov.old ob.old }
+    ensures { AreConnected and3 lv.now lb.now rv.now rb.now ov.new ob.new }
 {
     connect_words(Connective::And, lv, lb, rv, rb, ov, ob);
 }
@@ -33,13 +28,8 @@ pub fn and_words(lv: &[u64], lb: &[u64], rv: &[u64], rb: &[u64], ov: &mut [u64],
 /// Whether one side holds, place by place, by Kleene's logic: true beside anything is true, false beside false is false, all else is null. Each pair
 /// of lists holds truths: the first has the bits of validity, the second those of the values.
 pub fn or_words(lv: &[u64], lb: &[u64], rv: &[u64], rb: &[u64], ov: &mut [u64], ob: &mut [u64])
-    requires left { length lb.now ≡ length lv.now }
-    requires right { (length rv.now ≡ length lv.now) × (length rb.now ≡ length lv.now) }
-    requires out { (length ov.old ≡ length lv.now) × (length ob.old ≡ length lv.now) }
-    ensures lengths { (length ov.new ≡ length lv.now) × (length ob.new ≡ length lv.now) }
-    ensures truths { (i : ℕ) → i < 64 * length lv.now
-        → val_of_words ov.new ob.new i ≡ or3 (val_of_words lv.now lb.now i) (val_of_words rv.now rb.now i) }
-    ensures bare { AreBareUnderNull ov.new ob.new }
+    requires { AreAsLong lv.now lb.now rv.now rb.now ov.old ob.old }
+    ensures { AreConnected or3 lv.now lb.now rv.now rb.now ov.new ob.new }
 {
     connect_words(Connective::Or, lv, lb, rv, rb, ov, ob);
 }
