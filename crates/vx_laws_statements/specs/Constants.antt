@@ -15,7 +15,7 @@ use Rattle.vx_dtype.specs.declared.Nullability.TheVariants.{NonNullable, Nullabl
 use Rattle.vx_dtype.specs.Types.{Bytes, Ty, bool_ty, int_ty, text_ty}
 use Rattle.vx_dtype.specs.Values.{Raw, raw_null, raw_bool, raw_int, raw_text}
 use Rattle.vx_dtype.specs.Texts.{integer_named}
-use Rattle.vx_laws_statements.specs.Refusals.{Refusal, no_hexadecimal, no_integer, no_text, no_type, no_constant, ◌>>=◌, unless, there}
+use Rattle.vx_laws_statements.specs.Refusals.{Refusal, no_hexadecimal, no_integer, no_text, no_type, listed_column, no_constant, ◌>>=◌, unless, there}
 
 -- bytes as a text
 abbrev pub text_of : Bytes → Result Bytes Refusal
@@ -57,6 +57,7 @@ constant_at (Expr-F.Integer digits) = number_of false digits
 constant_at (Expr-F.Text s) = text_of s >>= λ u. Ok (raw_text u)
 constant_at (Expr-F.Truth name b) = Ok (raw_bool b)
 constant_at (Expr-F.Unary sign x) = signed_constant sign x
+constant_at (Expr-F.Column c f) = Err (listed_column c f)
 constant_at _ = Err no_constant
 
 unfoldable pub constant_of : Expr → Result Raw Refusal

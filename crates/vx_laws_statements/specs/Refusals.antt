@@ -31,7 +31,8 @@ pub data Refusal : Type 0 where
   no_field : Bytes → Bytes → Refusal
   -- a name that is no type
   no_type : Bytes → Refusal
-  -- a member of a list that is no constant
+  -- a member of a list that is a column, or a field of one, and another one that is no constant
+  listed_column : Option Bytes → Bytes → Refusal
   no_constant : Refusal
   -- operands that have no place in their form
   misplaced : Mismatch → Refusal
