@@ -1,0 +1,10 @@
+pub mod Views
+pub mod RangeViews
+pub mod MemberParts
+pub mod FormAnswers
+pub use Rattle.vx_dtype.specs.TypeViews
+pub use Rattle.vx_dtype.specs.RawViews
+pub use Rattle.vx_laws_sql.specs.CommonTypes
+pub use Rattle.vx_laws_sql.specs.Operands
+pub use Rattle.vx_laws_sql.specs.Forms
+pub use Rattle.vx_laws_sql.specs.Membership
