@@ -33,6 +33,12 @@ def past(table, condition, number, name):
     return Refused(table, "SELECT * FROM t WHERE " + condition, "OutOfRange", "WHERE", [str(number), name], line)
 
 
+def past_all(condition, digits):
+    """A condition that is refused since the number of these digits is of no integer type."""
+    line = "WHERE: the number %s is of no integer type" % digits
+    return Refused(NUMBERS, "SELECT * FROM t WHERE " + condition, "OutOfRange", "WHERE", [digits], line)
+
+
 def apart(condition, first, second):
     """A condition that is refused since no type has the numbers of two."""
     line = "WHERE: no integer type holds both %s and %s; cast one of the two" % (first, second)
@@ -126,8 +132,8 @@ PAST = [
     past(NUMBERS, "9223372036854775808 IS NULL", 9223372036854775808, "i64"),
     past(NUMBERS, "NULL = -9223372036854775809", -9223372036854775809, "i64"),
     past(NUMBERS, "the_u64 < 18446744073709551616", 18446744073709551616, "u64"),
-    past(NUMBERS, "the_u8 = %d" % 10 ** 50, 10 ** 50, "u8"),
-    past(NUMBERS, "the_i64 > -%d" % 10 ** 39, -10 ** 39, "i64"),
+    past_all("the_u8 = %d" % 10 ** 50, str(10 ** 50)),
+    past_all("the_i64 > -%d" % 10 ** 39, str(10 ** 39)),
     past(SMALL, "the_u8 + 256 > 0", 256, "u8"),
     past(SMALL, "-129 + the_i8 > 0", -129, "i8"),
     past(SMALL, "the_u8 - -1 > 0", -1, "u8"),

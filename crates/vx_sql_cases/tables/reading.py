@@ -331,8 +331,10 @@ class Clause:
             target = queries.read_type(name)
         except (ValueError, IndexError):
             raise Fault("UnknownType") from None
+        if target[0] in ("list", "struct"):
+            raise Fault("UnknownType")
         kind = value[1][0] if value[0] == "known" else "i64" if value[0] == "number" else target[0]
-        if target[0] in ("list", "struct") or (kind != target[0] and not (kind in INTEGERS and target[0] in INTEGERS)):
+        if kind != target[0] and not (kind in INTEGERS and target[0] in INTEGERS):
             raise Fault("NoCast")
         if value[0] == "number":
             return number_of(target, value[1])

@@ -316,12 +316,17 @@ PLACES = [
 
 LISTS = [
     *[condition(text, "NoConstants") for text in ["price IN ()", "name NOT IN ()", "5 IN ()", "NULL IN ()"]],
-    condition("price IN (cost, 1)", "NotConstant", ["cost"]),
-    condition("price IN (1, cost)", "NotConstant", ["cost"]),
-    condition("price NOT IN (NULL, cost)", "NotConstant", ["cost"]),
+    *[condition(text, "NotConstant", ["cost"], "WHERE: cost is no constant") for text in
+      ["price IN (cost, 1)", "price IN (1, cost)", "price NOT IN (NULL, cost)"]],
     *[condition(text, "NotConstant") for text in ["price IN (1 + 1)", "price IN (CAST(1 AS i32))", "active IN (NOT TRUE)", "active IN (TRUE, 1 = 1)"]],
-    condition("name IN (address.city)", "NotConstant"),
+    condition("name IN (address.city)", "NotConstant", ["address.city"], "WHERE: address.city is no constant"),
 ]
+
+
+def no_type(text, name):
+    line = "WHERE: no type %s; the types are bool, utf8, u8 to u64, i8 to i64, each with ? behind it or without" % name
+    return condition(text, "UnknownType", [name], line)
+
 
 CASTS = [
     *conditions("NoCast", ["name", "i64"], ["CAST(name AS i64) = 1", "CAST(name AS \"i64?\") = 1"]),
@@ -334,8 +339,8 @@ CASTS = [
     condition("CAST('5' AS i64) = 5", "NoCast", ["'5'", "i64"]),
     condition("CAST(TRUE AS u8) = 1", "NoCast", ["u8"]),
     condition("CAST(address AS utf8) = 'a'", "NoCast", ["address", "utf8"]),
-    condition("CAST(tags AS \"list(utf8)\") IS NULL", "NoCast", ["tags"]),
-    *[condition("CAST(price AS %s) = 1" % name, "UnknownType", [word]) for name, word in [
+    no_type("CAST(tags AS \"list(utf8)\") IS NULL", "list(utf8)"),
+    *[no_type("CAST(price AS %s) = 1" % name, word) for name, word in [
         ("INTEGER", "INTEGER"), ("TEXT", "TEXT"), ("i128", "i128"), ("float", "float"), ("\"i64??\"", "i64??"), ("[i 64]", "i 64"), ("varchar", "varchar")]],
     refused("SELECT CAST(price AS INTEGER) AS n FROM t", "UnknownType", "SELECT", ["INTEGER"]),
 ]

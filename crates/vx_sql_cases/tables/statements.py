@@ -5,8 +5,8 @@ usage: crates/vx_sql_cases/tables/statements.py
 
 A row holds the type of a table's rows, a statement of SQL, and either what it names or `refusal`. What it names: `filter` and `projection`,
 expressions as queries write them (a filter that isn't there is null), `key` and `descending`, `limit`, and `table`. A refusal has a `kind`,
-the `clause` that the line begins with, `words` that the line quotes, and where docs/SQL.md tells it the `line`; where no token can be read
-it has the place `at` in bytes from 0.
+the `clause` that the line begins with, `words` that the line quotes, and where docs/SQL.md tells it the `line`; where no token can be read,
+and where the line quotes a name or an expression as it is written, it has the place `at` in bytes from 0, or null where none is told.
 
 Before it writes, the script checks each row by what doesn't come from the project:
 - filter, projection and key are strictly typed over the table, and the filter is a boolean (queries.py);
