@@ -1,3 +1,4 @@
 pub mod Steps
 pub mod TypedExpressions
 pub mod TypedStatements
+mod NamedTables

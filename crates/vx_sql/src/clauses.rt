@@ -1,5 +1,5 @@
 // What FROM, WHERE, ORDER BY and LIMIT name.
-ghost use Rattle.std.specs.Prelude.{◌≡◌, option_map, true, false, None, Some};
+ghost use Rattle.std.specs.Prelude.{option_map, true, None, Some};
 ghost use Rattle.sqlite_ast.specs.declared.Expr.{out-Expr};
 ghost use Rattle.vx_dtype.specs.RawViews.{raw_view};
 ghost use Rattle.vx_dtype.specs.TypeViews.{type_view};
@@ -18,7 +18,7 @@ use crate::plans::Key;
 use crate::refusals::ExpressionError;
 use crate::statement_refusals::{SqlError, StatementRefusal};
 use sqlite_ast::{Expr, Origin, Select, Sort, Source};
-use sqlite_items::{Boxed, Items};
+use sqlite_items::Boxed;
 use sqlite_value::value::Bytes;
 use std::alloc::Global;
 use vx_dtype::{DType, FieldName, ScalarValue, Text};
@@ -60,14 +60,14 @@ fn table_at(alloc: Global, origin: &Origin<Boxed<Select>>) -> Result<Text, SqlEr
     ensures { AnswersStatement (λ s. s) (spec.table_at origin.now) result }
 {
     match origin {
-        Origin::Table(name) => table_named(alloc, name),
+        Origin::Table(name) => table_name(alloc, name),
         Origin::Query(_) => Err(SqlError::Refused(StatementRefusal::InnerQuery)),
     }
 }
 
 /// These bytes as the name of a table.
 #[tactic(auto, using(crate::proofs::Texts::known_text, crate::proofs::Texts::no_text))]
-fn table_named(alloc: Global, name: &Bytes) -> Result<Text, SqlError>
+fn table_name(alloc: Global, name: &Bytes) -> Result<Text, SqlError>
     ensures { AnswersStatement (λ s. s) (refused_as (λ r. no_table_name name.now) (constants.text_of name.now)) result }
 {
     match str::from_utf8(name.as_slice()) {

@@ -35,7 +35,7 @@ fn plain_core(alloc: Global, core: &Core) -> Result<(), SqlError>
 
 /// Refuses what isn't taken of a SELECT.
 #[tactic(auto, unfolding(vx_laws_statements::specs::Statements::plain_select))]
-fn plain_select(alloc: Global, select: &Select) -> Result<(), SqlError>
+pub(crate) fn plain_select(alloc: Global, select: &Select) -> Result<(), SqlError>
     ensures { AnswersStatement (λ u. u) (spec.plain_select select.now) result }
 {
     if select.with.len() != 0 {
@@ -52,7 +52,7 @@ fn plain_select(alloc: Global, select: &Select) -> Result<(), SqlError>
 }
 
 /// Refuses parameters and what reads the clock.
-fn without_parameters(parsed: &Parsed) -> Result<(), SqlError>
+pub(crate) fn without_parameters(parsed: &Parsed) -> Result<(), SqlError>
     ensures { AnswersStatement (λ u. u) (spec.without_parameters parsed.now) result }
 {
     if parsed.names.len() != 0 {
@@ -103,7 +103,7 @@ fn select_of(
 }
 
 /// The SELECT that a statement is.
-fn selected(statement: &Statement) -> Result<&Select, SqlError>
+pub(crate) fn selected(statement: &Statement) -> Result<&Select, SqlError>
     ensures { AnswersStatement (λ s. s.now) (spec.selected statement.now) result }
 {
     match statement {
@@ -125,7 +125,7 @@ fn parsed_of(alloc: Global, columns: &DType, len: usize, parsed: &Parsed) -> Res
 }
 
 /// The first statement of a text.
-fn read(alloc: Global, text: &str) -> Result<Parsed, SqlError>
+pub(crate) fn read(alloc: Global, text: &str) -> Result<Parsed, SqlError>
     ensures { AnswersStatement (λ p. p) (refused_as unread (parse text.now)) result }
 {
     match parse(alloc, text.as_bytes()) {
@@ -136,7 +136,7 @@ fn read(alloc: Global, text: &str) -> Result<Parsed, SqlError>
 }
 
 /// The place of the first byte 0 of a text.
-fn zero_place(text: &str) -> Option<usize>
+pub(crate) fn zero_place(text: &str) -> Option<usize>
     ensures { result ≡ position (λ b. b == 0) text.now }
 {
     text.as_bytes().iter().position(|b| *b == 0)

@@ -1,7 +1,7 @@
 use Rattle.std.proofs.Common.{rules, ◌∙◌, ◌+◌, ap, drop, map}
-use Rattle.vx_dtype.specs.RawViews.{raw_view, raws_of}
+use Rattle.vx_dtype.specs.RawViews.{raw_view}
 use Rattle.vx_dtype.specs.TypeViews.{type_view}
-use Rattle.vx_laws_sql.specs.Membership.{with_constant, elements}
+use Rattle.vx_laws_sql.specs.Membership.{elements}
 use Rattle.vx_sql_forms.specs.Views.{typed_view}
 use Rattle.vx_sql_forms.specs.MemberParts.{values_view}
 use Rattle.vx_sql_forms.proofs.MemberLemmas.{put_before, one_taken, none_left, from_here, all_refused}

@@ -1,5 +1,4 @@
-use Rattle.std.proofs.Common.{map, Result, sym, subst}
-use Rattle.vx_dtype.specs.RawViews.{raw_view}
+use Rattle.std.proofs.Common.{Result, sym, subst}
 use Rattle.vx_laws_sql.specs.Operands.{TypedTree, Mismatch}
 use Rattle.vx_sql_forms.specs.FormAnswers.{AnswersForm}
 use Rattle.vx_sql_forms.specs.Views.{operand_view}
