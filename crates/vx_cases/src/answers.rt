@@ -7,6 +7,7 @@ use crate::running::run_of;
 use crate::scanning::{scan_failing, scan_of, scan_untold};
 use crate::subjects::Subject;
 use crate::tables::Case;
+use crate::telling::table_of;
 use std::alloc::Global;
 use vx_column::ColumnRef;
 use vx_display::{push_row, tree_text};
@@ -29,6 +30,7 @@ pub(crate) fn answer(
         Subject::Tokens => Ok(tokens(alloc, case.query)?),
         Subject::Read => Ok(read(alloc, case.query)?),
         Subject::ReadAndWritten => Ok(read_and_written(alloc, case.query)?),
+        Subject::Table => table_of(alloc, case),
         Subject::Scan => scan_of(alloc, case),
         Subject::ScanUntold => scan_untold(alloc, case),
         Subject::ScanFailing => scan_failing(alloc, case),

@@ -13,6 +13,7 @@ mod running;
 mod scanning;
 mod subjects;
 mod tables;
+mod telling;
 mod untold_store;
 mod values;
 mod wire_bytes;

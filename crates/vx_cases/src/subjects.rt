@@ -47,6 +47,8 @@ pub(crate) enum Subject {
     Required,
     /// The blocks that the filter rules out.
     RuledOut,
+    /// The table that the input tells, or its refusal.
+    Table,
     /// The scan of the table, or the refusal of the request.
     Scan,
     /// The scan of a store that doesn't tell the table.
@@ -58,7 +60,7 @@ pub(crate) enum Subject {
 }
 
 /// The members of a case that hold an answer, each with its question.
-pub(crate) const SUBJECTS: [(&str, Subject); 26] = [
+pub(crate) const SUBJECTS: [(&str, Subject); 27] = [
     ("tokens", Subject::Tokens),
     ("read", Subject::Read),
     ("read_and_written", Subject::ReadAndWritten),
@@ -81,6 +83,7 @@ pub(crate) const SUBJECTS: [(&str, Subject); 26] = [
     ("pruning", Subject::Pruning),
     ("required", Subject::Required),
     ("ruled_out", Subject::RuledOut),
+    ("table", Subject::Table),
     ("scan", Subject::Scan),
     ("scan_untold", Subject::ScanUntold),
     ("scan_failing", Subject::ScanFailing),

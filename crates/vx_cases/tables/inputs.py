@@ -360,4 +360,50 @@ ZONES = [
     *of(STAT_TWICE, zoned(stat(["a"], values=THREE_NULLS), stat(["a"], values=THREE_NULLS))),
 ]
 
-INPUTS = [{"cases": [*TEXTS, *TYPES, *BLOCK_TEXTS, *CELLS, *STAT_TEXTS, *SIDES, *DECODING, *ZONES]}]
+
+# Tables alone: of the members of a request all but its two texts, and the statistics may be left out.
+
+def table(columns=X, blocks=FIVE, stats=None):
+    """The text of a table, with the statistics or without."""
+    return object_of(members(columns, blocks, stats)[:3] if stats else members(columns, blocks)[:2])
+
+
+def tells(answer, *inputs):
+    """Cases of these inputs, which tell one table or are refused alike."""
+    return [{"input": text, "table": answer} for text in inputs]
+
+
+PLACES = members()[:3]
+X_FIVE = "{x=i64} rows 1 (5)"
+NO_TABLES = ["{}", "[]", "5", "null", quoted(table()), "[" + table() + "]", '{"columns":[]}', '{"blocks":[]}', '{"columns":[],"stats":[]}', '{"blocks":[],"stats":[]}',
+             table().replace("columns", "Columns"), table(stats="[]").replace("stats", "Stats")]
+ALONE = [
+    *tells(X_FIVE, table(), table(stats="[]"), " \t\r\n" + table() + "\n", table().replace("columns", "c\\u006flumns")),
+    *tells(X_FIVE, object_of(PLACES[1::-1]), object_of(PLACES[::-1]), object_of([PLACES[2], *PLACES[:2]]), object_of([PLACES[0], PLACES[2], PLACES[1]])),
+    # a member given twice counts once, with its last value
+    *tells(X_FIVE, object_of(['"columns":7', *PLACES[:2]]), object_of(['"stats":7', *PLACES])),
+    *tells(COLUMNS, object_of([*PLACES[:2], '"columns":7'])),
+    *tells("{x=i64}", table(blocks="[]"), table(blocks="[]", stats="[]")),
+    *tells("{x=i64} rows 0 () rows 1 (5)", table(blocks='[{"rows":0,"values":[[]]},{"rows":1,"values":[[5]]}]')),
+    *tells("{x=i64} rows 1 (5) rows 1 (6) x_min 5 null x_null_count 0 0",
+           table(blocks=BOTH, stats=stat_texts(stat(["x"], values="[5,null]"), stat(["x"], "null_count", "[0,0]")))),
+    *tells('{x=i64, t={a=utf8?}?} rows 2 (1 / -2) ({"a":"b"} / null) t_a_max "b"',
+           table(XT, '[{"rows":2,"values":[[1,-2],[{"a":"b"},null]]}]', stat_texts(stat(["t", "a"], "max", '["b"]')))),
+    *tells("BadJson", "", "{", "nul", "\ufeff" + table(), table() + "x", table() + table(), table()[:-1], table()[:-1] + ",}", nested(128)),
+    *tells(TOP, *NO_TABLES),
+    # a member too much: beside two, beside three, and the two texts of a request
+    *tells(TOP, *[object_of([*places, '"more":1']) for places in [PLACES[:2], PLACES]], object_of(members()), object_of([*PLACES[:2], *members()[3:]])),
+    *tells(COLUMNS, table("7"), table("7", "7"), table("7", "7", "7")),
+    *tells(BLOCKS, table(X, "7"), table(X_TWICE, "7", "7"), table(blocks=FIVE.replace("5", "1.5"), stats="7")),
+    *tells(STATS, table(stats="7"), table(X_TWICE, FIVE, "7"), table(stats="null")),
+    *tells(NAME_TWICE, table(X_TWICE), table(X_TWICE, FIVE, "[]")),
+    *tells(DEEP, table(column(lists(64, '"bool"')), "[]")),
+    *tells(BAD_PATH, table(stats=stat_texts(stat(["y"], values="[5]")))),
+    *tells(STAT_TWICE, table(stats=stat_texts(stat(["x"], values="[5]"), stat(["x"], values="[5]")))),
+    *tells(STAT_COUNT, table(stats=stat_texts(stat(["x"])))),
+    *tells(STAT_TYPE, table(stats=stat_texts(stat(["x"], values='["a"]'))), table(blocks="[" + FIVE[1:-1].replace("1", "2") + "]", stats=stat_texts(stat(["x"], values="[true]")))),
+    *tells(WRONG_LENGTH, table(TWO_COLUMNS), table(blocks='[{"rows":2,"values":[[5]]}]'), table(blocks='[{"rows":2,"values":[[true]]}]')),
+    *tells(WRONG_VALUE, table(blocks=FIVE.replace("5", "true")), table(blocks=FIVE.replace("5", "null"), stats="[]")),
+]
+
+INPUTS = [{"cases": [*TEXTS, *TYPES, *BLOCK_TEXTS, *CELLS, *STAT_TEXTS, *SIDES, *DECODING, *ZONES, *ALONE]}]

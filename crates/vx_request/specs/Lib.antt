@@ -3,6 +3,7 @@ pub mod WrittenTypes
 pub mod RequestMembers
 pub mod Cells
 pub mod Requests
+pub mod Tables
 pub mod RequestViews
 pub mod FileRequests
 pub mod FileRequestViews

@@ -16,9 +16,11 @@ use Rattle.vx_dtype.specs.declared.values.ScalarValue.{ScalarValue}
 use Rattle.vx_column.specs.Columns.{Column}
 use Rattle.vx_request.specs.RequestMembers.{BlockText, StatText}
 use Rattle.vx_request.specs.Requests.{RequestedScan}
+use Rattle.vx_request.specs.Tables as tables
 use Rattle.vx_request.specs.declared.request_members.Block.{Block}
 use Rattle.vx_request.specs.declared.request_members.Statistic.{Statistic}
 use Rattle.vx_request.specs.declared.requests.ScanRequest.{ScanRequest}
+use Rattle.vx_request.specs.declared.tables.ToldTable.{ToldTable}
 use Rattle.vx_request.specs.declared.errors.RequestError.{RequestError}
 use Rattle.vx_request.specs.declared.errors.RequestError.TheVariants.{NoMemory}
 
@@ -53,6 +55,10 @@ columns_view v = v.items
 -- the scan that this one stands for
 abbrev pub scan_view : ScanRequest → RequestedScan
 scan_view a = record { zones = a.zones; blocks = map columns_view a.blocks.items; filter = a.filter.items; projection = a.projection.items }
+
+-- the table that this one stands for
+abbrev pub told_view : ToldTable → tables.ToldTable
+told_view t = record { zones = t.zones; blocks = map columns_view t.blocks.items }
 
 -- the answer is the one that is told, seen so; want of memory may be answered at any time
 abbrev pub RequestAnswers : {A B : Type 0} → (A → B) → Result B RequestError → Result A RequestError → Type 0

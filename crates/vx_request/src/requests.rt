@@ -2,9 +2,12 @@
 ghost use Rattle.std.specs.Prelude.{◌≡◌, ◌∷◌, [], ◌^◌, ◌<◌, codes, length, map, option_map, IfOk};
 ghost use Rattle.serde_json.specs.View.{view};
 ghost use Rattle.vx_zones.specs.ZoneAnswers.{MakesZones};
+ghost use Rattle.vx_request.specs.declared.errors.Place.TheVariants as place;
 ghost use Rattle.vx_request.specs.Objects.{object_of};
-ghost use Rattle.vx_request.specs.Requests.{value_in, member_names, hex_bytes, zones_of, sound_zones, scan_with, scan_in, scan_of, request_of};
-ghost use Rattle.vx_request.specs.RequestViews.{block_view, stat_view, scan_view, RequestAnswers};
+ghost use Rattle.vx_request.specs.RequestMembers.{columns_in, blocks_in, stats_in};
+ghost use Rattle.vx_request.specs.Requests.{value_in, at_place, member_names, hex_bytes, zones_of, sound_zones, block_columns, scan_with, scan_in};
+ghost use Rattle.vx_request.specs.Requests.{scan_of, request_of};
+ghost use Rattle.vx_request.specs.RequestViews.{block_view, stat_view, columns_view, scan_view, RequestAnswers};
 
 use crate::columns::{are_rectangles, blocks_of};
 use crate::errors::{Place, RequestError, Side, TableRefusal};
@@ -102,7 +105,7 @@ fn lengths_of(alloc: Global, blocks: &[Block<'_>]) -> Mem<Vec<u32>>
 }
 
 /// The zones of these columns, blocks and statistics, where they break no rule.
-fn sound_zones(
+pub(crate) fn sound_zones(
     alloc: Global,
     columns: StructFields,
     blocks: &[Block<'_>],
@@ -116,6 +119,23 @@ fn sound_zones(
     ZoneMap::try_new(alloc, columns, lengths, stats)
 }
 
+/// The columns of each block: each list of cells has its column's length, and then each cell is a value of its column's type.
+pub(crate) fn block_columns(
+    alloc: Global,
+    columns: &StructFields,
+    blocks: &[Block<'_>],
+) -> Result<Vec<Vec<ColumnRef>>, RequestError>
+    ensures { RequestAnswers (λ v. map columns_view v.items) (block_columns columns.now (map block_view blocks.now)) result }
+{
+    if !are_rectangles(columns.nfields(), blocks) {
+        return Err(RequestError::BadTable(TableRefusal::WrongLength));
+    }
+    match blocks_of(alloc, columns.dtypes(), blocks)? {
+        Some(blocks) => Ok(blocks),
+        None => Err(RequestError::BadTable(TableRefusal::WrongValue)),
+    }
+}
+
 /// The scan of zones and blocks beside two texts.
 fn scan_with(
     alloc: Global,
@@ -127,12 +147,7 @@ fn scan_with(
 ) -> Result<ScanRequest, RequestError>
     ensures { RequestAnswers scan_view (scan_with zones columns.now (map block_view blocks.now) filter.items projection.items) result }
 {
-    if !are_rectangles(columns.nfields(), blocks) {
-        return Err(RequestError::BadTable(TableRefusal::WrongLength));
-    }
-    let Some(blocks) = blocks_of(alloc, columns.dtypes(), blocks)? else {
-        return Err(RequestError::BadTable(TableRefusal::WrongValue));
-    };
+    let blocks = block_columns(alloc, columns, blocks)?;
     Ok(ScanRequest {
         zones,
         blocks,
@@ -172,6 +187,37 @@ fn scan_in(
     }
 }
 
+/// The columns at their place.
+pub(crate) fn columns_at(alloc: Global, value: &Value) -> Result<StructFields, RequestError>
+    ensures { RequestAnswers (λ columns. columns) (at_place place.Columns (columns_in (view value.now))) result }
+{
+    match columns_in(alloc, value)? {
+        Some(columns) => Ok(columns),
+        None => Err(RequestError::BadRequest(Place::Columns)),
+    }
+}
+
+/// The blocks at their place.
+pub(crate) fn blocks_at(alloc: Global, value: &Value) -> Result<Vec<Block<'_>>, RequestError>
+    ensures blocks { RequestAnswers (λ v. map block_view v.items) (at_place place.Blocks (blocks_in (view value.now))) result }
+    ensures few { IfOk result (λ blocks. length blocks.items < 2 ^ 32) }
+{
+    match blocks_in(alloc, value)? {
+        Some(blocks) => Ok(blocks),
+        None => Err(RequestError::BadRequest(Place::Blocks)),
+    }
+}
+
+/// The statistics at their place.
+pub(crate) fn stats_at(alloc: Global, value: &Value) -> Result<Vec<Statistic<'_>>, RequestError>
+    ensures { RequestAnswers (λ v. map stat_view v.items) (at_place place.Stats (stats_in (view value.now))) result }
+{
+    match stats_in(alloc, value)? {
+        Some(stats) => Ok(stats),
+        None => Err(RequestError::BadRequest(Place::Stats)),
+    }
+}
+
 /// The scan that a value holds: its places are read one after another, each whole before the next.
 fn scan_of(alloc: Global, value: &Value) -> Result<ScanRequest, RequestError>
     ensures { RequestAnswers scan_view (scan_of (view value.now)) result }
@@ -179,15 +225,9 @@ fn scan_of(alloc: Global, value: &Value) -> Result<ScanRequest, RequestError>
     let Some(members) = request_members(value) else {
         return Err(RequestError::BadRequest(Place::Top));
     };
-    let Some(columns) = columns_in(alloc, members.columns)? else {
-        return Err(RequestError::BadRequest(Place::Columns));
-    };
-    let Some(blocks) = blocks_in(alloc, members.blocks)? else {
-        return Err(RequestError::BadRequest(Place::Blocks));
-    };
-    let Some(stats) = stats_in(alloc, members.stats)? else {
-        return Err(RequestError::BadRequest(Place::Stats));
-    };
+    let columns = columns_at(alloc, members.columns)?;
+    let blocks = blocks_at(alloc, members.blocks)?;
+    let stats = stats_at(alloc, members.stats)?;
     let Some(filter) = members.filter.as_str() else {
         return Err(RequestError::BadRequest(Place::Filter));
     };
