@@ -6,4 +6,6 @@ mod columns_ample;
 #[cfg(test)]
 mod numbers_ample;
 #[cfg(test)]
+mod texts_ample;
+#[cfg(test)]
 mod words_ample;
