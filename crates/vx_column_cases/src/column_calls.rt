@@ -86,10 +86,17 @@ fn negated(alloc: Global, column: &ColumnRef) -> Result<ColumnRef, CaseError> {
 /// Values in another type.
 fn cast_to(alloc: Global, column: &ColumnRef, dtype: &str) -> Result<ColumnRef, CaseError> {
     let target = type_in(alloc, dtype)?;
-    if !takes_cast(column.dtype(), &target) {
+    let made = cast_into(alloc, column, &target);
+    drop(target);
+    made
+}
+
+/// Values in another type.
+fn cast_into(alloc: Global, column: &ColumnRef, target: &DType) -> Result<ColumnRef, CaseError> {
+    if !takes_cast(column.dtype(), target) {
         return Err(CaseError::NotAsked);
     }
-    Ok(cast(alloc, column, &target)?)
+    Ok(cast(alloc, column, target)?)
 }
 
 /// A field of structs.

@@ -1,11 +1,12 @@
 // Columns, made of the types and the values that a row tells.
 use crate::errors::CaseError;
+use crate::owning::{beside, both};
 use crate::rows::{list_in, number_of, text_in};
 use serde_json::Value;
 use std::alloc::Global;
 use vx_column::ColumnRef;
 use vx_dtype::{DType, FieldName, FieldNames, Mem, Nullability, PType, Scalar, ScalarValue, Text};
-use vx_expr::LiteralExpr;
+use vx_expr::{ExprRef, LiteralExpr};
 use vx_text::read_query;
 
 /// The column of the values that words tell.
@@ -26,7 +27,14 @@ pub(crate) fn of_told(alloc: Global, words: &Value) -> Result<ColumnRef, CaseErr
 fn constant_in(alloc: Global, dtype: &str, value: &str) -> Result<Scalar, CaseError> {
     let query = format!(in alloc; "lit({dtype}, {value})")?;
     let expr = read_query(alloc, query.as_str())?;
-    match LiteralExpr::maybe_from(&expr) {
+    let value = value_of(&expr);
+    drop(expr);
+    value
+}
+
+/// The value of a constant.
+fn value_of(expr: &ExprRef) -> Result<Scalar, CaseError> {
+    match LiteralExpr::maybe_from(expr) {
         Some(literal) => Ok(literal.value().clone()?),
         None => Err(CaseError::NotAsked),
     }
@@ -40,7 +48,15 @@ fn list_constant(alloc: Global, dtype: &str, values: &str) -> Result<Scalar, Cas
 
 /// A type, as a query writes it.
 pub(crate) fn type_in(alloc: Global, dtype: &str) -> Result<DType, CaseError> {
-    match list_constant(alloc, dtype, "[]")?.dtype() {
+    let list = list_constant(alloc, dtype, "[]")?;
+    let dtype = element_of(list.dtype());
+    drop(list);
+    dtype
+}
+
+/// The element type of lists.
+fn element_of(dtype: &DType) -> Result<DType, CaseError> {
+    match dtype {
         DType::List(element, _) => Ok(element.dtype().clone()?),
         _ => Err(CaseError::NotAsked),
     }
@@ -52,9 +68,20 @@ pub(crate) fn values_in(
     dtype: &str,
     values: &str,
 ) -> Result<Vec<ScalarValue>, CaseError> {
-    match list_constant(alloc, dtype, values)?.value() {
-        ScalarValue::List(items) => Ok(Vec::from_clones(alloc, items.as_slice())?),
-        _ => Err(CaseError::NotAsked),
+    let list = list_constant(alloc, dtype, values)?;
+    let values = items_of(alloc, list.value());
+    drop(list);
+    match values? {
+        Some(values) => Ok(values),
+        None => Err(CaseError::NotAsked),
+    }
+}
+
+/// The items of a list, where a value is one.
+fn items_of(alloc: Global, value: &ScalarValue) -> Mem<Option<Vec<ScalarValue>>> {
+    match value {
+        ScalarValue::List(items) => Ok(Some(Vec::from_clones(alloc, items.as_slice())?)),
+        _ => Ok(None),
     }
 }
 
@@ -67,21 +94,30 @@ fn told_values(alloc: Global, words: &Value) -> Result<Vec<ScalarValue>, CaseErr
 
 /// The column of values, copied.
 fn from_values(alloc: Global, words: &Value) -> Result<ColumnRef, CaseError> {
-    let dtype = type_in(alloc, text_in(words, "type"))?;
-    let values = told_values(alloc, words)?;
-    Ok(ColumnRef::from_values(alloc, dtype, values.as_slice())?)
+    let (dtype, values) = typed_values(alloc, words)?;
+    let made = ColumnRef::from_values(alloc, dtype, values.as_slice());
+    drop(values);
+    Ok(made?)
+}
+
+/// The type and the values that words tell.
+fn typed_values(alloc: Global, words: &Value) -> Result<(DType, Vec<ScalarValue>), CaseError> {
+    let dtype = type_in(alloc, text_in(words, "type"));
+    both(dtype, told_values(alloc, words))
 }
 
 /// The column of values, which it keeps.
 fn of_values(alloc: Global, words: &Value) -> Result<ColumnRef, CaseError> {
-    let dtype = type_in(alloc, text_in(words, "type"))?;
-    Ok(ColumnRef::of_values(alloc, dtype, told_values(alloc, words)?)?)
+    let (dtype, values) = typed_values(alloc, words)?;
+    Ok(ColumnRef::of_values(alloc, dtype, values)?)
 }
 
 /// So many rows of one value.
 fn constant(alloc: Global, words: &Value) -> Result<ColumnRef, CaseError> {
     let value = constant_in(alloc, text_in(words, "type"), text_in(words, "value"))?;
-    Ok(ColumnRef::constant(alloc, &value, rows_in(words))?)
+    let made = ColumnRef::constant(alloc, &value, rows_in(words));
+    drop(value);
+    Ok(made?)
 }
 
 /// How many rows words tell.
@@ -138,17 +174,27 @@ fn text_of(alloc: Global, text: Option<&str>) -> Mem<Option<Text>> {
 
 /// Lists of values of a type, null where there is none.
 fn lists(alloc: Global, words: &Value) -> Result<ColumnRef, CaseError> {
-    let dtype = text_in(words, "type");
-    let nullable = format!(in alloc; "list({dtype})?")?;
-    let mut lists = Vec::new(alloc);
-    for list in values_in(alloc, nullable.as_str(), text_in(words, "values"))? {
-        lists.push(match list {
-            ScalarValue::List(items) => Some(Vec::from_clones(alloc, items.as_slice())?),
-            _ => None,
-        })?;
-    }
-    let element = type_in(alloc, dtype)?;
+    let element = type_in(alloc, text_in(words, "type"));
+    let (element, lists) = both(element, told_lists(alloc, words))?;
     Ok(ColumnRef::list(alloc, element, lists, nullability_in(words))?)
+}
+
+/// The lists that words tell.
+fn told_lists(alloc: Global, words: &Value) -> Result<Vec<Option<Vec<ScalarValue>>>, CaseError> {
+    let nullable = format!(in alloc; "list({})?", text_in(words, "type"))?;
+    let values = values_in(alloc, nullable.as_str(), text_in(words, "values"))?;
+    let lists = lists_of(alloc, values.as_slice());
+    drop(values);
+    Ok(lists?)
+}
+
+/// The items of each value that is a list.
+fn lists_of(alloc: Global, values: &[ScalarValue]) -> Mem<Vec<Option<Vec<ScalarValue>>>> {
+    let mut lists = Vec::new(alloc);
+    for value in values {
+        lists.push(items_of(alloc, value)?)?;
+    }
+    Ok(lists)
 }
 
 /// Structs of columns, null where truths say that a row isn't valid.
@@ -157,12 +203,22 @@ pub(crate) fn structs(
     words: &Value,
     columns: Vec<ColumnRef>,
 ) -> Result<ColumnRef, CaseError> {
-    let names = FieldNames::new(alloc, names_in(alloc, words)?)?;
-    let valid = match words.get("valid") {
-        Some(_) => Some(valid_in(alloc, words)?),
-        None => None,
-    };
+    let told = both(field_names(alloc, words), validity(alloc, words));
+    let (columns, (names, valid)) = beside(columns, told)?;
     Ok(ColumnRef::struct_(alloc, names, columns, rows_in(words), valid)?)
+}
+
+/// The names of fields, as a list of names.
+fn field_names(alloc: Global, words: &Value) -> Mem<FieldNames> {
+    FieldNames::new(alloc, names_in(alloc, words)?)
+}
+
+/// Whether the rows are valid, where words tell it.
+fn validity(alloc: Global, words: &Value) -> Mem<Option<Vec<bool>>> {
+    match words.get("valid") {
+        Some(_) => Ok(Some(valid_in(alloc, words)?)),
+        None => Ok(None),
+    }
 }
 
 /// The names of fields.

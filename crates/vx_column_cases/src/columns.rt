@@ -9,8 +9,8 @@ use serde_json::Value;
 use std::alloc::Global;
 use std::hash::{DefaultHasher, Hash, Hasher};
 use vx_column::ColumnRef;
-use vx_display::row_text;
-use vx_dtype::Mem;
+use vx_display::push_row;
+use vx_dtype::{Mem, Scalar};
 use vx_typing::is_bool;
 
 /// The levels that the words of a row may have.
@@ -56,13 +56,22 @@ fn typed_text(alloc: Global, column: &ColumnRef) -> Mem<String> {
 fn column_text(alloc: Global, column: &ColumnRef) -> Mem<String> {
     let mut text = String::new(alloc);
     for i in 0..column.len() {
-        if i > 0 {
-            text.push_str(" / ")?;
-        }
-        let scalar = column.scalar_at(alloc, i)?;
-        text.push_str(row_text(alloc, scalar.dtype(), scalar.value())?.as_str())?;
+        push_row_text(&mut text, i > 0, column.scalar_at(alloc, i)?)?;
     }
     Ok(text)
+}
+
+/// Adds a value, which is let go, behind ` / ` where others stand before it.
+fn push_row_text(text: &mut String, is_behind: bool, scalar: Scalar) -> Mem<()> {
+    let pushed = push_separated(text, is_behind, &scalar);
+    drop(scalar);
+    pushed
+}
+
+/// Adds a value, behind ` / ` where others stand before it.
+fn push_separated(text: &mut String, is_behind: bool, scalar: &Scalar) -> Mem<()> {
+    text.push_str(if is_behind { " / " } else { "" })?;
+    push_row(text, scalar.dtype(), scalar.value())
 }
 
 /// Whether the value isn't null, row by row.

@@ -7,6 +7,7 @@ mod column_values;
 mod columns;
 mod errors;
 mod numbers;
+mod owning;
 mod rows;
 mod words;
 
@@ -24,12 +25,18 @@ const TABLES: [(&str, Rows); 5] = [
 
 fn main(rt: HostRuntime) -> anyhow::Result<()> {
     for (table, rows) in TABLES {
-        let text = fs::read_to_string(&rt, table)?;
-        let tried = try_rows(rt.alloc(), text.as_str(), rows)?;
-        for difference in tried.differences.iter() {
-            println!(rt; "{table}: {difference}")?;
-        }
-        println!(rt; "{table}: {} answers agree", tried.agreed)?;
+        try_file(&rt, table, rows)?;
     }
+    Ok(())
+}
+
+/// Tries the rows of a file.
+fn try_file(rt: &HostRuntime, table: &str, rows: Rows) -> anyhow::Result<()> {
+    let text = fs::read_to_string(rt, table)?;
+    let tried = try_rows(rt.alloc(), text.as_str(), rows)?;
+    for difference in tried.differences.iter() {
+        println!(rt; "{table}: {difference}")?;
+    }
+    println!(rt; "{table}: {} answers agree", tried.agreed)?;
     Ok(())
 }

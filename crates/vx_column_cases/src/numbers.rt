@@ -4,7 +4,7 @@ ghost use Rattle.vx_numbers.specs.Numbers.{all_in_range, fits_ptype};
 
 use crate::errors::CaseError;
 use crate::rows::{list_in, number_of, text_in};
-use crate::words::{truths_of, truths_text, word_in};
+use crate::words::{told, truths_of, word_in};
 use serde_json::Value;
 use std::alloc::Global;
 use vx_dtype::{CompareOperator, Mem, PType};
@@ -108,7 +108,15 @@ fn not_asked(alloc: Global) -> Mem<String> {
 
 /// A call on the list of a row.
 fn on_list(alloc: Global, row: &Value, call: OnList) -> Mem<String> {
-    match &numbers_in(alloc, row, "list")? {
+    let list = numbers_in(alloc, row, "list")?;
+    let text = of_told(alloc, row, &list, call);
+    drop(list);
+    text
+}
+
+/// A call on the list that a row tells.
+fn of_told(alloc: Global, row: &Value, list: &Option<Numbers>, call: OnList) -> Mem<String> {
+    match list {
         Some(list) => of_list(alloc, row, list, call),
         None => not_asked(alloc),
     }
@@ -118,8 +126,8 @@ fn on_list(alloc: Global, row: &Value, call: OnList) -> Mem<String> {
 fn of_list(alloc: Global, row: &Value, list: &Numbers, call: OnList) -> Mem<String> {
     match call {
         OnList::Numbers => numbers_text(alloc, list),
-        OnList::Copy => copy_text(alloc, list),
-        OnList::IsNull => nulls_text(alloc, list),
+        OnList::Copy => told_numbers(alloc, list.clone()?),
+        OnList::IsNull => told(alloc, list.is_null(alloc)?),
         OnList::Bounds => bounds_text(alloc, list),
         OnList::Filter => kept(alloc, list, list_in(row, "keep")),
         OnList::CompareWith => comparisons_with(alloc, list, number_in(row, "number")),
@@ -127,24 +135,12 @@ fn of_list(alloc: Global, row: &Value, list: &Numbers, call: OnList) -> Mem<Stri
     }
 }
 
-/// The text of a copy of a list.
-fn copy_text(alloc: Global, list: &Numbers) -> Mem<String> {
-    numbers_text(alloc, &list.clone()?)
-}
-
-/// Where a list has no number.
-fn nulls_text(alloc: Global, list: &Numbers) -> Mem<String> {
-    truths_text(alloc, &list.is_null(alloc)?)
-}
-
 /// The least number and the greatest, each or `null`, and at how many places there is none.
 fn bounds_text(alloc: Global, list: &Numbers) -> Mem<String> {
     let (least, greatest) = list.bounds();
-    let mut text = number_text(alloc, least)?;
-    text.push_str(" ")?;
-    text.push_str(number_text(alloc, greatest)?.as_str())?;
-    text.push_str(format!(in alloc; " {}", list.null_count())?.as_str())?;
-    Ok(text)
+    let least = number_text(alloc, least)?;
+    let greatest = number_text(alloc, greatest)?;
+    Ok(format!(in alloc; "{least} {greatest} {}", list.null_count())?)
 }
 
 /// A number, or `null`.
@@ -157,7 +153,10 @@ fn number_text(alloc: Global, number: Option<i128>) -> Mem<String> {
 
 /// The numbers at the places where these truths are true.
 fn kept(alloc: Global, list: &Numbers, keep: &[Value]) -> Mem<String> {
-    kept_by(alloc, list, &truths_of(alloc, keep)?)
+    let keep = truths_of(alloc, keep)?;
+    let text = kept_by(alloc, list, &keep);
+    drop(keep);
+    text
 }
 
 /// The same, by a list of truths.
@@ -165,7 +164,7 @@ fn kept_by(alloc: Global, list: &Numbers, keep: &Truths) -> Mem<String> {
     if keep.len() != list.len() {
         return not_asked(alloc);
     }
-    numbers_text(alloc, &list.filter(alloc, keep)?)
+    told_numbers(alloc, list.filter(alloc, keep)?)
 }
 
 /// The list's comparisons with a number, one text for each operator.
@@ -175,8 +174,7 @@ fn comparisons_with(alloc: Global, list: &Numbers, number: Option<i128>) -> Mem<
     }
     let mut text = String::new(alloc);
     for op in OPERATORS {
-        let truths = list.compare_with(alloc, number, op)?;
-        push_comparison(alloc, &mut text, op, &truths)?;
+        push_comparison(alloc, &mut text, op, list.compare_with(alloc, number, op)?)?;
     }
     Ok(text)
 }
@@ -186,9 +184,9 @@ fn push_comparison(
     alloc: Global,
     text: &mut String,
     op: CompareOperator,
-    truths: &Truths,
+    truths: Truths,
 ) -> Mem<()> {
-    let truths = truths_text(alloc, truths)?;
+    let truths = told(alloc, truths)?;
     text.push_str(format!(in alloc; "{op}{truths};")?.as_str())?;
     Ok(())
 }
@@ -197,25 +195,46 @@ fn push_comparison(
 fn casts(alloc: Global, list: &Numbers) -> Mem<String> {
     let mut text = String::new(alloc);
     for target in TYPES {
-        let made = total_text(alloc, &list.cast(alloc, target)?)?;
-        text.push_str(format!(in alloc; "{made};")?.as_str())?;
+        push_cast(alloc, &mut text, list, target)?;
     }
     Ok(text)
 }
 
+/// Adds the list in a type, or `none`, ended by `;`.
+fn push_cast(alloc: Global, text: &mut String, list: &Numbers, target: PType) -> Mem<()> {
+    let made = told_total(alloc, list.cast(alloc, target)?)?;
+    text.push_str(made.as_str())?;
+    text.push_str(";")?;
+    Ok(())
+}
+
 /// A call on the two lists of a row.
 fn on_pair(alloc: Global, row: &Value, call: OnPair) -> Mem<String> {
-    match &numbers_in(alloc, row, "left")? {
-        Some(left) => with_right(alloc, row, left, call),
-        None => not_asked(alloc),
-    }
+    let left = numbers_in(alloc, row, "left")?;
+    let text = with_right(alloc, row, &left, call);
+    drop(left);
+    text
 }
 
 /// A call on a list and the right one of a row.
-fn with_right(alloc: Global, row: &Value, left: &Numbers, call: OnPair) -> Mem<String> {
-    match &numbers_in(alloc, row, "right")? {
-        Some(right) => on_both(alloc, row, left, right, call),
-        None => not_asked(alloc),
+fn with_right(alloc: Global, row: &Value, left: &Option<Numbers>, call: OnPair) -> Mem<String> {
+    let right = numbers_in(alloc, row, "right")?;
+    let text = of_two(alloc, row, left, &right, call);
+    drop(right);
+    text
+}
+
+/// A call on the two lists that a row tells.
+fn of_two(
+    alloc: Global,
+    row: &Value,
+    left: &Option<Numbers>,
+    right: &Option<Numbers>,
+    call: OnPair,
+) -> Mem<String> {
+    match (left, right) {
+        (Some(left), Some(right)) => on_both(alloc, row, left, right, call),
+        _ => not_asked(alloc),
     }
 }
 
@@ -243,15 +262,17 @@ fn of_pair(alloc: Global, row: &Value, left: &Numbers, right: &Numbers, call: On
 {
     match call {
         OnPair::Compare => comparisons(alloc, left, right),
-        OnPair::Add => total_text(alloc, &left.checked_add(alloc, right)?),
-        OnPair::Sub => total_text(alloc, &left.checked_sub(alloc, right)?),
-        OnPair::AddEquals => is_total(alloc, row, &left.checked_add(alloc, right)?),
+        OnPair::Add => told_total(alloc, left.checked_add(alloc, right)?),
+        OnPair::Sub => told_total(alloc, left.checked_sub(alloc, right)?),
+        OnPair::AddEquals => is_equal(alloc, left.checked_add(alloc, right)?, row, "total"),
     }
 }
 
-/// Whether a sum is the total that a row holds.
-fn is_total(alloc: Global, row: &Value, sum: &Option<Numbers>) -> Mem<String> {
-    equality(alloc, sum, &numbers_in(alloc, row, "total")?)
+/// Whether a list, which is let go, is equal to one of a row.
+fn is_equal(alloc: Global, left: Option<Numbers>, row: &Value, right: &str) -> Mem<String> {
+    let text = equals(alloc, &left, row, right);
+    drop(left);
+    text
 }
 
 /// The comparisons of two lists, one text for each operator.
@@ -261,20 +282,22 @@ fn comparisons(alloc: Global, left: &Numbers, right: &Numbers) -> Mem<String>
 {
     let mut text = String::new(alloc);
     for op in OPERATORS {
-        let truths = left.compare(alloc, right, op)?;
-        push_comparison(alloc, &mut text, op, &truths)?;
+        push_comparison(alloc, &mut text, op, left.compare(alloc, right, op)?)?;
     }
     Ok(text)
 }
 
 /// Whether two lists of a row are equal.
 fn equal(alloc: Global, row: &Value, left: &str, right: &str) -> Mem<String> {
-    equals(alloc, &numbers_in(alloc, row, left)?, row, right)
+    is_equal(alloc, numbers_in(alloc, row, left)?, row, right)
 }
 
 /// Whether a list is equal to one of a row.
 fn equals(alloc: Global, left: &Option<Numbers>, row: &Value, right: &str) -> Mem<String> {
-    equality(alloc, left, &numbers_in(alloc, row, right)?)
+    let right = numbers_in(alloc, row, right)?;
+    let text = equality(alloc, left, &right);
+    drop(right);
+    text
 }
 
 /// Whether two lists are equal.
@@ -295,11 +318,10 @@ fn repeated(alloc: Global, row: &Value) -> Mem<String> {
         return not_asked(alloc);
     }
     let times = word_in(row, "times") as usize;
-    counted(
-        alloc,
-        &Numbers::repeated(alloc, ptype, number, times)?,
-        number,
-    )
+    let list = Numbers::repeated(alloc, ptype, number, times)?;
+    let text = counted(alloc, &list, number);
+    drop(list);
+    text
 }
 
 /// The type of a list, its length, and at how many places a number stands, or null.
@@ -331,10 +353,12 @@ fn numbers_in(alloc: Global, row: &Value, name: &str) -> Mem<Option<Numbers>> {
         return Ok(None);
     };
     let list = unmasked(alloc, member)?;
-    match (&list, member.get("mask")) {
-        (Some(list), Some(_)) => masked(alloc, list, list_in(member, "mask")),
-        _ => Ok(list),
+    if member.get("mask").is_none() {
+        return Ok(list);
     }
+    let masked = masked(alloc, &list, list_in(member, "mask"));
+    drop(list);
+    masked
 }
 
 /// The list of a type and numbers, none where one of them leaves the type.
@@ -353,8 +377,14 @@ fn unmasked(alloc: Global, member: &Value) -> Mem<Option<Numbers>> {
 }
 
 /// The list, null where these truths are true. None where there isn't a truth for each number.
-fn masked(alloc: Global, list: &Numbers, mask: &[Value]) -> Mem<Option<Numbers>> {
-    masked_by(alloc, list, &truths_of(alloc, mask)?)
+fn masked(alloc: Global, list: &Option<Numbers>, mask: &[Value]) -> Mem<Option<Numbers>> {
+    let Some(list) = list else {
+        return Ok(None);
+    };
+    let nulls = truths_of(alloc, mask)?;
+    let masked = masked_by(alloc, list, &nulls);
+    drop(nulls);
+    masked
 }
 
 /// The same, by a list of truths.
@@ -382,22 +412,34 @@ fn fits(ptype: PType, number: Option<i128>) -> bool
     }
 }
 
-/// The text of a list, or `none`.
-fn total_text(alloc: Global, list: &Option<Numbers>) -> Mem<String> {
+/// The text of a list, which is let go, or `none`.
+fn told_total(alloc: Global, list: Option<Numbers>) -> Mem<String> {
     match list {
-        Some(list) => numbers_text(alloc, list),
+        Some(list) => told_numbers(alloc, list),
         None => Ok(String::from_str(alloc, "none")?),
     }
+}
+
+/// The text of a list, which is let go.
+fn told_numbers(alloc: Global, list: Numbers) -> Mem<String> {
+    let text = numbers_text(alloc, &list);
+    drop(list);
+    text
 }
 
 /// The type of a list and each of its numbers, or `null`, behind a blank.
 fn numbers_text(alloc: Global, list: &Numbers) -> Mem<String> {
     let mut text = String::from_str(alloc, list.ptype().name())?;
     for i in 0..list.len() {
-        match list.number_at(i) {
-            Some(number) => text.push_str(format!(in alloc; " {number}")?.as_str())?,
-            None => text.push_str(" null")?,
-        }
+        push_number(alloc, &mut text, list.number_at(i))?;
     }
     Ok(text)
+}
+
+/// Adds a number, or `null`, behind a blank.
+fn push_number(alloc: Global, text: &mut String, number: Option<i128>) -> Mem<()> {
+    let number = number_text(alloc, number)?;
+    text.push_str(" ")?;
+    text.push_str(number.as_str())?;
+    Ok(())
 }

@@ -1,5 +1,6 @@
 // Tables of calls as JSON: a list of rows, each of which names a call and holds its arguments and the answer that is wanted.
 use crate::errors::CaseError;
+use crate::owning::beside;
 use crate::{columns, numbers, words};
 use serde_json::Value;
 use std::alloc::Global;
@@ -26,14 +27,28 @@ pub(crate) struct Tried {
 /// Tries each row of a table.
 pub(crate) fn try_rows(alloc: Global, text: &str, rows: Rows) -> Result<Tried, CaseError> {
     let table = Value::from_str(alloc, text)?;
+    let tried = tried_rows(alloc, list_of(Some(&table)), rows);
+    drop(table);
+    tried
+}
+
+/// How rows come out.
+fn tried_rows(alloc: Global, table: &[Value], rows: Rows) -> Result<Tried, CaseError> {
     let mut tried = Tried {
         agreed: 0,
         differences: Vec::new(alloc),
     };
-    for row in list_of(Some(&table)) {
-        try_row(alloc, row, rows, &mut tried)?;
-    }
+    let done = try_all(alloc, table, rows, &mut tried);
+    let (tried, ()) = beside(tried, done)?;
     Ok(tried)
+}
+
+/// Tries each of rows.
+fn try_all(alloc: Global, table: &[Value], rows: Rows, tried: &mut Tried) -> Result<(), CaseError> {
+    for row in table {
+        try_row(alloc, row, rows, tried)?;
+    }
+    Ok(())
 }
 
 /// Tries a row.

@@ -93,7 +93,10 @@ fn words_call(name: &str) -> Option<OnWords> {
 
 /// A call on the truths of a row.
 fn on_list(alloc: Global, row: &Value, call: OnList) -> Mem<String> {
-    of_list(alloc, row, &truths_of(alloc, list_in(row, "truths"))?, call)
+    let truths = truths_of(alloc, list_in(row, "truths"))?;
+    let text = of_list(alloc, row, &truths, call);
+    drop(truths);
+    text
 }
 
 /// A call on a list of truths.
@@ -103,7 +106,7 @@ fn of_list(alloc: Global, row: &Value, truths: &Truths, call: OnList) -> Mem<Str
         OnList::TrueCount => Ok(format!(in alloc; "{}", truths.true_count())?),
         OnList::NextTrue => next_places(alloc, truths, list_in(row, "from")),
         OnList::IsRepeated => is_repeated(alloc, row, truths),
-        _ => truths_text(alloc, &list_of(alloc, row, truths, call)?),
+        _ => told(alloc, list_of(alloc, row, truths, call)?),
     }
 }
 
@@ -119,24 +122,26 @@ fn list_of(alloc: Global, row: &Value, truths: &Truths, call: OnList) -> Mem<Tru
 
 /// Whether a list is that of the row's one truth, as many times as it says.
 fn is_repeated(alloc: Global, row: &Value, truths: &Truths) -> Mem<String> {
-    let is_same = *truths == repeated(alloc, row)?;
+    let other = repeated(alloc, row)?;
+    let is_same = *truths == other;
+    drop(other);
     Ok(format!(in alloc; "{is_same}")?)
 }
 
 /// A call on the two lists of a row.
 fn on_pair(alloc: Global, row: &Value, call: OnPair) -> Mem<String> {
-    with_right(alloc, &truths_of(alloc, list_in(row, "left"))?, row, call)
+    let left = truths_of(alloc, list_in(row, "left"))?;
+    let text = with_right(alloc, &left, row, call);
+    drop(left);
+    text
 }
 
 /// A call on a list and the right one of a row.
 fn with_right(alloc: Global, left: &Truths, row: &Value, call: OnPair) -> Mem<String> {
-    of_pair(
-        alloc,
-        left,
-        &truths_of(alloc, list_in(row, "right"))?,
-        row,
-        call,
-    )
+    let right = truths_of(alloc, list_in(row, "right"))?;
+    let text = of_pair(alloc, left, &right, row, call);
+    drop(right);
+    text
 }
 
 /// A call on two lists of truths.
@@ -144,7 +149,7 @@ fn of_pair(alloc: Global, left: &Truths, right: &Truths, row: &Value, call: OnPa
     if left.len() != right.len() {
         return Ok(String::from_str(alloc, "not asked")?);
     }
-    truths_text(alloc, &pair_of(alloc, left, right, row, call)?)
+    told(alloc, pair_of(alloc, left, right, row, call)?)
 }
 
 /// The list that a call makes of two lists of one length.
@@ -202,8 +207,15 @@ fn options_of(alloc: Global, values: &[Value]) -> Mem<Vec<Option<bool>>> {
     Ok(options)
 }
 
+/// The text of truths, which are let go.
+pub(crate) fn told(alloc: Global, truths: Truths) -> Mem<String> {
+    let text = truths_text(alloc, &truths);
+    drop(truths);
+    text
+}
+
 /// A letter for each truth: `t`, `f`, and `n` for null.
-pub(crate) fn truths_text(alloc: Global, truths: &Truths) -> Mem<String> {
+fn truths_text(alloc: Global, truths: &Truths) -> Mem<String> {
     let mut text = String::new(alloc);
     for i in 0..truths.len() {
         text.push_str(letter(truths.truth_at(i)))?;
