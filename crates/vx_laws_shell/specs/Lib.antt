@@ -1,0 +1,13 @@
+pub mod Words
+pub mod Origins
+pub mod ToldTables
+pub mod Parts
+pub mod Lines
+pub mod Wants
+pub mod Answers
+pub mod Damage
+pub mod Running
+pub mod AnswerLaws
+pub mod OrderedRuns
+pub mod KeyedRuns
+pub mod PlanLaws
