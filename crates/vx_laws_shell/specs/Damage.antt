@@ -35,5 +35,6 @@ abbrev pub is_never_damaged : Read → Bool
 is_never_damaged read = false
 
 -- so it is decided which columns are damaged
+-- Stated alone: no call has it as its contract yet.
 abbrev pub DamageIsDecided : Type 0
 DamageIsDecided = (content : FileContent) (read : Read) → Decides (is_damaged_in content read) (IsDamaged content read.0 read.1)
