@@ -1,15 +1,10 @@
 //! A small table as a block file: why none is written, the bytes that are, and what is read of them.
-ghost use Rattle.std.specs.Prelude.{◌≡◌, true};
-ghost use Rattle.vx_dtype.specs.TypeRules.{no_name_twice};
-ghost use Rattle.vx_dtype.specs.TypeViews.{type_view};
-
+use crate::samples::{blocks, column, number, zones};
 use std::alloc::Global;
 use std::test::Fail;
-use vx_column::{ColumnError, ColumnRef};
-use vx_dtype::Nullability::NonNullable;
-use vx_dtype::{DType, FieldName, FieldNames, Mem, PType, StructFields};
+use vx_column::ColumnError;
+use vx_dtype::{Mem, PType};
 use vx_file_bytes::{FileHeader, WriteFileError, read_header, read_range, write_file};
-use vx_zones::{ZoneError, ZoneMap};
 
 /// The file of a column `x` of i32 in two blocks, 1 and 12 in the first and 20 in the second, without statistics: the mark, the length of the header,
 /// the header from place 9 on, and the ranges from places 23 and 33 on.
@@ -19,54 +14,8 @@ const FILE: [u8; 38] = [
     0x00, 0x01, 0x14, 0x00, 0x00, 0x00,
 ];
 
-/// Blocks, or why a column of them isn't made.
-type Blocks = Result<Vec<Vec<ColumnRef>>, ColumnError>;
-
 /// A file's bytes, or why there are none.
 type Written = Result<Vec<u8>, WriteFileError>;
-
-/// The type of the column.
-#[tactic(auto, unfolding(vx_dtype::specs::TypeRules::no_name_twice))]
-fn number() -> DType
-    ensures { no_name_twice (type_view result) ≡ true }
-{
-    DType::Primitive(PType::I32, NonNullable)
-}
-
-/// The numbers as a column of a type.
-fn column(alloc: Global, p: PType, numbers: &[i128]) -> Result<ColumnRef, ColumnError> {
-    let mut values = Vec::new(alloc);
-    for number in numbers {
-        values.push(Some(*number))?;
-    }
-    ColumnRef::primitive(alloc, p, values, NonNullable)
-}
-
-/// Two blocks of one column of a type.
-fn blocks(alloc: Global, p: PType, first: &[i128], second: &[i128]) -> Blocks {
-    let mut blocks = Vec::new(alloc);
-    for numbers in [first, second] {
-        let mut columns = Vec::new(alloc);
-        columns.push(column(alloc, p, numbers)?)?;
-        blocks.push(columns)?;
-    }
-    Ok(blocks)
-}
-
-/// The column `x`.
-fn fields(alloc: Global) -> Mem<StructFields> {
-    let mut names = Vec::new(alloc);
-    names.push(FieldName::new(alloc, "x")?)?;
-    let mut dtypes = Vec::new(alloc);
-    dtypes.push(number())?;
-    StructFields::new(alloc, FieldNames::new(alloc, names)?, dtypes)
-}
-
-/// The zones of the column in blocks of two rows and of one, without statistics.
-fn zones(alloc: Global) -> Result<ZoneMap, ZoneError> {
-    let lengths = Vec::from_slice(alloc, &[2, 1])?;
-    ZoneMap::try_new(alloc, fields(alloc)?, lengths, Vec::new(alloc))
-}
 
 /// The file of these blocks, or why there is none. None where its zones or a block aren't made.
 fn written(alloc: Global, p: PType, first: &[i128], second: &[i128]) -> Option<Written> {

@@ -1,0 +1,5 @@
+pub mod CutLists
+pub mod CutLaws
+mod JoinLemmas
+mod BareLemmas
+mod BlockLemmas
