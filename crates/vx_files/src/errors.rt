@@ -1,0 +1,21 @@
+// Why a file isn't opened, and why it isn't kept.
+
+/// Why a path isn't opened.
+#[derive(Clone, Copy, PartialEq, Eq, Debug)]
+pub enum OpenError {
+    /// There was no memory.
+    NoMemory,
+    /// The path can't be opened for reading.
+    NotOpened,
+}
+
+/// Why bytes aren't kept under a path.
+#[derive(Clone, Copy, PartialEq, Eq, Debug)]
+pub enum KeepError {
+    /// There was no memory.
+    NoMemory,
+    /// Something stands there, and wasn't to be replaced.
+    Exists,
+    /// They can't be written there.
+    NotKept,
+}
