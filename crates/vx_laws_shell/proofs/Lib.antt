@@ -6,3 +6,5 @@ pub mod SlotlessForms
 pub mod SlotlessPlans
 pub mod PlainKeys
 pub mod Answered
+pub mod ToldCells
+pub mod ToldTables

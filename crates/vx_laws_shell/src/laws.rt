@@ -4,6 +4,7 @@ ghost use Rattle.vx_laws_shell.specs.AnswerLaws.{RunsAreScans, LimitsGiveFirstRo
 ghost use Rattle.vx_laws_shell.specs.KeyedRuns.{KeyedRunsWriteAnswers};
 ghost use Rattle.vx_laws_shell.specs.OrderedRuns.{OrderedRunsWriteAnswers};
 ghost use Rattle.vx_laws_shell.specs.PlanLaws.{PlansHaveNoSlot, PlanKeysArePlain};
+ghost use Rattle.vx_laws_shell.specs.ToldTables.{ToldTablesAreTables};
 
 /// Without a limit a run in the table's order finds what a scan does.
 pub fn runs_are_scans()
@@ -26,4 +27,9 @@ pub fn runs_write_answers()
 pub fn plans_can_be_run()
     ensures slots { PlansHaveNoSlot }
     ensures keys { PlanKeysArePlain }
+{}
+
+/// The blocks of a table that a text tells are a table with its zones.
+pub fn told_tables_are_tables()
+    ensures { ToldTablesAreTables }
 {}

@@ -4,4 +4,7 @@
 
 mod laws;
 
-pub use laws::{limits_give_first_rows, plans_can_be_run, runs_are_scans, runs_write_answers};
+pub use laws::{
+    limits_give_first_rows, plans_can_be_run, runs_are_scans, runs_write_answers,
+    told_tables_are_tables,
+};

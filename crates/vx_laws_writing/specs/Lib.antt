@@ -1,0 +1,3 @@
+pub mod WriteWords
+pub mod Writing
+pub mod WriteLaws

@@ -1,0 +1,123 @@
+-- What a run of the words of `write` is, over the standard input and the files that it can keep.
+use Rattle.std.specs.Prelude.{◌≡◌, ◌⊎◌, ℕ, ◌≤◌, ◌+◌, false, List, Option, Some, None, Ok, Err}
+use Rattle.vx_dtype.specs.Types.{Bytes}
+use Rattle.vx_column.specs.Columns.{Column}
+use Rattle.vx_semantics.specs.Tables.{Zones}
+use Rattle.vx_io.specs.Counts.{one_more}
+use Rattle.vx_io.specs.Ends.{TookPart}
+use Rattle.vx_tables.specs.Blocks.{table_of_blocks}
+use Rattle.vx_request.specs.Requests.{most_bytes}
+use Rattle.vx_request.specs.Tables.{ToldTable, told_table}
+use Rattle.vx_request.specs.declared.errors.RequestError.{RequestError}
+use Rattle.vx_laws_stats.specs.BuiltStatistics.{built_zones}
+use Rattle.vx_laws_file.specs.FileForms.{file_bytes}
+use Rattle.vx_laws_file.specs.Lengths.{HasFile, IsShortTable}
+use Rattle.vx_cutting.specs.Cutting.{zones_cut, blocks_anew}
+use Rattle.vx_files.specs.Kept.{Kept, MayStand}
+use Rattle.vx_files.specs.Keeping.{KeepsNothing, IsKept}
+use Rattle.vx_laws_shell.specs.Running.{End, IsTaken}
+use Rattle.vx_laws_writing.specs.WriteWords.{WriteAsk, write_asked_of}
+
+-- the blocks of a told table that are kept: as they are, or cut anew; and their zones before statistics are built
+abbrev pub blocks_kept : Option ℕ → ToldTable → List (List Column)
+blocks_kept None told = told.blocks
+blocks_kept (Some n) told = blocks_anew n told.zones told.blocks
+
+abbrev pub zones_told : Option ℕ → ToldTable → Zones
+zones_told None told = told.zones
+zones_told (Some n) told = zones_cut n told.zones
+
+-- the zones that are kept: with the statistics that the rows have, whatever the table's own were
+abbrev pub zones_kept : Option ℕ → ToldTable → Zones
+zones_kept rows told = built_zones (table_of_blocks (zones_told rows told) (blocks_kept rows told))
+
+-- these are the bytes of the table's file
+pub record IsFileOf (rows : Option ℕ) (told : ToldTable) (bytes : Bytes) : Type 0 where
+  pub file : HasFile (zones_kept rows told) (blocks_kept rows told)
+  pub bytes_are : bytes ≡ file_bytes (zones_kept rows told) (blocks_kept rows told)
+
+-- something in the table is too long for a file
+abbrev pub HasNoFile : Option ℕ → ToldTable → Type 0
+HasNoFile rows told = ¬ (IsShortTable (zones_kept rows told) (blocks_kept rows told))
+
+-- how a run ends: words of no form; a read that failed; an input that tells no table; a table that has no file; a path under which something stands already;
+-- a file that couldn't be kept; or one that is
+pub data WriteOutcome : Type 0 where
+  misused : WriteOutcome
+  unread : WriteOutcome
+  untold : RequestError → WriteOutcome
+  too_long : WriteOutcome
+  standing : WriteOutcome
+  unkept : WriteOutcome
+  written : WriteOutcome
+
+-- the exit status of an outcome
+abbrev pub write_status : WriteOutcome → ℕ
+write_status misused = 2
+write_status unread = 6
+write_status (untold e) = 3
+write_status too_long = 3
+write_status standing = 6
+write_status unkept = 7
+write_status written = 0
+
+-- what paths lead to, and how many faults were counted of it
+pub record FilesEnd : Type 0 where
+  pub kept : Bytes → Kept
+  pub faults : ℕ
+
+-- the files of these meanings
+abbrev pub files_end : {F : Type 0} → (F → Bytes → Kept) → (F → ℕ) → F → FilesEnd
+files_end kept faults files = record { kept = kept files; faults = faults files }
+
+-- nothing is kept anew, and no fault was counted
+pub record AreUntouched (before after : FilesEnd) : Type 0 where
+  pub kept : KeepsNothing before.kept after.kept
+  pub quiet : after.faults ≡ before.faults
+
+-- the words ask this of a table of the standard input, of which this was taken
+pub record TakesInput (words : List Bytes) (before after : End) (ask : WriteAsk) (input : Bytes) : Type 0 where
+  pub form : write_asked_of words ≡ Some ask
+  pub taken : IsTaken before after input
+
+-- and it tells this table
+pub record TakesTold (words : List Bytes) (before after : End) (ask : WriteAsk) (told : ToldTable) : Type 0 where
+  pub input : Bytes
+  pub takes : TakesInput words before after ask input
+  pub tells : told_table input ≡ Ok told
+
+-- what an outcome says of the words, the standard input and the files
+abbrev pub IsWriteOutcome : List Bytes → End → End → FilesEnd → FilesEnd → WriteOutcome → Type 0
+IsWriteOutcome words before after files now misused = (write_asked_of words ≡ None) × (after ≡ before) × AreUntouched files now
+IsWriteOutcome words before after files now unread =
+    (ask : WriteAsk) × (write_asked_of words ≡ Some ask) × TookPart (most_bytes + 1) before.bytes after.bytes × (one_more before.faults ≤ after.faults)
+    × AreUntouched files now
+IsWriteOutcome words before after files now (untold e) =
+    (ask : WriteAsk) × (input : Bytes) × TakesInput words before after ask input × (told_table input ≡ Err e) × AreUntouched files now
+IsWriteOutcome words before after files now too_long =
+    (ask : WriteAsk) × (told : ToldTable) × TakesTold words before after ask told × HasNoFile ask.rows told × AreUntouched files now
+IsWriteOutcome words before after files now standing =
+    (ask : WriteAsk) × (told : ToldTable) × TakesTold words before after ask told × (ask.replaces ≡ false) × MayStand (files.kept ask.path)
+    × AreUntouched files now
+IsWriteOutcome words before after files now unkept =
+    (ask : WriteAsk) × (told : ToldTable) × TakesTold words before after ask told × KeepsNothing files.kept now.kept
+    × (one_more files.faults ≤ now.faults)
+IsWriteOutcome words before after files now written =
+    (ask : WriteAsk) × (told : ToldTable) × (bytes : Bytes) × TakesTold words before after ask told × IsFileOf ask.rows told bytes
+    × IsKept ask.path bytes ask.replaces files.kept now.kept × (now.faults ≡ files.faults)
+
+-- a run that came to its end, with its exit status
+pub record IsEndedWrite (words : List Bytes) (before after : End) (files now : FilesEnd) (status : ℕ) : Type 0 where
+  pub outcome : WriteOutcome
+  pub is : IsWriteOutcome words before after files now outcome
+  pub told : status ≡ write_status outcome
+
+-- a run without memory: a first part of the input was taken, and nothing is kept anew
+pub record IsEndedWithoutMemory (before after : End) (files now : FilesEnd) (status : ℕ) : Type 0 where
+  pub told : status ≡ 8
+  pub part : TookPart (most_bytes + 1) before.bytes after.bytes
+  pub untouched : AreUntouched files now
+
+-- a run of the words of `write`. What is written to the errors isn't told
+abbrev pub IsWriteRun : List Bytes → End → End → FilesEnd → FilesEnd → ℕ → Type 0
+IsWriteRun words before after files now status = IsEndedWrite words before after files now status ⊎ IsEndedWithoutMemory before after files now status

@@ -1,0 +1,2 @@
+mod NumberWords
+mod RangeWords

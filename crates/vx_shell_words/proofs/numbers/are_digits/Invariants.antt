@@ -1,0 +1,8 @@
+-- The bytes so far are digits.
+use Rattle.std.proofs.Common.{◌≡◌, drop}
+use Rattle.std.specs.Char.{is_ascii_digit}
+use Rattle.std.specs.List.{list_all}
+use Rattle.vx_shell_words.proofs.numbers.are_digits.Given as goal
+
+abbrev pub invariant-loop-byte : goal.invariant-loop-byte
+invariant-loop-byte l = list_all is_ascii_digit l.fn.bytes ≡ list_all is_ascii_digit (drop l.byte-index l.fn.bytes)

@@ -1,0 +1,2 @@
+mod MadeTables
+mod RunLemmas
