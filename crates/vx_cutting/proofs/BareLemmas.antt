@@ -1,5 +1,5 @@
 -- Zones without statistics break no rule where zones of the same columns break none.
-use Rattle.std.proofs.Common.{◌≡◌, refl, sym, ◌∙◌, Bool, true, false, cond, not, List, [], ℕ, Option, Some, None, Err}
+use Rattle.std.proofs.Common.{◌≡◌, refl, sym, ◌∙◌, Bool, true, false, cond, not, List, ℕ, Option, Some, None, Err}
 use Rattle.vx_dtype.specs.TypeRules.{no_name_twice}
 use Rattle.vx_semantics.specs.Tables.{Zones, row_type}
 use Rattle.vx_zones.specs.Zoning.{are_shallow, broken_rule}

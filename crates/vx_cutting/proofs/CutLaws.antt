@@ -1,5 +1,5 @@
 -- A table that is cut anew has the same rows, in blocks of the stated lengths.
-use Rattle.std.proofs.Common.{◌≡◌, refl, ap, sym, ◌∙◌, ℕ, zero, suc, ◌+◌, ◌-◌, ◌*◌, ◌<◌, ◌≤◌, min, Bool, true, List, [], ◌∷◌, ◌++◌, length, map, take, drop, get_or, replicate, nat_eq, arith}
+use Rattle.std.proofs.Common.{◌≡◌, refl, ap, sym, ◌∙◌, ℕ, zero, suc, ◌+◌, ◌-◌, ◌*◌, ◌<◌, ◌≤◌, min, true, List, [], ◌∷◌, ◌++◌, length, map, take, drop, replicate, nat_eq, arith}
 use Rattle.std.specs.Cmp.{first_so, second_so}
 use Rattle.std.specs.Cmp.Derive.{both_true}
 use Rattle.std.specs.List.{flat_map, list_all, range_with_len, sum}
@@ -11,13 +11,12 @@ use Rattle.vx_dtype.specs.Equal.{ty_eq}
 use Rattle.vx_dtype.specs.EqualLaws.{ty_decides}
 use Rattle.vx_dtype.specs.StructTypes.{field_types}
 use Rattle.vx_dtype.specs.TypeRules.{field_names}
-use Rattle.vx_dtype.specs.Values.{Val, struct_val, Members, no_members, member}
+use Rattle.vx_dtype.specs.Values.{struct_val, Members, no_members, member}
 use Rattle.vx_column.specs.Columns.{Column, column, zip_rows}
-use Rattle.vx_semantics.specs.Tables.{Zones}
-use Rattle.vx_tables.specs.Blocks.{block_long, blocks_long, block_typed, have_lengths, have_types, block_members, rows_of_columns, table_of_blocks}
+use Rattle.vx_tables.specs.Blocks.{block_long, blocks_long, block_typed, block_members, rows_of_columns}
 use Rattle.vx_tables.proofs.MemberLemmas.{equal_numbers, length_mapped, members_count}
-use Rattle.vx_cutting.specs.Cutting.{rows_cut, blocks_cut, length_cut, lengths_cut, column_there, joined_column, joined_from, joined_columns, all_have_rows, block_cut, columns_cut, zones_cut, blocks_anew}
-use Rattle.vx_cutting.specs.CutLaws.{IsTable, CutTablesAreTables, CuttingKeepsRows}
+use Rattle.vx_cutting.specs.Cutting.{rows_cut, blocks_cut, length_cut, column_there, joined_from, joined_columns, all_have_rows, block_cut}
+use Rattle.vx_cutting.specs.CutLaws.{CutTablesAreTables, CuttingKeepsRows}
 use Rattle.vx_cutting.proofs.CutLists.{concat, part, parts_join, zip_part, zip_append, map_concat}
 
 pub same_number : (a b : ℕ) → a ≡ b → nat_eq a b ≡ true

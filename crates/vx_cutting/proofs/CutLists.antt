@@ -1,9 +1,9 @@
 -- Lists that are cut: their parts, one behind another, are the whole, and what is zipped is cut alike.
-use Rattle.std.proofs.Common.{◌≡◌, refl, ap, sym, ◌∙◌, ℕ, zero, suc, ◌+◌, ◌-◌, ◌*◌, ◌/◌, ◌%◌, ◌<◌, ◌≤◌, min, List, [], ◌∷◌, ◌++◌, length, map, take, drop, arith}
+use Rattle.std.proofs.Common.{◌≡◌, refl, ap, sym, ◌∙◌, ℕ, zero, suc, ◌+◌, ◌*◌, ◌/◌, ◌%◌, ◌<◌, ◌≤◌, min, List, [], ◌∷◌, ◌++◌, length, map, take, drop, arith}
 use Rattle.std.specs.List.{flat_map, range_with_len}
 use Rattle.std.proofs.lemmas.Bool.{cases_lt}
 use Rattle.std.proofs.lemmas.Nat.{div-add-mod', mod_below}
-use Rattle.std.proofs.lemmas.List.{take_all, take-take, drop-take, drop-drop, take-append-drop, append_assoc}
+use Rattle.std.proofs.lemmas.List.{take_all, take-take, drop-take, drop-drop, take-append-drop}
 use native.Mathlib.Nat.{add-mul, one-mul, suc-mul, zero-mul}
 use mathlib.Core.Logic.{⊎_elim}
 use Rattle.vx_column.specs.Columns.{zip_rows}

@@ -1,7 +1,7 @@
 -- Blocks of columns cut anew: into blocks of so many rows, one behind another, the last one of what is left.
-use Rattle.std.specs.Prelude.{◌≡◌, ℕ, suc, ◌-◌, ◌+◌, ◌*◌, ◌/◌, ◌%◌, ◌<◌, min, nat_eq, Bool, true, List, [], ◌∷◌, map, take, drop, length, get_or}
+use Rattle.std.specs.Prelude.{◌≡◌, ℕ, ◌-◌, ◌+◌, ◌*◌, ◌/◌, ◌%◌, ◌<◌, min, nat_eq, Bool, List, [], ◌∷◌, map, take, drop, length, get_or}
 use Rattle.std.specs.List.{flat_map, list_all, range_with_len, sum}
-use Rattle.vx_dtype.specs.Types.{Ty, bool_ty, Fields}
+use Rattle.vx_dtype.specs.Types.{Ty, bool_ty}
 use Rattle.vx_dtype.specs.declared.Nullability.TheVariants.{NonNullable}
 use Rattle.vx_dtype.specs.StructTypes.{field_types}
 use Rattle.vx_dtype.specs.Values.{Val}

@@ -3,7 +3,7 @@ use Rattle.std.specs.Prelude.{◌≡◌, ℕ, ◌≤◌, Bool, false, cond, Resu
 use Rattle.std.specs.Str.{bytes_eq}
 use Rattle.vx_dtype.specs.Types.{Bytes}
 use Rattle.vx_io.specs.Counts.{one_more}
-use Rattle.vx_files.specs.Kept.{Kept, unknown, absent, holds, MayStand, MayBeFree}
+use Rattle.vx_files.specs.Kept.{Kept, unknown, holds, MayStand, MayBeFree}
 use Rattle.vx_files.specs.declared.errors.KeepError.{KeepError}
 use Rattle.vx_files.specs.declared.errors.KeepError.TheVariants.{NoMemory, Exists, NotKept}
 

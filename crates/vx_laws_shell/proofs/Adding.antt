@@ -1,5 +1,5 @@
 -- What is added to an output by one piece of lines after another.
-use Rattle.std.proofs.Common.{◌≡◌, refl, ap, sym, ◌∙◌, ℕ, ◌+◌, ◌≤◌, Option, Some, None, List, [], ◌++◌, length, take, length-append, arith, append_assoc, append-nil, subst}
+use Rattle.std.proofs.Common.{◌≡◌, refl, ap, sym, ◌∙◌, ℕ, ◌+◌, Option, Some, None, List, [], ◌++◌, length, take, length-append, arith, append_assoc, append-nil, subst}
 use Rattle.std.proofs.Math.Seq.{take-append-add}
 use Rattle.std.proofs.lemmas.List.{take-append-le, take_all}
 use Rattle.vx_io.specs.Ends.{Added, AddedPrefix}

@@ -1,5 +1,5 @@
 -- What runs have in common with scans: without a limit they find what these do, and with one the first of their rows.
-use Rattle.std.proofs.Common.{◌≡◌, refl, ap, sym, ◌∙◌, ℕ, ◌+◌, ◌-◌, nat_eq, zero, suc, Bool, true, false, cond, not, ◌||◌, Option, Some, None, is_some, List, [], ◌∷◌, ◌++◌, map, length, take, arith}
+use Rattle.std.proofs.Common.{◌≡◌, refl, ap, sym, ◌∙◌, ℕ, ◌+◌, ◌-◌, nat_eq, suc, Bool, true, false, cond, not, ◌||◌, Option, Some, None, is_some, List, [], ◌∷◌, ◌++◌, map, length, take, arith}
 use Rattle.std.specs.List.{list_any, flat_map, filter}
 use Rattle.std.specs.Option.{option_or}
 use Rattle.std.proofs.lemmas.Bool.{eqb-true}
@@ -9,11 +9,11 @@ use Rattle.vx_dtype.specs.Values.{Val}
 use Rattle.vx_expr.specs.Trees.{Tree}
 use Rattle.vx_semantics.specs.Pruning.{rules_out}
 use Rattle.vx_semantics.specs.Tables.{Table, Zones, row_type, numbered_from}
-use Rattle.vx_semantics.specs.Scans.{Phase, block_phases, phase_breaks, kept_of, kept_rows_of, skipped_blocks, phases_of}
+use Rattle.vx_semantics.specs.Scans.{Phase, block_phases, phase_breaks, kept_of, skipped_blocks, phases_of}
 use Rattle.vx_laws_scan.proofs.Keeping.{kept_rows_are_all}
 use Rattle.vx_laws_topk.specs.TopPhases.{SlottedPhase, slotted_reads}
 use Rattle.vx_scan.specs.Stores.{Read}
-use Rattle.vx_laws_shell.specs.Answers.{Stop, damaged, broken, phase_stop, first_stop, unslotted, phases_in, rows_in, scanned_for, before_stop}
+use Rattle.vx_laws_shell.specs.Answers.{Stop, damaged, broken, first_stop, unslotted, phases_in, rows_in, scanned_for, before_stop}
 use Rattle.vx_laws_shell.specs.AnswerLaws.{RunsAreScans, LimitsGiveFirstRows, HonestLimitsGiveFirstRows}
 use Rattle.vx_laws_shell.specs.Damage.{is_never_damaged}
 use Rattle.vx_laws_shell.proofs.OrderedRuns.{take_both}

@@ -1,13 +1,13 @@
 -- A run by a key writes the answer.
-use Rattle.std.proofs.Common.{◌≡◌, refl, ap, sym, ◌∙◌, ℕ, ◌≤◌, Bool, true, false, Option, Some, None, List, [], ◌∷◌, ◌++◌, length, ⊎_elim, subst}
+use Rattle.std.proofs.Common.{◌≡◌, ap, sym, ◌∙◌, ℕ, Bool, false, Option, Some, None, List, [], length, ⊎_elim, subst}
 use Rattle.std.specs.List.{list_any}
 use Rattle.vx_dtype.specs.TypeRules.{field_names}
 use Rattle.vx_dtype.specs.Values.{Val}
 use Rattle.vx_io.specs.Ends.{Added, AddedPrefix}
 use Rattle.vx_semantics.specs.Tables.{Table, Zones, row_type}
 use Rattle.vx_semantics.specs.Scans.{read_columns}
-use Rattle.vx_laws_topk.specs.TopRows.{TopAsk, top_rows_of, top_skipped}
-use Rattle.vx_laws_topk.specs.TopPhases.{top_phases, top_reads}
+use Rattle.vx_laws_topk.specs.TopRows.{TopAsk, top_rows_of}
+use Rattle.vx_laws_topk.specs.TopPhases.{top_phases}
 use Rattle.vx_scan.specs.Stores.{Read}
 use Rattle.vx_laws_shell.specs.Answers.{Stop, damaged, broken, first_stop, rows_unless, found_by_key, counts_of}
 use Rattle.vx_laws_shell.specs.KeyedRuns.{FoundKeyed, CutKeyed, RunsByKey, KeyedRunsWriteAnswers}

@@ -1,13 +1,13 @@
 -- A run through the blocks of a table in their order writes the answer.
-use Rattle.std.proofs.Common.{◌≡◌, refl, ap, sym, ◌∙◌, ℕ, ◌+◌, ◌-◌, ◌*◌, ◌^◌, ◌<◌, ◌≤◌, nat_eq, min, suc, zero, Bool, true, false, cond, not, Option, Some, None, is_some, List, [], ◌∷◌, ◌++◌, map, length, take, Result, Ok, Err, ⊎_elim, arith, append_assoc, append-nil, length-append, subst}
+use Rattle.std.proofs.Common.{◌≡◌, refl, ap, sym, ◌∙◌, ℕ, ◌+◌, ◌-◌, ◌^◌, ◌<◌, ◌≤◌, nat_eq, min, suc, Bool, true, false, cond, not, Option, Some, None, is_some, List, [], ◌∷◌, ◌++◌, map, length, take, Ok, ⊎_elim, arith, append_assoc, append-nil, length-append, subst}
 use Rattle.std.specs.Prelude.{◌⊎◌}
-use Rattle.std.specs.List.{list_any, flat_map, filter, sum, sum_by}
+use Rattle.std.specs.List.{list_any, flat_map, filter, sum}
 use Rattle.std.specs.Option.{option_or}
 use Rattle.std.proofs.Math.Seq.{take-append-add, take-nil}
 use Rattle.std.proofs.lemmas.Bool.{cases_lt}
 use Rattle.std.proofs.lemmas.List.{take-append-le, take_all, append_cancel_left, length-map, length-take}
 use Rattle.std.proofs.lemmas.List.Concat.{flat_map-append}
-use Rattle.std.proofs.lemmas.List.Sums.{sum_by-cons, sum-map}
+use Rattle.std.proofs.lemmas.List.Sums.{sum_by-cons}
 use Rattle.vx_dtype.specs.Logic.{is_true_val}
 use Rattle.vx_dtype.specs.TypeRules.{field_names}
 use Rattle.vx_dtype.specs.Types.{Ty}
@@ -24,12 +24,12 @@ use Rattle.vx_scan.specs.ErrorKinds.{ErrorKind, of_memory, of_break, of_read, ki
 use Rattle.vx_scan.specs.Stores.{Read}
 use Rattle.vx_scan.proofs.ReadLemmas.{one_more_later}
 use Rattle.vx_laws_topk.specs.TopPhases.{SlottedPhase, slotted_reads}
-use Rattle.vx_laws_shell.specs.Answers.{Stop, damaged, broken, first_stop, first_of_rows, unslotted, phases_in, rows_in, scanned_for, scanned_of, before_stop, Found, found_in_order, answer_found, answer_stopped, counts_of}
+use Rattle.vx_laws_shell.specs.Answers.{Stop, damaged, broken, first_stop, first_of_rows, phases_in, rows_in, scanned_for, scanned_of, before_stop, Found, found_in_order, answer_found, answer_stopped, counts_of}
 use Rattle.vx_laws_shell.specs.Lines.{Counts, row_line, row_lines}
 use Rattle.vx_laws_shell.specs.Running.{End}
-use Rattle.vx_laws_shell.specs.OrderedRuns.{Progress, RunEnd, finished, without_value, without_column, without_room, without_output, StopsBy, CutsBy, BlockRan, StopsIn, CutsIn, WritesIn}
+use Rattle.vx_laws_shell.specs.OrderedRuns.{Progress, RunEnd, finished, without_value, without_column, without_room, without_output, StopsBy, BlockRan, StopsIn, CutsIn, WritesIn}
 use Rattle.vx_laws_shell.specs.OrderedRuns.{more_rows, limit_behind, RunsOver, blocks_scanned, counts_by, WritesAnswer, OrderedRunsWriteAnswers}
-use Rattle.vx_laws_shell.proofs.Adding.{added_nothing, added_none_of, added_both, prefix_of_more, prefix_behind, prefix_of_whole}
+use Rattle.vx_laws_shell.proofs.Adding.{added_nothing, added_none_of, added_both, prefix_of_more, prefix_behind}
 use Rattle.vx_laws_shell.proofs.Stops.{undamaged_parts, stop_append, unslotted_reads, unslotted_none, unslotted_broken, unslotted_damaged}
 
 -- ---- rows

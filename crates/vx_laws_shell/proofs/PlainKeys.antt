@@ -1,14 +1,13 @@
 -- The key of a plan is a column of a plain type.
-use Rattle.std.proofs.Common.{◌≡◌, refl, ap, sym, ◌∙◌, subst, Bool, true, false, List, [], ◌∷◌, Option, Some, None, option_map, unwrap_or, Result, Ok, Err}
+use Rattle.std.proofs.Common.{◌≡◌, refl, ap, sym, ◌∙◌, subst, Bool, List, [], ◌∷◌, Option, Some, None, option_map, unwrap_or, Ok}
 use Rattle.std.specs.Prelude.{MatchOption}
 use Rattle.std.specs.Str.{is_utf8}
-use Rattle.sqlite_ast.specs.declared.Expr.{Expr, out-Expr}
+use Rattle.sqlite_ast.specs.declared.Expr.{out-Expr}
 use Rattle.sqlite_ast.specs.declared.Expr.TheOpen.{Expr-F}
 use Rattle.sqlite_ast.specs.declared.Sort.{Sort, out-Sort}
 use Rattle.sqlite_ast.specs.declared.Select.{Select, out-Select}
 use Rattle.sqlite_ast.specs.declared.Core.{Core, out-Core}
 use Rattle.sqlite_ast.specs.Layer.{Layer}
-use Rattle.vx_dtype.specs.declared.Nullability.{Nullability}
 use Rattle.vx_dtype.specs.declared.Nullability.TheVariants.{NonNullable, Nullable}
 use Rattle.vx_dtype.specs.Types.{Bytes, Ty, bool_ty, int_ty, text_ty, list_ty, struct_ty, Fields}
 use Rattle.vx_dtype.specs.TypeRules.{field_type, is_plain, widened}
@@ -16,7 +15,7 @@ use Rattle.vx_expr.specs.Trees.{get_item}
 use Rattle.vx_semantics.specs.Tables.{row_type}
 use Rattle.vx_semantics.specs.Typing.{type_in}
 use Rattle.vx_laws_sql.specs.Operands.{TypedTree}
-use Rattle.vx_laws_statements.specs.Refusals.{StatementRefusal, Refusal, no_column, no_text, no_order, in_order, ◌>>=◌, unless, there, refused_as}
+use Rattle.vx_laws_statements.specs.Refusals.{no_column, no_text, no_order, in_order, ◌>>=◌, unless, there, refused_as}
 use Rattle.vx_laws_statements.specs.Constants.{text_of}
 use Rattle.vx_laws_statements.specs.Expressions.{row_of, item_in, column_of}
 use Rattle.vx_laws_statements.specs.Clauses.{Key, key_at, nulls_last, key_of, table_of, filter_of, rows_of, order_of, limit_of}

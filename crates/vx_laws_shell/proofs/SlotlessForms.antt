@@ -1,5 +1,5 @@
 -- A form of SQL over operands that compare with no slot compares with none.
-use Rattle.std.proofs.Common.{◌≡◌, refl, ap, sym, ◌∙◌, subst, ℤ, Bool, true, false, ◌||◌, cond, List, [], ◌∷◌, ◌++◌, Option, Some, None, Result, Ok, Err}
+use Rattle.std.proofs.Common.{◌≡◌, refl, ◌∙◌, subst, ℤ, Bool, true, false, cond, List, [], ◌∷◌, ◌++◌, Option, Some, None, Ok, Err}
 use Rattle.std.specs.List.{list_any}
 use Rattle.std.proofs.lemmas.Bool.{or_from}
 use Rattle.std.proofs.lemmas.List.Folds.{list_any-append}
@@ -10,7 +10,7 @@ use Rattle.vx_dtype.specs.declared.CompareOperator.{CompareOperator}
 use Rattle.vx_dtype.specs.declared.BetweenOptions.{BetweenOptions}
 use Rattle.vx_dtype.specs.Types.{Bytes, Ty, bool_ty, int_ty, text_ty, list_ty, struct_ty}
 use Rattle.vx_dtype.specs.TypeRules.{is_plain, is_bool_ty, is_text_ty, is_int_ty, alike, same_ptype, with_nullability}
-use Rattle.vx_dtype.specs.Values.{Raw, raw_null, raw_bool, raw_int, raw_text, raw_list, raw_struct, Raws, Typed}
+use Rattle.vx_dtype.specs.Values.{Raw, raw_null, raw_int, raw_list, Raws, Typed}
 use Rattle.vx_dtype.specs.Fits.{fits, in_range}
 use Rattle.vx_dtype.specs.Casts.{takes_cast}
 use Rattle.vx_dtype.specs.ScalarAnswers.{typed}
@@ -19,14 +19,14 @@ use Rattle.vx_expr.specs.Operators.{operator_of}
 use Rattle.vx_expr.specs.Trees.{Tree, root, literal, get_item, binary, not_of, is_null_of, like, between, cast, list_contains, pack, Trees, trees_of}
 use Rattle.vx_semantics.specs.Nodes.{nodes_of, nodes_of_all}
 use Rattle.vx_laws_topk.specs.TopLaws.{is_slot_comparison}
-use Rattle.vx_laws_sql.specs.CommonTypes.{common_type, common_of_three, first_apart}
-use Rattle.vx_laws_sql.specs.Operands.{TypedTree, Operand, known, number, untyped_null, Mismatch, out_of_range, other_kinds, not_plain, no_common_type}
-use Rattle.vx_laws_sql.specs.Operands.{no_boolean, no_text, no_number, no_cast, ◌>>=◌, where_it, constant, null_of, boolean, text, type_alone, number_in, number_across}
+use Rattle.vx_laws_sql.specs.CommonTypes.{common_type, common_of_three}
+use Rattle.vx_laws_sql.specs.Operands.{TypedTree, Operand, known, number, untyped_null, out_of_range, other_kinds, not_plain}
+use Rattle.vx_laws_sql.specs.Operands.{no_boolean, no_text, no_number, no_cast, ◌>>=◌, where_it, constant, null_of, type_alone, number_across}
 use Rattle.vx_laws_sql.specs.Operands.{taking, alone, ptype_of, in_wider, widened_to, alike_pair, in_common, matched_by, matched, both}
-use Rattle.vx_laws_sql.specs.Forms.{truth_of, comparison, sum_node, sum_by, sum, difference, as_boolean, as_text, connective, conjunction, disjunction, negation}
+use Rattle.vx_laws_sql.specs.Forms.{truth_of, comparison, sum_node, sum_by, as_boolean, as_text, connective, negation}
 use Rattle.vx_laws_sql.specs.Forms.{null_test, not_null_test, pattern_test, InRange, alike_three, three_in_common, three_matched_by, three_matched, first_known, both_count}
 use Rattle.vx_laws_sql.specs.Forms.{range_node, ranged, range_test, cast_node, wrong_number, cast_to}
-use Rattle.vx_laws_sql.specs.Membership.{constant_operand, first_typed, elements, has_null, element_type, member_node, member_of, membership}
+use Rattle.vx_laws_sql.specs.Membership.{first_typed, elements, has_null, element_type, member_node, member_of, membership}
 use Rattle.vx_laws_sql.proofs.Steps.{stepped, passed, same_answer}
 
 -- no node of an expression compares with a slot

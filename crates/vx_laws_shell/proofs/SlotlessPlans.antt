@@ -1,5 +1,5 @@
 -- No part of a plan compares with a slot.
-use Rattle.std.proofs.Common.{◌≡◌, refl, ap, sym, ◌∙◌, subst, ℕ, zero, suc, Bool, true, false, not, ◌==◌, cond, List, [], ◌∷◌, ◌++◌, map, Option, Some, None, option_map, position, length, Result, Ok, Err}
+use Rattle.std.proofs.Common.{◌≡◌, refl, ap, subst, ℕ, zero, suc, Bool, true, false, not, ◌==◌, cond, List, [], ◌∷◌, ◌++◌, map, Option, Some, None, option_map, position, length, Result, Ok, Err}
 use Rattle.std.specs.List.{list_any}
 use Rattle.sqlite_ast.specs.declared.Unary.{Unary}
 use Rattle.sqlite_ast.specs.declared.Unary.TheVariants as unary
@@ -16,15 +16,15 @@ use Rattle.sqlite_syntax.specs.declared.statement.Parsed.{Parsed}
 use Rattle.sqlite_syntax.specs.Statement.{parse}
 use Rattle.vx_dtype.specs.declared.CompareOperator.TheVariants.{Eq, NotEq, Gt, Gte, Lt, Lte}
 use Rattle.vx_dtype.specs.declared.Nullability.TheVariants.{NonNullable}
-use Rattle.vx_dtype.specs.Types.{Bytes, Ty, bool_ty, Fields, no_fields, field}
-use Rattle.vx_dtype.specs.TypeRules.{fields_of, has_name, nullability_of, widened}
+use Rattle.vx_dtype.specs.Types.{Bytes, Ty, Fields, no_fields, field}
+use Rattle.vx_dtype.specs.TypeRules.{fields_of, has_name}
 use Rattle.vx_dtype.specs.Values.{Raw, raw_bool, raw_int, raw_text}
 use Rattle.vx_expr.specs.declared.Operator.{Operator}
-use Rattle.vx_expr.specs.Trees.{Tree, root, get_item, trees_of}
+use Rattle.vx_expr.specs.Trees.{root, get_item, trees_of}
 use Rattle.vx_semantics.specs.Nodes.{nodes_of_all}
 use Rattle.vx_semantics.specs.Typing.{type_in}
-use Rattle.vx_laws_topk.specs.TopLaws.{is_slot_comparison, has_no_slot}
-use Rattle.vx_laws_sql.specs.Operands.{TypedTree, Operand, known, number, untyped_null, Mismatch, boolean, text, alone}
+use Rattle.vx_laws_topk.specs.TopLaws.{is_slot_comparison}
+use Rattle.vx_laws_sql.specs.Operands.{TypedTree, Operand, known, untyped_null, Mismatch, boolean, text, alone}
 use Rattle.vx_laws_sql.specs.Forms.{comparison, sum, difference, conjunction, disjunction, negation, null_test, not_null_test, pattern_test, range_test}
 use Rattle.vx_laws_sql.specs.Forms.{cast_to, as_boolean}
 use Rattle.vx_laws_sql.specs.Membership.{constant_operand, membership}

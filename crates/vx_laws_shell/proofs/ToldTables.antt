@@ -1,5 +1,5 @@
 -- The blocks of a table that a text of JSON tells are a table with its zones.
-use Rattle.std.proofs.Common.{◌≡◌, refl, ap, sym, ◌∙◌, subst, ℕ, nat_le, Bool, true, false, cond, not, List, [], ◌∷◌, length, map, Option, Some, None, ok_or, Result, Ok, Err}
+use Rattle.std.proofs.Common.{◌≡◌, refl, ap, sym, subst, nat_le, Bool, true, false, List, [], ◌∷◌, length, map, Option, Some, None, ok_or, Result, Ok, Err}
 use Rattle.std.specs.List.{list_all}
 use Rattle.std.specs.Option.{option_or}
 use Rattle.serde_json.specs.Data.{Data}
@@ -12,7 +12,7 @@ use Rattle.vx_tables.specs.Blocks.{have_lengths, have_types, table_refusal}
 use Rattle.vx_zones.specs.Zoning.{broken_rule}
 use Rattle.vx_zones.specs.declared.errors.ZoneError.{ZoneError}
 use Rattle.vx_request.specs.Cells.{blocks_of}
-use Rattle.vx_request.specs.RequestMembers.{BlockText, StatText, columns_in, blocks_in, stats_in}
+use Rattle.vx_request.specs.RequestMembers.{BlockText, StatText, columns_in, blocks_in}
 use Rattle.vx_request.specs.Requests.{◌>>=◌, ensured, json_in, at_place, most_bytes, is_rectangle, block_columns, zones_of, zones_by, sound_zones}
 use Rattle.vx_request.specs.Objects.{object_of}
 use Rattle.vx_request.specs.Tables.{ToldTable, names_without_stats, names_with_stats, told_with, told_in, stats_at, places_told, members_told, told_of, told_table}

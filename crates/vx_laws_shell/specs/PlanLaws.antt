@@ -1,5 +1,5 @@
 -- What holds of each plan: no part of it compares with a slot, and its key is a column of a plain type.
-use Rattle.std.specs.Prelude.{◌≡◌, true, Option, Some, MatchOption, Ok}
+use Rattle.std.specs.Prelude.{◌≡◌, true, Some, MatchOption, Ok}
 use Rattle.vx_dtype.specs.Types.{Bytes, Ty, Fields}
 use Rattle.vx_dtype.specs.TypeRules.{field_type, is_plain}
 use Rattle.vx_semantics.specs.Tables.{row_type}

@@ -1,5 +1,5 @@
 -- The rows that words of `write` name are at least one.
-use Rattle.std.proofs.Common.{◌≡◌, refl, sym, subst, ℕ, ◌≤◌, ◌<◌, nat_le, Bool, true, false, cond, ◌&&◌, List, [], ◌∷◌, Option, Some, None, option_map, codes, arith}
+use Rattle.std.proofs.Common.{◌≡◌, refl, subst, ℕ, ◌<◌, nat_le, Bool, true, false, cond, ◌&&◌, List, [], ◌∷◌, Option, Some, None, option_map, codes, arith}
 use Rattle.std.specs.Option.{option_and_then}
 use Rattle.std.specs.Str.{bytes_eq}
 use Rattle.std.proofs.lemmas.Bool.{and_parts}

@@ -1,8 +1,8 @@
 -- What is written of a table is opened, holds its rows, and has statistics that don't lie.
-use Rattle.std.proofs.Common.{◌≡◌, refl, ap, sym, ◌∙◌, subst, ℕ, ◌<◌, Bool, true, false, cond, not, ◌&&◌, List, [], ◌∷◌, map, length, Option, Some, None, Ok}
+use Rattle.std.proofs.Common.{◌≡◌, refl, ap, sym, ◌∙◌, subst, ℕ, Bool, true, false, cond, not, ◌&&◌, List, [], ◌∷◌, length, Option, Some, None}
 use Rattle.std.specs.List.{list_all}
 use Rattle.vx_dtype.specs.declared.Nullability.TheVariants.{NonNullable}
-use Rattle.vx_dtype.specs.Types.{Bytes, Ty, struct_ty}
+use Rattle.vx_dtype.specs.Types.{Ty, struct_ty}
 use Rattle.vx_dtype.specs.TypeRules.{field_names, no_name_twice}
 use Rattle.vx_dtype.specs.Fits.{val_fits}
 use Rattle.vx_dtype.specs.Values.{Val}
@@ -10,29 +10,24 @@ use Rattle.vx_column.specs.Columns.{Column, rows_fit, zip_rows}
 use Rattle.vx_semantics.specs.Tables.{Table, Zones, row_type}
 use Rattle.vx_semantics.specs.Honest.{IsHonest}
 use Rattle.vx_zones.specs.Zoning.{broken_rule}
-use Rattle.vx_zones.specs.declared.errors.ZoneError.{ZoneError}
-use Rattle.vx_tables.specs.Blocks.{have_lengths, have_types, table_of_blocks, table_refusal, rows_of_columns, block_fits}
-use Rattle.vx_tables.specs.declared.errors.TableError.{TableError}
-use Rattle.vx_tables.specs.declared.errors.TableError.TheVariants as errors
+use Rattle.vx_tables.specs.Blocks.{have_lengths, have_types, table_of_blocks, table_refusal, rows_of_columns}
 use Rattle.vx_tables.proofs.BlockLemmas.{table_lengths}
 use Rattle.vx_tables.proofs.FitLemmas.{table_fit}
 use Rattle.vx_laws_scan.specs.Agreeing.{all_rows_fit}
 use Rattle.vx_laws_stats.specs.BuiltStatistics.{built_zones}
 use Rattle.vx_laws_stats.specs.BuiltLaws as built
 use Rattle.vx_laws_stats.proofs.HonestBlocks.{honest}
-use Rattle.vx_laws_file.specs.FileForms.{content_of, file_bytes}
-use Rattle.vx_laws_file.specs.HeldTables.{held_blocks, held_table}
-use Rattle.vx_laws_file.specs.Lengths.{HasFile}
+use Rattle.vx_laws_file.specs.FileForms.{content_of}
+use Rattle.vx_laws_file.specs.HeldTables.{held_table}
 use Rattle.vx_laws_file.specs.Opening.{IsOpened}
 use Rattle.vx_laws_file.proofs.WrittenLemmas.{written_is_opened, written_is_held}
-use Rattle.vx_request.specs.Tables.{ToldTable, told_table}
+use Rattle.vx_request.specs.Tables.{ToldTable}
 use Rattle.vx_laws_shell.specs.ToldTables.{table_told}
 use Rattle.vx_laws_shell.proofs.ToldTables.{told_tables_are_tables}
-use Rattle.vx_cutting.specs.Cutting.{zones_cut, blocks_anew}
 use Rattle.vx_cutting.specs.CutLaws.{IsTable, all_rows}
 use Rattle.vx_cutting.proofs.CutLaws.{cut_tables_are_tables, cutting_keeps_rows}
-use Rattle.vx_laws_writing.specs.Writing.{blocks_kept, zones_told, zones_kept, IsFileOf}
-use Rattle.vx_laws_writing.specs.WriteLaws.{Cuts, IsWrittenWell, WhatIsWrittenIsTheTable}
+use Rattle.vx_laws_writing.specs.Writing.{blocks_kept, zones_told, zones_kept}
+use Rattle.vx_laws_writing.specs.WriteLaws.{Cuts, WhatIsWrittenIsTheTable}
 
 -- blocks that aren't refused are a table
 passed : {X : Type 0} (a : Bool) (x : X) (o : Option X) → cond (not a) (Some x) o ≡ None → (a ≡ true) × (o ≡ None)

@@ -1,7 +1,7 @@
 -- Where the words of a range are cut.
-use Rattle.std.proofs.Common.{◌≡◌, ◌≢◌, refl, ap, sym, ◌∙◌, ℕ, ◌+◌, ◌==◌, Bool, cond, Option, Some, None, MatchOption, option_map, List, [], ◌∷◌, length, drop, ⊎_elim, arith}
+use Rattle.std.proofs.Common.{◌≡◌, ◌≢◌, refl, ap, sym, ℕ, ◌+◌, ◌==◌, Bool, cond, Option, Some, None, MatchOption, option_map, List, [], ◌∷◌, length, ⊎_elim, arith}
 use Rattle.std.specs.List.{before_first, after_first, position_or_len}
-use Rattle.std.proofs.lemmas.Bool.{cases_eq, eq-eqb, ne_eqb}
+use Rattle.std.proofs.lemmas.Bool.{cases_eq, ne_eqb}
 use Rattle.std.proofs.lemmas.List.{drop_all}
 use denote.Ref.{Bor}
 use Rattle.vx_dtype.specs.Types.{Bytes}

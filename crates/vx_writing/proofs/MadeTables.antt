@@ -1,11 +1,11 @@
 -- The blocks that are kept of a told table, and their file.
-use Rattle.std.proofs.Common.{◌≡◌, refl, ap, sym, ◌∙◌, subst, ℕ, ◌<◌, ◌≤◌, ◌^◌, true, List, [], ◌∷◌, map, length, Option, Some, None, Result, Ok, Err, arith}
+use Rattle.std.proofs.Common.{◌≡◌, ap, sym, ◌∙◌, subst, ℕ, ◌<◌, ◌≤◌, ◌^◌, true, List, length, Option, Some, None, Err, arith}
 use Rattle.std.specs.List.{sum}
 use Rattle.std.proofs.lemmas.List.FromFn.{length-map-range_with_len}
 use Rattle.vx_dtype.specs.TypeRules.{field_names}
 use Rattle.vx_column.specs.Columns.{Column}
 use Rattle.vx_semantics.specs.Tables.{Zones}
-use Rattle.vx_tables.specs.Blocks.{have_lengths, table_of_blocks, table_refusal, block_view}
+use Rattle.vx_tables.specs.Blocks.{have_lengths, table_of_blocks, table_refusal}
 use Rattle.vx_tables.specs.declared.errors.TableError.{TableError}
 use Rattle.vx_tables.specs.declared.errors.TableError.TheVariants as refusals
 use Rattle.vx_tables.proofs.BlockLemmas.{table_lengths}
@@ -13,17 +13,15 @@ use Rattle.vx_laws_stats.specs.BuiltStatistics.{built_zones}
 use Rattle.vx_laws_file.specs.FileForms.{file_bytes}
 use Rattle.vx_laws_file.specs.Lengths.{HasFile, IsShortTable}
 use Rattle.vx_request.specs.Tables.{ToldTable}
-use Rattle.vx_cutting.specs.Cutting.{blocks_cut, length_cut, lengths_cut, zones_cut, blocks_anew}
-use Rattle.vx_cutting.specs.CutAnswers.{AnswersCut, IsCut}
+use Rattle.vx_cutting.specs.Cutting.{blocks_cut, length_cut, zones_cut, blocks_anew}
+use Rattle.vx_cutting.specs.CutAnswers.{AnswersCut}
 use Rattle.vx_cutting.specs.CutLaws.{IsTable}
-use Rattle.vx_cutting.specs.declared.cutting.CutTable.{CutTable}
 use Rattle.vx_cutting.specs.declared.errors.CutError.{CutError}
 use Rattle.vx_cutting.specs.declared.errors.CutError.TheVariants as cuts
 use Rattle.vx_file_bytes.specs.WritingAnswers.{IsUnwritten}
 use Rattle.vx_file_bytes.specs.declared.errors.WriteFileError.{WriteFileError}
 use Rattle.vx_file_bytes.specs.declared.errors.WriteFileError.TheVariants as writes
-use Rattle.vx_laws_writing.specs.WriteLaws.{Cuts}
-use Rattle.vx_laws_writing.specs.Writing.{blocks_kept, zones_told, zones_kept, HasNoFile, IsFileOf}
+use Rattle.vx_laws_writing.specs.Writing.{zones_kept, HasNoFile, IsFileOf}
 use Rattle.vx_laws_writing.proofs.WrittenTables.{is_table, no_refusal, kept_is_table}
 use Rattle.vx_writing.specs.Making.{AreBlocksOf, MakesBlocks, MakesFile}
 use Rattle.vx_writing.specs.WriteRefusals.{IsOfCutting, IsOfFile, cut_refusal, file_refusal}

@@ -1,22 +1,21 @@
 -- The steps of a run, put together.
-use Rattle.std.proofs.Common.{◌≡◌, refl, ap, sym, ◌∙◌, ◌⊎◌, inl, inr, ℕ, ◌≤◌, ◌+◌, false, List, Some, None, Result, Ok, Err}
+use Rattle.std.proofs.Common.{◌≡◌, refl, inl, inr, ◌≤◌, ◌+◌, List, Some, Result, Ok, Err}
 use Rattle.vx_dtype.specs.Types.{Bytes}
 use Rattle.vx_io.specs.Counts.{one_more}
-use Rattle.vx_io.specs.Ends.{TookPart, TookUpTo}
+use Rattle.vx_io.specs.Ends.{TookPart}
 use Rattle.vx_io.specs.declared.reading.InputError.{InputError}
 use Rattle.vx_io.specs.declared.reading.InputError.TheVariants as inputs
 use Rattle.vx_request.specs.Requests.{most_bytes}
 use Rattle.vx_request.specs.RequestViews.{RequestAnswers, told_view}
 use Rattle.vx_request.specs.Tables.{ToldTable, told_table}
-use Rattle.vx_request.specs.declared.tables.ToldTable.{ToldTable as ToldCode}
 use Rattle.vx_request.specs.declared.errors.RequestError.{RequestError}
 use Rattle.vx_request.specs.declared.errors.RequestError.TheVariants as requests
-use Rattle.vx_files.specs.Keeping.{AnswersKeep, IsKept}
+use Rattle.vx_files.specs.Keeping.{AnswersKeep}
 use Rattle.vx_files.specs.declared.errors.KeepError.{KeepError}
 use Rattle.vx_files.specs.declared.errors.KeepError.TheVariants as keeps
 use Rattle.vx_laws_shell.specs.Running.{End, IsTaken}
 use Rattle.vx_laws_writing.specs.WriteWords.{WriteAsk, write_asked_of}
-use Rattle.vx_laws_writing.specs.Writing.{AreUntouched, FilesEnd, IsFileOf, HasNoFile, IsWriteRun, misused, unread, untold, too_long, standing, unkept, written}
+use Rattle.vx_laws_writing.specs.Writing.{AreUntouched, FilesEnd, IsFileOf, IsWriteRun, unread, untold, too_long, standing, unkept, written}
 use Rattle.vx_writing.specs.Making.{MakesFile}
 use Rattle.vx_writing.specs.WriteRefusals.{input_refusal, keep_refusal, refusal_status, result_status, table_refusal}
 use Rattle.vx_writing.specs.WriteSteps.{TellsTable, KeepsBytes, KeepsTable}

@@ -1,11 +1,11 @@
-use Rattle.std.proofs.Common.{◌≡◌, ◌<◌, ◌∙◌, sym, ap, subst, ◌++◌, ◌∷◌, [], length, map, take, get_or, List}
+use Rattle.std.proofs.Common.{◌≡◌, ◌<◌, ◌∙◌, sym, ap, subst, length, map, take, get_or, List}
 use Rattle.std.specs.declared.vec.Vec.{Vec}
 use Rattle.std.specs.declared.alloc.Global.{Global}
 use Rattle.std.proofs.lemmas.List.{map_more}
 use Rattle.vx_dtype.specs.TypeViews.{type_view}
 use Rattle.vx_column.specs.Columns.{Column, AppendsRows}
 use Rattle.vx_tables.specs.Blocks.{block_view}
-use Rattle.vx_cutting.specs.Cutting.{column_there, HasColumn}
+use Rattle.vx_cutting.specs.Cutting.{column_there}
 use Rattle.vx_cutting.proofs.BlockLemmas.{has_at}
 use Rattle.vx_cutting.proofs.JoinLemmas.{AreJoined, joined_more}
 use Rattle.vx_cutting.proofs.columns.joined_column.Goals as goal

@@ -1,4 +1,3 @@
-use Rattle.std.proofs.Common.{take, drop, ◌-◌}
 use Rattle.vx_cutting.proofs.JoinLemmas.{ArePart}
 use Rattle.vx_cutting.proofs.columns.part_of.Given as goal
 

@@ -1,14 +1,14 @@
-use Rattle.std.proofs.Common.{◌≡◌, ◌<◌, ◌≤◌, ◌+◌, ◌∙◌, sym, ap, subst, Some, List, [], ◌∷◌, ◌++◌, length, map, drop, arith}
+use Rattle.std.proofs.Common.{◌≡◌, ◌<◌, ◌≤◌, ◌+◌, ◌∙◌, sym, ap, Some, [], ◌∷◌, ◌++◌, length, map, drop, arith}
 use Rattle.std.specs.List.{slice_get}
 use Rattle.std.proofs.lemmas.List.{append_assoc, append-nil}
 use Rattle.vx_dtype.specs.declared.Nullability.TheVariants.{NonNullable}
-use Rattle.vx_dtype.specs.Types.{Ty, Fields}
+use Rattle.vx_dtype.specs.Types.{Fields}
 use Rattle.vx_dtype.specs.TypeRules.{field_names}
 use Rattle.vx_dtype.specs.TypeViews.{type_view}
 use Rattle.vx_dtype.specs.StructTypes.{field_types}
 use Rattle.vx_dtype.proofs.FieldsFrom.{has_type_at, length-field_types}
 use Rattle.vx_tables.specs.Blocks.{block_view}
-use Rattle.vx_cutting.specs.Cutting.{joined_column, joined_from}
+use Rattle.vx_cutting.specs.Cutting.{joined_from}
 use Rattle.vx_cutting.proofs.BareLemmas.{distinct_in}
 use Rattle.vx_cutting.proofs.BlockLemmas.{each_has, names_there, joined_step, joined_past}
 use Rattle.vx_cutting.proofs.cutting.joined_columns.Goals as goal

@@ -1,4 +1,4 @@
-use Rattle.std.proofs.Common.{◌≡◌, ◌∙◌, ap, sym, subst, map, Some, Err}
+use Rattle.std.proofs.Common.{◌∙◌, ap, sym, subst, map, Some, Err}
 use Rattle.vx_tables.specs.Blocks.{block_view}
 use Rattle.vx_request.specs.RequestViews.{told_view}
 use Rattle.vx_cutting.specs.Cutting.{blocks_anew}

@@ -1,4 +1,4 @@
-use Rattle.std.proofs.Common.{◌≡◌, sym, refl, inl, map, Some}
+use Rattle.std.proofs.Common.{sym, refl, inl, map}
 use Rattle.std.specs.String.{string_bytes}
 use Rattle.vx_laws_writing.specs.Writing.{misused}
 use Rattle.vx_laws_writing.proofs.WordLemmas.{asked_cuts}
