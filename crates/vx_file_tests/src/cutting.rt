@@ -10,12 +10,7 @@ use vx_dtype::PType;
 
 /// The table of 1 and 12 in one block and these numbers in another, as a column of a type, cut into blocks of so many rows. None where its zones or a block
 /// aren't made.
-fn cut(
-    alloc: Global,
-    p: PType,
-    second: &[i128],
-    most: u32,
-) -> Option<Result<CutTable, CutError>>
+fn cut(alloc: Global, p: PType, second: &[i128], most: u32) -> Option<Result<CutTable, CutError>>
     requires { 0 < most }
 {
     match (zones(alloc), blocks(alloc, p, &[1, 12], second)) {
@@ -25,7 +20,12 @@ fn cut(
 }
 
 /// Whether a block of a table that was cut, by its number, has these numbers alone.
-fn has_block(alloc: Global, cut: &CutTable, block: usize, numbers: &[i128]) -> Result<bool, ColumnError> {
+fn has_block(
+    alloc: Global,
+    cut: &CutTable,
+    block: usize,
+    numbers: &[i128],
+) -> Result<bool, ColumnError> {
     let want = column(alloc, PType::I32, numbers)?;
     match cut.blocks.as_slice().get(block) {
         Some(columns) => Ok(columns.as_slice() == [want].as_slice()),
@@ -34,7 +34,12 @@ fn has_block(alloc: Global, cut: &CutTable, block: usize, numbers: &[i128]) -> R
 }
 
 /// Whether a table was cut into blocks of these lengths, the first of which has these numbers.
-fn is_cut(alloc: Global, cut: Option<Result<CutTable, CutError>>, lengths: &[u32], first: &[i128]) -> Result<bool, ColumnError> {
+fn is_cut(
+    alloc: Global,
+    cut: Option<Result<CutTable, CutError>>,
+    lengths: &[u32],
+    first: &[i128],
+) -> Result<bool, ColumnError> {
     match cut {
         Some(Ok(cut)) => {
             let are_long = cut.zones.lengths() == lengths && cut.blocks.len() == lengths.len();

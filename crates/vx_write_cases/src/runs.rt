@@ -1,0 +1,104 @@
+// Runs of words over ends in memory.
+ghost use Rattle.std.specs.Prelude.{◌<◌, ◌^◌, ◌-◌, All, IfOk};
+
+use crate::rows::{is_set, list_of, number_in, owned, text_in};
+use crate::unkept_files::UnkeptFiles;
+use anyhow::Result;
+use serde_json::Value;
+use std::alloc::Global;
+use vx_dtype::Mem;
+use vx_files::{Files, MemoryFile, MemoryFiles};
+use vx_io::{MemorySink, MemorySource};
+use vx_writing::write;
+
+/// How many bytes an end in memory takes in all.
+const ROOM: usize = 65536;
+
+/// How many bytes it gives or takes in a call: few, so that a text goes over several calls.
+const MOST: usize = 13;
+
+/// What a run came to: its exit status, what it told on standard error, and the digits of the bytes under the path of the row, `-` where there are none.
+#[derive(Drop)]
+pub(crate) struct Ended {
+    pub(crate) status: u8,
+    pub(crate) errors: String,
+    pub(crate) kept: String,
+}
+
+/// Runs the words of a row over its input and its files.
+pub(crate) fn run(alloc: Global, row: &Value) -> Result<Ended> {
+    if is_set(row, "unkept") {
+        let mut files = UnkeptFiles::new();
+        let (status, errors) = run_over(alloc, row, &mut files)?;
+        let kept = owned(alloc, "-")?;
+        return Ok(Ended {
+            status,
+            errors,
+            kept,
+        });
+    }
+    let mut files = files_in(alloc, row)?;
+    let (status, errors) = run_over(alloc, row, &mut files)?;
+    let kept = kept_digits(alloc, &files, text_in(row, "path"))?;
+    Ok(Ended {
+        status,
+        errors,
+        kept,
+    })
+}
+
+/// Runs the words of a row over files: the exit status, and what was told on standard error.
+fn run_over<F: Files>(alloc: Global, row: &Value, files: &mut F) -> Result<(u8, String)> {
+    let words = words_in(alloc, row)?;
+    let mut input = input_in(alloc, row)?;
+    let mut errors = MemorySink::new(alloc, ROOM, MOST, Vec::new(alloc))?;
+    let status = write(alloc, words.as_slice(), files, &mut input, &mut errors);
+    let told = str::from_utf8(errors.written()).unwrap_or("");
+    Ok((status, owned(alloc, told)?))
+}
+
+/// The digits of the bytes under a path, `-` where there are none.
+fn kept_digits(alloc: Global, files: &MemoryFiles, path: &str) -> Result<String> {
+    match files.bytes_of(path) {
+        Some(bytes) => Ok(hex::encode(alloc, bytes)?),
+        None => owned(alloc, "-"),
+    }
+}
+
+/// The words of a row.
+fn words_in(alloc: Global, row: &Value) -> Result<Vec<String>> {
+    let mut words = Vec::new(alloc);
+    for word in list_of(row.get("words")) {
+        words.push(owned(alloc, word.as_str().unwrap_or(""))?)?;
+    }
+    Ok(words)
+}
+
+/// What stands on the standard input, of which the read of a number, from 1, fails.
+fn input_in(alloc: Global, row: &Value) -> Result<MemorySource> {
+    let bytes = Vec::from_clones(alloc, text_in(row, "input").as_bytes())?;
+    let fails = numbers_of(alloc, number_in(row, "fails"))?;
+    Ok(MemorySource::new(bytes, MOST, fails))
+}
+
+/// The files in memory of a row: a list of paths beside the digits of their bytes.
+fn files_in(alloc: Global, row: &Value) -> Result<MemoryFiles> {
+    let mut files = Vec::new(alloc);
+    for file in list_of(row.get("files")) {
+        files.push(MemoryFile {
+            path: owned(alloc, text_in(file, "path"))?,
+            bytes: hex::decode(alloc, text_in(file, "bytes").as_bytes())?,
+        })?;
+    }
+    Ok(MemoryFiles::new(alloc, files))
+}
+
+/// The number of the call that fails, where there is one.
+fn numbers_of(alloc: Global, fails: u64) -> Mem<Vec<u64>>
+    ensures { IfOk result (λ numbers. All (λ n. n < 2 ^ 64 - 1) numbers.items) }
+{
+    if fails == 0 {
+        return Ok(Vec::new(alloc));
+    }
+    Ok(vec![in alloc; fails.min(1_000_000)]?)
+}
