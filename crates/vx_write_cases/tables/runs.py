@@ -71,7 +71,6 @@ BARE_CUT = file([], [(4, []), (1, [])], [])
 
 USAGE = "error: usage: write PATH [--rows N] [--force]\n"
 EXISTS = "error: the path leads to something: --force replaces it\n"
-LONG = "error: the table is too long for a block file\n"
 
 
 def untold(why):
@@ -123,8 +122,8 @@ row("a read fails", WRITE, 6, errors="error: a read failed\n", input=TWO, fails=
 row("a read fails before the table is known", WRITE, 6, errors="error: a read failed\n", input="[]", fails=1)
 row("a file that can't be kept", WRITE, 7, errors="error: the file can't be written\n", input=TWO, unkept=True)
 row("a table before a file that can't be kept", WRITE, 3, errors=untold("BadRequest(Top)"), input="[]", unkept=True)
-row("more rows than a file has", WRITE, 3, errors=LONG, input=told([], [(1048576, []), (1, [])]))
-row("the same cut", [*WRITE, "--rows", "1000"], 3, errors=LONG, input=told([], [(1048576, []), (1, [])]))
+row("more rows than a table has", WRITE, 3, errors=untold("BadRequest(Blocks)"), input=told([], [(1048576, []), (1, [])]))
+row("the same cut", [*WRITE, "--rows", "1000"], 3, errors=untold("BadRequest(Blocks)"), input=told([], [(1048576, []), (1, [])]))
 
 for name, words in [
     ("no path", ["write"]),
