@@ -8,3 +8,11 @@ pub mod PlainKeys
 pub mod Answered
 pub mod ToldCells
 pub mod ToldTables
+pub mod Damage
+pub mod NumberWords
+pub mod RangeWords
+pub mod Parts
+pub mod FolderFiles
+pub mod FolderScans
+pub mod FolderAnswers
+pub mod CutAnew

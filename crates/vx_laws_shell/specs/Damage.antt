@@ -8,7 +8,9 @@ use Rattle.vx_dtype.specs.TypeRules.{field_type}
 use Rattle.vx_dtype.specs.Values.{Val}
 use Rattle.vx_scan.specs.Stores.{Read}
 use Rattle.vx_laws_file.specs.FileForms.{FileContent}
+use Rattle.vx_laws_file.specs.FileLaws.{AreBytes}
 use Rattle.vx_laws_file.specs.HeldTables.{range_values}
+use Rattle.vx_laws_file.specs.Opening.{IsOpened}
 use Rattle.vx_laws_file.specs.Ranges.{range_named, IsDamaged}
 
 -- whether there are no values
@@ -34,7 +36,8 @@ is_damaged_in content read =
 abbrev pub is_never_damaged : Read → Bool
 is_never_damaged read = false
 
--- so it is decided which columns are damaged
--- Stated alone: no call has it as its contract yet.
+-- so it is decided which columns of a file are damaged. Numbers from 256 on, which are no bytes, could be read in a range that spells no values
 abbrev pub DamageIsDecided : Type 0
-DamageIsDecided = (content : FileContent) (read : Read) → Decides (is_damaged_in content read) (IsDamaged content read.0 read.1)
+DamageIsDecided =
+    (bytes : Bytes) (content : FileContent) (read : Read) → AreBytes bytes → IsOpened bytes content
+    → Decides (is_damaged_in content read) (IsDamaged content read.0 read.1)

@@ -11,3 +11,5 @@ pub mod AnswerLaws
 pub mod OrderedRuns
 pub mod KeyedRuns
 pub mod PlanLaws
+pub mod Folders
+pub mod CutAnew

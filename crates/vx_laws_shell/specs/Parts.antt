@@ -28,7 +28,6 @@ abbrev pub read_behind : BlockRange → Read → Read
 read_behind range read = (range.from + read.0, read.1)
 
 -- the rows of a scan of the blocks up to a middle one, and then those of the blocks behind it, are the rows of a scan of all of them
--- Stated alone: no call has it as its contract yet.
 abbrev pub PartsJoin : Type 0
 PartsJoin =
     (table : Table) (zones : Zones) (f p : Tree) (range : BlockRange) (middle : ℕ) → length table.blocks ≡ length zones.lengths

@@ -85,7 +85,6 @@ asked_of [] = None
 asked_of (word ∷ words) = cond (bytes_eq word (codes "sql")) (asked_behind words) None
 
 -- a word tells a range exactly where it is the decimal digits of two numbers with `..` between them, of which the first isn't greater
--- Stated alone: no call has it as its contract yet.
 abbrev pub WordsTellRanges : Type 0
 WordsTellRanges =
     (word : Bytes) (range : BlockRange) → (range_of_word word ≡ Some range)

@@ -5,6 +5,7 @@
 mod laws;
 
 pub use laws::{
-    limits_give_first_rows, plans_can_be_run, runs_are_scans, runs_write_answers,
-    told_tables_are_tables,
+    cut_tables_keep_answers, damage_is_decided, files_are_answered_in_turn, files_are_one_table,
+    limits_give_first_rows, parts_join, plans_can_be_run, runs_are_scans, runs_write_answers,
+    tables_are_cut_anew, told_tables_are_tables, words_tell_ranges,
 };
