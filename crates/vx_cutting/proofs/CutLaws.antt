@@ -11,12 +11,13 @@ use Rattle.vx_dtype.specs.Equal.{ty_eq}
 use Rattle.vx_dtype.specs.EqualLaws.{ty_decides}
 use Rattle.vx_dtype.specs.StructTypes.{field_types}
 use Rattle.vx_dtype.specs.TypeRules.{field_names}
-use Rattle.vx_dtype.specs.Values.{struct_val, Members, no_members, member}
+use Rattle.vx_dtype.specs.Values.{Val, struct_val, Members, no_members, member}
 use Rattle.vx_column.specs.Columns.{Column, column, zip_rows}
-use Rattle.vx_tables.specs.Blocks.{block_long, blocks_long, block_typed, block_members, rows_of_columns}
+use Rattle.vx_semantics.specs.Tables.{Zones}
+use Rattle.vx_tables.specs.Blocks.{block_long, blocks_long, block_typed, block_members, rows_of_columns, table_of_blocks}
 use Rattle.vx_tables.proofs.MemberLemmas.{equal_numbers, length_mapped, members_count}
-use Rattle.vx_cutting.specs.Cutting.{rows_cut, blocks_cut, length_cut, column_there, joined_from, joined_columns, all_have_rows, block_cut}
-use Rattle.vx_cutting.specs.CutLaws.{CutTablesAreTables, CuttingKeepsRows}
+use Rattle.vx_cutting.specs.Cutting.{rows_cut, blocks_cut, length_cut, column_there, joined_from, joined_columns, all_have_rows, block_cut, zones_cut, blocks_anew}
+use Rattle.vx_cutting.specs.CutLaws.{IsTable, CutTablesAreTables, CuttingKeepsRows}
 use Rattle.vx_cutting.proofs.CutLists.{concat, part, parts_join, zip_part, zip_append, map_concat}
 
 pub same_number : (a b : ℕ) → a ≡ b → nat_eq a b ≡ true
@@ -186,14 +187,25 @@ rows_joined fs ns bs h =
     ap (map struct_val) (members_joined (length (field_names fs)) fs ns bs 0 (omega (arith, types_count fs)) h)
     ∙ map_concat struct_val (zip_rows (block_members fs) ns bs) ∙ ap concat (zip_mapped (map struct_val) (block_members fs) ns bs)
 
-pub cutting_keeps_rows : CuttingKeepsRows
-cutting_keeps_rows n zones blocks some is =
+-- the rows of all blocks, and how many they are
+abbrev pub whole_rows : Zones → List (List Column) → List Val
+whole_rows zones blocks = rows_of_columns zones.columns (sum zones.lengths) (joined_columns zones blocks)
+
+whole_count : (zones : Zones) (blocks : List (List Column)) → IsTable zones blocks → length (whole_rows zones blocks) ≡ sum zones.lengths
+whole_count zones blocks is =
     let fs = zones.columns in
-    let rows = sum zones.lengths in
     let columns = joined_columns zones blocks in
     let w = length (field_names fs) in
-    let whole = rows_of_columns fs rows columns in
     let have = joined_have w 0 (field_types fs) zones.lengths blocks (omega (arith, types_count fs)) is.lengths in
-    let count : length whole ≡ rows = length_mapped struct_val (block_members fs rows columns) ∙ members_count fs rows columns have in
-    ap concat (blocks_are_cut fs n rows columns (range_with_len 0 (blocks_cut n rows))) ∙ ap (λ k. concat (map (part n whole) (range_with_len 0 (blocks_cut n k)))) (sym count)
-    ∙ parts_join n whole some ∙ rows_joined fs zones.lengths blocks is.lengths
+    length_mapped struct_val (block_members fs (sum zones.lengths) columns) ∙ members_count fs (sum zones.lengths) columns have
+
+-- the rows of a table that is cut are parts of them
+pub cut_parts : (n : ℕ) (zones : Zones) (blocks : List (List Column)) → IsTable zones blocks
+    → (table_of_blocks (zones_cut n zones) (blocks_anew n zones blocks)).blocks ≡ map (part n (whole_rows zones blocks)) (range_with_len 0 (blocks_cut n (length (whole_rows zones blocks))))
+cut_parts n zones blocks is =
+    blocks_are_cut zones.columns n (sum zones.lengths) (joined_columns zones blocks) (range_with_len 0 (blocks_cut n (sum zones.lengths)))
+    ∙ ap (λ k. map (part n (whole_rows zones blocks)) (range_with_len 0 (blocks_cut n k))) (sym (whole_count zones blocks is))
+
+pub cutting_keeps_rows : CuttingKeepsRows
+cutting_keeps_rows n zones blocks some is =
+    ap concat (cut_parts n zones blocks is) ∙ parts_join n (whole_rows zones blocks) some ∙ rows_joined zones.columns zones.lengths blocks is.lengths
