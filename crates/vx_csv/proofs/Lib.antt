@@ -1,0 +1,9 @@
+pub mod Steps
+pub mod CellLemmas
+pub mod Texts
+pub mod QuoteLemmas
+pub mod RecordCells
+pub mod FormLemmas
+pub mod Typed
+pub mod Blocks
+pub mod ZoneLemmas

@@ -1,0 +1,9 @@
+pub mod Lists
+pub mod Numbers
+pub mod CellFacts
+pub mod Found
+pub mod Taken
+pub mod FirstBad
+pub mod Cutting
+pub mod Whole
+pub mod AllRecords
