@@ -5,9 +5,10 @@ ghost use Rattle.vx_dtype.specs.TypeRules.{alike, is_bool_ty};
 use crate::types::{is_plain, is_truth};
 use anyhow::{Result, bail};
 use std::alloc::Global;
-use vx_column::{ColumnRef, and_kleene, between, checked_add, compare, or_kleene};
+use vx_column::ColumnRef;
 use vx_dtype::Nullability::NonNullable;
 use vx_dtype::{BetweenOptions, CompareOperator, FieldName, Mem, Scalar};
+use vx_kernels::{and_kleene, between, checked_add, compare, or_kleene};
 
 /// A number of i64, or a text.
 #[derive(Clone, Copy)]

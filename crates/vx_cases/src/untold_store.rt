@@ -31,6 +31,12 @@ impl UntoldStore {
 impl ColumnStore for UntoldStore {
     ghost seen = { untold_seen };
 
+    ghost moves = { λ _ _. Unit {0} };
+
+    ghost stays = { λ _. tt };
+
+    ghost goes_on = { λ _ _ _ _ _. tt };
+
     fn zones(&self) -> &ZoneMap {
         self.held.zones()
     }

@@ -213,7 +213,7 @@ fn of_type(alloc: Global, dtype: &DType, call: Call) -> Mem<String> {
             plain_text(alloc, &dtype.with_nullability(Nullability::NonNullable)?)
         }
         Call::Depth => Ok(format!(in alloc; "{}", dtype.depth())?),
-        Call::IsDistinct => truth_text(alloc, dtype.has_distinct_names(alloc)?),
+        Call::IsDistinct => truth_text(alloc, dtype.has_distinct_names()),
         Call::FieldsAreDistinct => fields_are_distinct(alloc, dtype.as_struct_fields_opt()),
         _ => plain_text(alloc, dtype),
     }
@@ -227,7 +227,7 @@ fn plain_text(alloc: Global, dtype: &DType) -> Mem<String> {
 /// Whether no name stands twice among fields, nor below.
 fn fields_are_distinct(alloc: Global, fields: Option<&StructFields>) -> Mem<String> {
     match fields {
-        Some(fields) => truth_text(alloc, fields.has_distinct_names(alloc)?),
+        Some(fields) => truth_text(alloc, fields.has_distinct_names()),
         None => Ok(String::from_str(alloc, "no struct")?),
     }
 }

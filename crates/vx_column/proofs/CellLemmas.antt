@@ -4,9 +4,9 @@ use Rattle.std.specs.List.{All, AllZip, range_with_len}
 use Rattle.std.proofs.Math.ListN.{replicate}
 use Rattle.std.proofs.lemmas.List.{get_or-replicate, length-replicate, take_more}
 use Rattle.std.proofs.lemmas.List.FromFn.{length-map-range_with_len, get_or-map-range_with_len}
-use Rattle.vx_dtype.specs.Types.{Bytes, Ty, bool_ty, int_ty, text_ty, list_ty, struct_ty, Fields, no_fields, field}
+use Rattle.vx_dtype.specs.Types.{Bytes, Ty, struct_ty, Fields, no_fields, field}
 use Rattle.vx_dtype.specs.declared.Nullability.TheVariants.{NonNullable, Nullable}
-use Rattle.vx_dtype.specs.TypeRules.{field_names, fields_of, with_nullability, nullability_of, is_nullable, is_plain, alike, is_bool_ty, is_text_ty, depth_of, depth_below}
+use Rattle.vx_dtype.specs.TypeRules.{field_names, fields_of, with_nullability, depth_of, depth_below}
 use Rattle.vx_dtype.specs.StructTypes.{field_types}
 use Rattle.vx_dtype.specs.Zipped.{zipped}
 use Rattle.vx_dtype.proofs.FieldsFrom.{length-field_types}
@@ -15,20 +15,20 @@ use Rattle.vx_dtype.specs.Logic.{is_null3}
 use Rattle.vx_dtype.specs.Fits.{fits, val_fits, members_fit}
 use Rattle.vx_dtype.specs.RawViews.{raw_view, raws_of}
 use Rattle.vx_dtype.specs.declared.values.ScalarValue.{ScalarValue}
-use Rattle.vx_column.specs.RawParts.{is_raw_null, lists_kind}
+use Rattle.vx_column.specs.RawParts.{is_raw_null}
 use Rattle.vx_column.specs.Columns.{Column, column, row_at, rows_fit, values_fit, seen, seen_rows}
 use Rattle.vx_column.specs.StructColumns.{column_types, all_have_rows, struct_row, row_members, StandsAt}
 use Rattle.vx_column.specs.declared.cells.Cells.{Cells}
 use Rattle.vx_column.specs.declared.cells.Cells.TheVariants.{Constant, Rows, Truths, Numbers, Columns, Masked}
 use Rattle.vx_column.specs.TypeSizes.{size_of}
 use Rattle.vx_column.specs.Sizes.{size_le}
-use Rattle.vx_column.specs.Cells.{cell_rows, structs_of, all_rows_fit, AreFieldsOf, ArePartsOf, keeps_values}
+use Rattle.vx_column.specs.Cells.{cell_rows, structs_of, all_rows_fit, AreFieldsOf, ArePartsOf}
 use Rattle.vx_column.proofs.FitLemmas.{both_of, of_both, bytes_eq_self, fits_nullable, valued_with_nullability, rows_fit_seen, is_null3_valued}
-use Rattle.vx_column.proofs.RowLemmas.{fits_at, seen_row, seen_rows_append, values_fit_more}
+use Rattle.vx_column.proofs.RowLemmas.{fits_at, seen_row, seen_rows_append, values_fit_more, rows_fit_repeated}
 use Rattle.vx_column.proofs.StructLemmas.{struct_fits, struct_stands}
 use Rattle.vx_column.proofs.TruthLemmas.{truth_rows_fit}
 use Rattle.vx_column.proofs.NumberLemmas.{number_rows_fit}
-use Rattle.vx_column.proofs.MaskedLemmas.{masked_fit, never_null, row_fits}
+use Rattle.vx_column.proofs.MaskedLemmas.{masked_fit, row_fits}
 
 -- a constant has its value at each row
 pub constant_row : (c : Column) (n i : ℕ) (v : Val) → replicate n v ≡ c.rows → i < length c.rows → v ≡ row_at c i
@@ -36,9 +36,6 @@ constant_row c n i v e h =
     let lengths : n ≡ length c.rows = sym (length-replicate n v) ∙ ap length e in
     let within : i < n = omega arith in
     sym (get_or-replicate n i v null_val within) ∙ ap (λ vs. get_or vs i null_val) e
-
-pub constant_length : (n : ℕ) (v : Val) (rows : List Val) → replicate n v ≡ rows → n ≡ length rows
-constant_length n v rows e = sym (length-replicate n v) ∙ ap length e
 
 -- there are as many values as rows, and each stands for its row
 pub values_length : (c : Column) (xs : List ScalarValue) → seen_rows c.ty xs ≡ c.rows → length xs ≡ length c.rows
@@ -71,24 +68,6 @@ fields_have_rows n (c ∷ cs) e zero d q =
     let first : (length c.rows == n) ≡ true = (both_of (length c.rows == n) (all_have_rows n cs) e).0 in
     grind (arith, first)
 fields_have_rows n (c ∷ cs) e (suc k) d q = fields_have_rows n cs (both_of (length c.rows == n) (all_have_rows n cs) e).1 k d (omega arith)
-
--- types whose columns keep values
-pub plain_kept : (t : Ty) → is_plain t ≡ true → keeps_values t ≡ true
-plain_kept (bool_ty n) e = refl
-plain_kept (int_ty p n) e = refl
-plain_kept (text_ty n) e = refl
-plain_kept _ e = absurd cc
-
-pub alike_kept : (t u : Ty) → is_plain t ≡ true → alike t u ≡ true → keeps_values u ≡ true
-unfolding alike
-alike_kept (bool_ty n) (bool_ty m) a e = refl
-alike_kept (int_ty p n) (int_ty q m) a e = refl
-alike_kept (text_ty n) (text_ty m) a e = refl
-alike_kept _ _ a e = absurd cc
-
-pub bool_kept : (t : Ty) → is_bool_ty t ≡ true → keeps_values t ≡ true
-bool_kept (bool_ty n) e = refl
-bool_kept _ e = absurd cc
 
 -- names beside the types of fields are the fields
 pub zipped_fields : (fs : Fields) → zipped (field_names fs) (field_types fs) ≡ fs
@@ -143,11 +122,6 @@ made_more c ms ns i m h s e before =
     let more : take (i + 1) c.rows ≡ take i c.rows ++ row_at c i ∷ [] = take_more c.rows i null_val h in
     (rw e (values_fit_more c.ty ms m before.0 s.0), rw (e, seen_rows_append c.ty ms m, before.1, s.1) (sym more))
 
--- rows of one value
-pub rows_fit_repeated : (t : Ty) (n : ℕ) (x : ScalarValue) → fits (raw_view x) t ≡ true → rows_fit t (replicate n (seen t x)) ≡ true
-rows_fit_repeated t zero x e = refl
-rows_fit_repeated t (suc n) x e = of_both _ _ (both_of _ _ (rows_fit_seen t (x ∷ []) (of_both _ _ e refl))).0 (rows_fit_repeated t n x e)
-
 -- whether the value that is kept at a row is null
 not_not : (b : Bool) → b ≡ not (not b)
 not_not true = refl
@@ -168,28 +142,6 @@ struct_stands_at c i cs n xs x h r w s e =
     let fit = struct_fits (field_names (fields_of c.ty)) cs NonNullable xs i x number s e in
     let value = struct_stands (field_names (fields_of c.ty)) cs NonNullable xs i x number s e in
     (ap (fits (raw_view x)) (sym whole) ∙ fit, ap (valued (raw_view x)) (sym whole) ∙ value ∙ structs_row c (field_names (fields_of c.ty)) cs n i r w)
-
--- the rows of a type that isn't nullable are never null
-pub none_null : (t : Ty) (vs : List Val) → is_nullable (nullability_of t) ≡ false → rows_fit t vs ≡ true → replicate (length vs) (bool_val false) ≡ map is_null3 vs
-none_null t [] e h = refl
-none_null t (v ∷ vs) e h =
-    let both = both_of (val_fits v t) (rows_fit t vs) h in
-    λ j. sym (never_null t v e both.0) j ∷ none_null t vs e both.1 j
-
-pub text_kept : (t : Ty) → is_text_ty t ≡ true → keeps_values t ≡ true
-text_kept (text_ty n) e = refl
-text_kept _ e = absurd cc
-
--- lists, and the values that they are asked for
-pub lists_kept : (t u : Ty) → lists_kind t u ≡ true → keeps_values t ≡ true
-lists_kept (list_ty e n) u h = refl
-lists_kept _ u h = absurd cc
-
-pub asked_kept : (t u : Ty) → lists_kind t u ≡ true → keeps_values u ≡ true
-asked_kept (list_ty e n) u h =
-    let both = both_of (is_plain e) (alike e u) h in
-    alike_kept e u both.0 both.1
-asked_kept _ u h = absurd cc
 
 -- the parts of a column whose type is made nullable
 pub nullable_constant : (c : Column) (d : Ty) (n : ℕ) (x y : ScalarValue) → d ≡ with_nullability c.ty Nullable → raw_view y ≡ raw_view x → replicate n (seen c.ty x) ≡ c.rows → column d (replicate n (seen d y)) ≡ column (with_nullability c.ty Nullable) c.rows

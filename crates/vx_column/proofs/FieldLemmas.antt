@@ -16,8 +16,7 @@ use Rattle.vx_dtype.specs.StructTypes.{field_types}
 use Rattle.vx_dtype.specs.Values.{Raw, raw_null, raw_bool, raw_int, raw_text, raw_list, raw_struct, Raws, no_raws, raw, valued, members_valued, struct_val, fault}
 use Rattle.vx_dtype.specs.Fits.{fits, fields_fit}
 use Rattle.vx_dtype.specs.Structs.{member_named, field_of}
-use Rattle.vx_column.proofs.FitLemmas.{both_of, valued_with_nullability, names_with_nullability, nullability_with}
-use Rattle.vx_column.proofs.OrderLemmas.{nullable_left, nullable_right}
+use Rattle.vx_column.proofs.FitLemmas.{both_of, valued_with_nullability, names_with_nullability, nullability_with, nullable_left, nullable_right}
 
 -- the raw value at a place
 abbrev pub raw_at : Raws → ℕ → Raw → Raw

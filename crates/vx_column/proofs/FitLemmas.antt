@@ -5,14 +5,14 @@ use Rattle.std.proofs.lemmas.Slice.Eq.{bytes_eq-Decides}
 use Rattle.vx_dtype.specs.Types.{Bytes, Ty, bool_ty, int_ty, text_ty, list_ty, struct_ty}
 use Rattle.vx_dtype.specs.declared.PType.{PType}
 use Rattle.vx_dtype.specs.declared.PType.TheVariants.{U8, U16, U32, U64, I8, I16, I32, I64}
-use Rattle.vx_dtype.specs.TypeRules.{same_ptype, is_nullable, nullability_of, with_nullability, no_name_twice}
+use Rattle.vx_dtype.specs.TypeRules.{same_ptype, is_nullable, is_text_ty, nullability_of, union, with_nullability, no_name_twice}
 use Rattle.vx_dtype.specs.declared.Nullability.{Nullability}
 use Rattle.vx_dtype.specs.declared.Nullability.TheVariants.{NonNullable, Nullable}
-use Rattle.vx_dtype.specs.Values.{Raw, raw_null, raw_bool, raw_int, raw_text, raw_list, raw_struct, valued, bool_val}
+use Rattle.vx_dtype.specs.Values.{Raw, raw_null, raw_bool, raw_int, raw_text, raw_list, raw_struct, valued, Val, null_val, bool_val, int_val, text_val, list_val, struct_val, fault}
 use Rattle.vx_dtype.specs.Logic.{is_null3}
 use Rattle.vx_dtype.proofs.ValuedLemmas.{val_fits_valued, valued-struct}
 use Rattle.vx_column.specs.RawParts.{is_raw_null}
-use Rattle.vx_dtype.specs.Fits.{fits}
+use Rattle.vx_dtype.specs.Fits.{fits, val_fits}
 use Rattle.vx_dtype.specs.RawViews.{raw_view, raw_step}
 use Rattle.vx_dtype.specs.declared.values.ScalarValue.{ScalarValue}
 use Rattle.vx_dtype.specs.declared.values.ScalarValue.TheVariants as scalars
@@ -129,3 +129,28 @@ fits_nullable _ _ e = cc
 -- null is a value of a type made nullable
 pub nullable_made : (t : Ty) → is_nullable (nullability_of (with_nullability t Nullable)) ≡ true
 nullable_made t = ap is_nullable (nullability_with t Nullable)
+
+-- a union has the null where one of the two has it
+pub nullable_left : (n m : Nullability) → is_nullable n ≡ true → is_nullable (union n m) ≡ true
+nullable_left NonNullable m e = cc
+nullable_left Nullable m e = refl
+
+pub nullable_right : (n m : Nullability) → is_nullable m ≡ true → is_nullable (union n m) ≡ true
+nullable_right NonNullable m e = e
+nullable_right Nullable m e = refl
+
+-- a text type is the one of its nullability
+pub text_is : (t : Ty) → is_text_ty t ≡ true → t ≡ text_ty (nullability_of t)
+text_is (text_ty n) e = refl
+text_is _ e = absurd cc
+
+-- a value of a type that isn't nullable is never null
+pub never_null : (t : Ty) (v : Val) → is_nullable (nullability_of t) ≡ false → val_fits v t ≡ true → is_null3 v ≡ bool_val false
+unfolding val_fits
+never_null t null_val e h = absurd cc
+never_null t (bool_val b) e h = refl
+never_null t (int_val p i) e h = refl
+never_null t (text_val s) e h = refl
+never_null t (list_val xs) e h = refl
+never_null t (struct_val ms) e h = refl
+never_null t fault e h = absurd cc

@@ -1,26 +1,18 @@
-mod FitLemmas
-mod RowLemmas
-mod OrderLemmas
+pub mod FitLemmas
+pub mod RowLemmas
 mod MadeLemmas
-mod SumLemmas
-mod ListLemmas
-mod CastLemmas
 mod FieldLemmas
 mod EqualLemmas
-mod StructLemmas
+pub mod StructLemmas
 mod ProjectionLemmas
-mod PatternLemmas
 pub mod TrueCounts
 mod CellLemmas
 mod AppendLemmas
 mod KeptLemmas
 mod ColumnFields
 mod SameLemmas
-mod TruthLemmas
-mod NumberLemmas
-mod ComparedNumbers
-mod TotalLemmas
-mod CastNumbers
+pub mod TruthLemmas
+pub mod NumberLemmas
 mod KeptPlaces
 mod MaskedLemmas
 mod SameMasked
@@ -28,5 +20,3 @@ mod MaskedParts
 mod SplitLemmas
 mod NullLemmas
 mod FillerLemmas
-mod LookupLemmas
-mod NeedleLemmas

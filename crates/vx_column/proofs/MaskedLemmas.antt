@@ -1,24 +1,22 @@
 -- Columns whose rows are those of another, null where truths say so.
 use Rattle.std.proofs.Common.{◌≡◌, refl, ap, ◌∙◌, sym, subst, ℕ, zero, suc, ◌<◌, Bool, true, false, not, ◌&&◌, Option, Some, None, cond, List, [], ◌∷◌, map, length, get_or, arith}
-use Rattle.std.specs.Simd.Lanes.{zip2}
 use Rattle.std.proofs.Math.ListN.{replicate}
 use Rattle.std.proofs.lemmas.List.{length-replicate}
 use Rattle.vx_dtype.specs.declared.Nullability.{Nullability}
-use Rattle.vx_dtype.specs.declared.Nullability.TheVariants.{NonNullable, Nullable}
+use Rattle.vx_dtype.specs.declared.Nullability.TheVariants.{Nullable}
 use Rattle.vx_dtype.specs.Types.{Ty, bool_ty, int_ty, text_ty, list_ty, struct_ty}
 use Rattle.vx_dtype.specs.TypeRules.{is_bool_ty, is_int_ty, is_text_ty, is_nullable, nullability_of, with_nullability}
-use Rattle.vx_dtype.specs.Values.{Val, null_val, bool_val, int_val, text_val, list_val, struct_val, fault, raw_null, valued}
-use Rattle.vx_dtype.specs.Logic.{is_true_val, is_null3, not3, and3}
+use Rattle.vx_dtype.specs.Values.{Val, null_val, bool_val, int_val, text_val, list_val, struct_val, raw_null, valued}
+use Rattle.vx_dtype.specs.Logic.{is_true_val, is_null3}
 use Rattle.vx_dtype.specs.Fits.{fits, val_fits}
 use Rattle.vx_dtype.specs.RawViews.{raw_view}
 use Rattle.vx_dtype.specs.declared.values.ScalarValue.{ScalarValue}
-use Rattle.vx_words.specs.Words.{truth_val}
 use Rattle.vx_words.specs.Truths.{is_true, vals_of}
-use Rattle.vx_column.specs.RawParts.{truth_fits}
 use Rattle.vx_column.specs.Columns.{Column, row_at, rows_fit, seen, masked, zip_rows}
 use Rattle.vx_column.specs.StructColumns.{StandsAt}
-use Rattle.vx_column.specs.Cells.{AreTruthsOf, truths_fit, AreMaskedOf, masks_apart, keeps_values}
-use Rattle.vx_column.proofs.FitLemmas.{both_of, of_both, valued_with_nullability, fits_nullable, nullability_with}
+use Rattle.vx_column.specs.Cells.{AreMaskedOf, masks_apart}
+use Rattle.vx_column.specs.ColumnParts.{keeps_values, null_by}
+use Rattle.vx_column.proofs.FitLemmas.{both_of, of_both, valued_with_nullability, fits_nullable, nullability_with, never_null}
 use Rattle.vx_column.proofs.TruthLemmas.{is_true_of}
 
 -- the types whose columns are masked by truths beside them
@@ -111,16 +109,6 @@ row_fits t [] i e h = absurd (omega arith)
 row_fits t (v ∷ vs) zero e h = (both_of (val_fits v t) (rows_fit t vs) e).0
 row_fits t (v ∷ vs) (suc i) e h = row_fits t vs i (both_of (val_fits v t) (rows_fit t vs) e).1 (omega arith)
 
-pub never_null : (t : Ty) (v : Val) → is_nullable (nullability_of t) ≡ false → val_fits v t ≡ true → is_null3 v ≡ bool_val false
-unfolding val_fits
-never_null t null_val e h = absurd cc
-never_null t (bool_val b) e h = refl
-never_null t (int_val p i) e h = refl
-never_null t (text_val s) e h = refl
-never_null t (list_val xs) e h = refl
-never_null t (struct_val ms) e h = refl
-never_null t fault e h = absurd cc
-
 pub inner_never_null : (d : Column) (i : ℕ) → masks_apart d.ty ≡ true → rows_fit d.ty d.rows ≡ true → i < length d.rows → is_null3 (row_at d i) ≡ bool_val false
 inner_never_null d i a f w = never_null d.ty (row_at d i) (apart_whole d.ty a) (row_fits d.ty d.rows i f w)
 
@@ -189,48 +177,19 @@ none_masked vs ts n e r = ap (λ us. zip_rows masked vs (vals_of us)) r ∙ no_m
 pub none_number : (ts : List (Option Bool)) (n m : ℕ) → ts ≡ replicate n (Some false) → n ≡ m → length ts ≡ m
 none_number ts n m r e = ap length r ∙ length-replicate n (Some false) ∙ e
 
--- tests for null are the truths themselves, false where one is null
-hidden_step : (b : Bool) (t : Option Bool) (v : Val) → is_null3 v ≡ bool_val false → b ≡ is_true t → and3 (truth_val t) (not3 (is_null3 (truth_val t))) ≡ is_null3 (cond b null_val v)
-hidden_step true None v e k = absurd cc
-hidden_step true (Some true) v e k = refl
-hidden_step true (Some false) v e k = absurd cc
-hidden_step false None v e k = sym e
-hidden_step false (Some true) v e k = absurd cc
-hidden_step false (Some false) v e k = sym e
+-- a row is null exactly where its truth is true
+null_row : (b : Bool) (v : Val) → is_null3 v ≡ bool_val false → bool_val b ≡ is_null3 (cond b null_val v)
+null_row true v e = refl
+null_row false v e = sym e
 
-hidden_rows : (t : Ty) (vs : List Val) (ts : List (Option Bool)) → is_nullable (nullability_of t) ≡ false → rows_fit t vs ≡ true → length ts ≡ length vs
-    → zip2 and3 (vals_of ts) (map not3 (map is_null3 (vals_of ts))) ≡ map is_null3 (zip_rows masked vs (vals_of ts))
-hidden_rows t [] [] n f e = refl
-hidden_rows t [] (k ∷ ts) n f e = absurd (omega (arith, e))
-hidden_rows t (v ∷ vs) [] n f e = absurd (omega (arith, e))
-hidden_rows t (v ∷ vs) (k ∷ ts) n f e =
+null_rows : (t : Ty) (vs : List Val) (ts : List (Option Bool)) → is_nullable (nullability_of t) ≡ false → rows_fit t vs ≡ true → length ts ≡ length vs → map null_by ts ≡ map is_null3 (zip_rows masked vs (vals_of ts))
+null_rows t [] [] n f e = refl
+null_rows t [] (k ∷ ts) n f e = absurd (omega (arith, e))
+null_rows t (v ∷ vs) [] n f e = absurd (omega (arith, e))
+null_rows t (v ∷ vs) (k ∷ ts) n f e =
     let fit = both_of (val_fits v t) (rows_fit t vs) f in
-    let here = hidden_step (is_true_val (truth_val k)) k v (never_null t v n fit.0) (is_true_of k) in
-    λ j. here j ∷ hidden_rows t vs ts n fit.1 (omega (arith, e)) j
+    let here = null_row (is_true k) v (never_null t v n fit.0) ∙ ap (λ b. is_null3 (cond b null_val v)) (sym (is_true_of k)) in
+    λ j. here j ∷ null_rows t vs ts n fit.1 (omega (arith, e)) j
 
-pub nulls_hidden : (t : Ty) (d : Column) (ts ns ks us : List (Option Bool)) (rows : List Val) → AreMaskedOf t d ts → zip_rows masked d.rows (vals_of ts) ≡ rows → vals_of ns ≡ map is_null3 (vals_of ts) → vals_of ks ≡ map not3 (vals_of ns) → vals_of us ≡ zip2 and3 (vals_of ts) (vals_of ks)
-    → vals_of us ≡ map is_null3 rows
-nulls_hidden t d ts ns ks us rows h r n k u =
-    u ∙ ap (zip2 and3 (vals_of ts)) (k ∙ ap (map not3) n) ∙ hidden_rows d.ty d.rows ts (apart_whole d.ty h.apart) h.fit h.lengths ∙ ap (map is_null3) r
-
--- and so they are truths of a boolean type that isn't nullable
-test_known : (u : Option Bool) (v : Val) → truth_val u ≡ is_null3 v → truth_fits NonNullable u ≡ true
-test_known (Some b) v e = refl
-test_known None null_val e = absurd cc
-test_known None (bool_val b) e = absurd cc
-test_known None (int_val p i) e = absurd cc
-test_known None (text_val s) e = absurd cc
-test_known None (list_val xs) e = absurd cc
-test_known None (struct_val ms) e = absurd cc
-test_known None fault e = absurd cc
-
-tests_known : (us : List (Option Bool)) (vs : List Val) → vals_of us ≡ map is_null3 vs → truths_fit NonNullable us ≡ true
-tests_known [] vs e = refl
-tests_known (u ∷ us) [] e = absurd cc
-tests_known (u ∷ us) (v ∷ vs) e =
-    let here : truth_val u ≡ is_null3 v = cc in
-    let rest : vals_of us ≡ map is_null3 vs = cc in
-    of_both _ _ (test_known u v here) (tests_known us vs rest)
-
-pub hidden_are_truths : (us : List (Option Bool)) (vs : List Val) → vals_of us ≡ map is_null3 vs → AreTruthsOf (bool_ty NonNullable) us
-hidden_are_truths us vs e = record { kind = refl; fit = tests_known us vs e }
+pub masked_nulls : (c d : Column) (ts us : List (Option Bool)) → AreMaskedOf c.ty d ts → zip_rows masked d.rows (vals_of ts) ≡ c.rows → us ≡ ts → map null_by us ≡ map is_null3 c.rows
+masked_nulls c d ts us h r e = ap (map null_by) e ∙ null_rows d.ty d.rows ts (apart_whole d.ty h.apart) h.fit h.lengths ∙ ap (map is_null3) r

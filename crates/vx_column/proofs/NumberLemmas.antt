@@ -8,22 +8,21 @@ use Rattle.vx_dtype.specs.Types.{Ty, int_ty}
 use Rattle.vx_dtype.specs.declared.Nullability.{Nullability}
 use Rattle.vx_dtype.specs.declared.Nullability.TheVariants.{Nullable}
 use Rattle.vx_dtype.specs.declared.PType.{PType}
-use Rattle.vx_dtype.specs.TypeRules.{is_bool_ty, is_int_ty, is_nullable, no_name_twice, nullability_of, with_nullability}
+use Rattle.vx_dtype.specs.TypeRules.{is_int_ty, is_nullable, no_name_twice, nullability_of, with_nullability}
 use Rattle.vx_dtype.specs.Values.{Raw, raw_null, raw_int, Val, null_val, bool_val, int_val, valued}
 use Rattle.vx_dtype.specs.Fits.{fits, in_range, val_fits}
 use Rattle.vx_dtype.specs.Logic.{is_null3}
 use Rattle.vx_dtype.specs.RawViews.{raw_view}
 use Rattle.vx_dtype.specs.declared.values.ScalarValue.{ScalarValue}
-use Rattle.vx_words.specs.Words.{truth_val}
 use Rattle.vx_words.specs.Truths.{vals_of, is_true, hidden_if, kept_items}
-use Rattle.vx_numbers.specs.Numbers.{NumberList, number_list, fits_ptype, all_in_range, null_test}
+use Rattle.vx_numbers.specs.Numbers.{NumberList, number_list, fits_ptype, all_in_range}
 use Rattle.vx_column.specs.RawParts.{raw_number}
 use Rattle.vx_column.specs.Columns.{Column, column, row_at, rows_fit, raws_fit, raw_rows, values_fit, seen, seen_rows, zip_rows, kept_rows, masked}
 use Rattle.vx_column.specs.Answers.{optional_raw}
-use Rattle.vx_column.specs.Cells.{numbers_fit, truths_fit, AreNumbersOf, AreTruthsOf, kept_column}
-use Rattle.vx_column.specs.PlainValues.{number_val, numbers_vals}
+use Rattle.vx_column.specs.Cells.{kept_column}
+use Rattle.vx_column.specs.ColumnParts.{numbers_fit, AreNumbersOf}
+use Rattle.vx_column.specs.PlainValues.{number_fits, number_val, numbers_vals}
 use Rattle.vx_column.specs.StructColumns.{StandsAt}
-use Rattle.vx_column.specs.Totals.{number_fits}
 use Rattle.vx_column.proofs.FitLemmas.{both_of, of_both, same_ptype_self}
 use Rattle.vx_column.proofs.TruthLemmas.{is_true_of}
 
@@ -212,26 +211,6 @@ masked_numbers_of t d ns ms ks e n h k =
 
 pub masked_rows : (ns ms : NumberList) (ks : List (Option Bool)) (rows : List Val) → numbers_vals ns ≡ rows → ms ≡ number_list ns.ptype (zip2 hidden_if ns.numbers ks) → numbers_vals ms ≡ zip_rows masked rows (vals_of ks)
 masked_rows ns ms ks rows r k = ap numbers_vals k ∙ masked_numbers_rows ns.ptype ns.numbers ks ∙ ap (λ vs. zip_rows masked vs (vals_of ks)) r
-
--- tests for null
-null_test_row : (p : PType) (i : Option ℤ) → truth_val (null_test i) ≡ is_null3 (number_val p i)
-null_test_row p None = refl
-null_test_row p (Some i) = refl
-
-null_tests_rows : (p : PType) (ns : List (Option ℤ)) → vals_of (map null_test ns) ≡ map is_null3 (map (number_val p) ns)
-null_tests_rows p [] = refl
-null_tests_rows p (i ∷ is) = λ j. null_test_row p i j ∷ null_tests_rows p is j
-
-pub null_tests_of : (ns : NumberList) (ts : List (Option Bool)) (rows : List Val) → numbers_vals ns ≡ rows → ts ≡ map null_test ns.numbers → vals_of ts ≡ map is_null3 rows
-null_tests_of ns ts rows r e = ap vals_of e ∙ null_tests_rows ns.ptype ns.numbers ∙ ap (map is_null3) r
-
-null_tests_fit : (n : Nullability) (ns : List (Option ℤ)) → truths_fit n (map null_test ns) ≡ true
-null_tests_fit n [] = refl
-null_tests_fit n (None ∷ is) = null_tests_fit n is
-null_tests_fit n (Some i ∷ is) = null_tests_fit n is
-
-pub null_tests_are_truths : (t : Ty) (ns : List (Option ℤ)) (ts : List (Option Bool)) → is_bool_ty t ≡ true → ts ≡ map null_test ns → AreTruthsOf t ts
-null_tests_are_truths t ns ts k e = record { kind = k; fit = ap (truths_fit (nullability_of t)) e ∙ null_tests_fit (nullability_of t) ns }
 
 -- one number, many times
 numbers_repeated : (p : PType) (n : ℕ) (i : Option ℤ) → map (number_val p) (replicate n i) ≡ replicate n (number_val p i)

@@ -6,7 +6,7 @@ use Rattle.vx_dtype.specs.Types.{Bytes, Ty, struct_ty, Fields, no_fields, field}
 use Rattle.vx_dtype.specs.declared.Nullability.{Nullability}
 use Rattle.vx_dtype.specs.TypeRules.{field_names, field_type, distinct_names, no_name_twice, no_name_twice_below}
 use Rattle.vx_dtype.specs.StructTypes.{projected}
-use Rattle.vx_dtype.proofs.ProjectionLemmas.{before, types_named, projected_named}
+use Rattle.vx_dtype.proofs.ProjectionLemmas.{before, types_named, projected_named, projected_names}
 use Rattle.vx_dtype.specs.Structs.{field_of, members_at, selected}
 use Rattle.vx_dtype.specs.Zipped.{zipped}
 use Rattle.vx_dtype.specs.Values.{Val, valued, members_valued, member, raw_struct, struct_val, fault}
@@ -139,6 +139,10 @@ names_projected_step fs gs made n (Some ts) e d h =
 
 pub names_projected : (fs : List Bytes) (gs made : Fields) (n : Nullability) → no_name_twice_below gs ≡ true → projected fs gs ≡ Some made → distinct_names fs ≡ true → no_name_twice (struct_ty made n) ≡ true
 names_projected fs gs made n h e d = names_projected_step fs gs made n (types_named fs gs) (sym (projected_named fs gs) ∙ e) d (λ ts k. names_named fs gs ts h k)
+
+-- names stand once where those of the fields that are projected by them do
+pub distinct_projected : (fs own : List Bytes) (gs made : Fields) (b : Bool) → projected fs gs ≡ Some made → own ≡ field_names made → b ≡ distinct_names own → b ≡ true → distinct_names fs ≡ true
+distinct_projected fs own gs made b found is told so = ap distinct_names (sym (is ∙ projected_names fs gs made found)) ∙ sym told ∙ so
 
 -- where there are fields of all the names, each name has a place
 there_step : (fs : List Bytes) (gs : Fields) (i : ℕ) (f : Bytes) (o : Option ℕ) → i < length fs → f ≡ get_or fs i f → IsSome (projected fs gs) → place_of gs f ≡ o → IsSome o

@@ -1,5 +1,5 @@
 -- Lists of truths beside the rows of boolean columns.
-use Rattle.std.proofs.Common.{◌≡◌, refl, ap, ◌∙◌, sym, ℕ, zero, suc, ◌+◌, ◌<◌, Bool, true, false, ◌&&◌, cond, Option, Some, None, List, [], ◌∷◌, ◌++◌, map, length, take, get_or, arith, add-one}
+use Rattle.std.proofs.Common.{◌≡◌, refl, ap, ◌∙◌, sym, ℕ, zero, suc, ◌+◌, ◌<◌, Bool, true, false, ◌&&◌, cond, Option, Some, None, List, [], ◌∷◌, map, length, get_or, arith}
 use Rattle.std.specs.Prelude.{count_by}
 use Rattle.std.specs.Simd.Lanes.{zip2}
 use Rattle.std.proofs.Math.ListN.{replicate}
@@ -7,11 +7,11 @@ use Rattle.std.proofs.lemmas.List.{length-map}
 use Rattle.std.proofs.lemmas.List.Sums.{sum_by-cons}
 use Rattle.vx_dtype.specs.Types.{Ty, bool_ty}
 use Rattle.vx_dtype.specs.declared.Nullability.{Nullability}
-use Rattle.vx_dtype.specs.declared.Nullability.TheVariants.{NonNullable, Nullable}
-use Rattle.vx_dtype.specs.TypeRules.{is_bool_ty, is_nullable, no_name_twice, nullability_of, union, with_nullability}
+use Rattle.vx_dtype.specs.declared.Nullability.TheVariants.{Nullable}
+use Rattle.vx_dtype.specs.TypeRules.{is_bool_ty, is_nullable, no_name_twice, nullability_of, with_nullability}
 use Rattle.vx_dtype.specs.Values.{Raw, raw_null, raw_bool, Val, null_val, bool_val, valued}
 use Rattle.vx_dtype.specs.Fits.{fits, val_fits}
-use Rattle.vx_dtype.specs.Logic.{not3, is_null3, is_true_val}
+use Rattle.vx_dtype.specs.Logic.{is_true_val}
 use Rattle.vx_dtype.specs.RawViews.{raw_view}
 use Rattle.vx_dtype.specs.declared.values.ScalarValue.{ScalarValue}
 use Rattle.vx_words.specs.Words.{truth_val}
@@ -19,15 +19,11 @@ use Rattle.vx_words.specs.Truths.{vals_of, is_true, hidden_if, kept_items}
 use Rattle.vx_column.specs.RawParts.{raw_truth, truth_fits}
 use Rattle.vx_column.specs.Columns.{Column, column, row_at, rows_fit, raws_fit, raw_rows, values_fit, seen, seen_rows, zip_rows, kept_rows, masked, true_count}
 use Rattle.vx_column.specs.Answers.{optional_raw}
-use Rattle.vx_column.specs.Cells.{truths_fit, AreTruthsOf, kept_column}
+use Rattle.vx_column.specs.Cells.{kept_column}
+use Rattle.vx_column.specs.ColumnParts.{truths_fit, AreTruthsOf}
 use Rattle.vx_column.specs.StructColumns.{StandsAt}
-use Rattle.vx_column.specs.declared.logic.Connective.{Connective}
-use Rattle.vx_column.specs.declared.logic.Connective.TheVariants.{And, Or}
-use Rattle.vx_column.specs.Connectives.{connected3}
 use Rattle.vx_column.proofs.FitLemmas.{both_of, of_both}
-use Rattle.vx_column.proofs.OrderLemmas.{nullable_left, nullable_right}
 use Rattle.vx_column.proofs.TrueCounts.{true_count-cons}
-use Rattle.vx_column.proofs.RowLemmas.{seen_rows_append, zip_rows_suc, zip_rows_repeated}
 
 -- a boolean type is that of its nullability
 pub bool_is : (t : Ty) → is_bool_ty t ≡ true → t ≡ bool_ty (nullability_of t)
@@ -106,72 +102,6 @@ pub truths_fit_repeated : (n : Nullability) (m : ℕ) (t : Option Bool) → trut
 truths_fit_repeated n zero t e = refl
 truths_fit_repeated n (suc m) t e = of_both _ _ e (truths_fit_repeated n m t e)
 
--- one truth more
-pub vals_append : (ts : List (Option Bool)) (t : Option Bool) → vals_of (ts ++ t ∷ []) ≡ vals_of ts ++ truth_val t ∷ []
-vals_append [] t = refl
-vals_append (u ∷ ts) t = ap (λ vs. truth_val u ∷ vs) (vals_append ts t)
-
-pub truths_fit_more : (n : Nullability) (ts : List (Option Bool)) (t : Option Bool) → truths_fit n ts ≡ true → truth_fits n t ≡ true → truths_fit n (ts ++ t ∷ []) ≡ true
-truths_fit_more n [] t e h = of_both _ _ h refl
-truths_fit_more n (u ∷ ts) t e h =
-    let both = both_of (truth_fits n u) (truths_fit n ts) e in
-    of_both _ _ both.0 (truths_fit_more n ts t both.1 h)
-
--- where a connective gives no truth, one side has none
-connected_truth_fits : (k : Connective) (n m : Nullability) (l r t : Option Bool) → truth_val t ≡ connected3 k (truth_val l) (truth_val r) → truth_fits n l ≡ true → truth_fits m r ≡ true → truth_fits (union n m) t ≡ true
-connected_truth_fits k n m l r (Some b) e p q = refl
-connected_truth_fits k n m None r None e p q = nullable_left n m p
-connected_truth_fits k n m (Some a) None None e p q = nullable_right n m q
-connected_truth_fits And n m (Some true) (Some true) None e p q = absurd cc
-connected_truth_fits And n m (Some true) (Some false) None e p q = absurd cc
-connected_truth_fits And n m (Some false) (Some true) None e p q = absurd cc
-connected_truth_fits And n m (Some false) (Some false) None e p q = absurd cc
-connected_truth_fits Or n m (Some true) (Some true) None e p q = absurd cc
-connected_truth_fits Or n m (Some true) (Some false) None e p q = absurd cc
-connected_truth_fits Or n m (Some false) (Some true) None e p q = absurd cc
-connected_truth_fits Or n m (Some false) (Some false) None e p q = absurd cc
-
-pub connected_fit : (k : Connective) (n m : Nullability) (ls rs ts : List (Option Bool)) → vals_of ts ≡ zip_rows (connected3 k) (vals_of ls) (vals_of rs) → truths_fit n ls ≡ true → truths_fit m rs ≡ true → truths_fit (union n m) ts ≡ true
-connected_fit k n m ls rs [] e p q = refl
-connected_fit k n m [] rs (t ∷ ts) e p q = absurd cc
-connected_fit k n m (l ∷ ls) [] (t ∷ ts) e p q = absurd cc
-connected_fit k n m (l ∷ ls) (r ∷ rs) (t ∷ ts) e p q =
-    let left = both_of (truth_fits n l) (truths_fit n ls) p in
-    let right = both_of (truth_fits m r) (truths_fit m rs) q in
-    let here : truth_val t ≡ connected3 k (truth_val l) (truth_val r) = cc in
-    let rest : vals_of ts ≡ zip_rows (connected3 k) (vals_of ls) (vals_of rs) = cc in
-    of_both _ _ (connected_truth_fits k n m l r t here left.0 right.0) (connected_fit k n m ls rs ts rest left.1 right.1)
-
--- where a negation has no truth, what is negated has none
-not_truth_fits : (n : Nullability) (l t : Option Bool) → truth_val t ≡ not3 (truth_val l) → truth_fits n l ≡ true → truth_fits n t ≡ true
-not_truth_fits n l (Some b) e p = refl
-not_truth_fits n None None e p = p
-not_truth_fits n (Some true) None e p = absurd cc
-not_truth_fits n (Some false) None e p = absurd cc
-
-pub not_fit : (n : Nullability) (ls ts : List (Option Bool)) → vals_of ts ≡ map not3 (vals_of ls) → truths_fit n ls ≡ true → truths_fit n ts ≡ true
-not_fit n ls [] e p = refl
-not_fit n [] (t ∷ ts) e p = absurd cc
-not_fit n (l ∷ ls) (t ∷ ts) e p =
-    let both = both_of (truth_fits n l) (truths_fit n ls) p in
-    let here : truth_val t ≡ not3 (truth_val l) = cc in
-    let rest : vals_of ts ≡ map not3 (vals_of ls) = cc in
-    of_both _ _ (not_truth_fits n l t here both.0) (not_fit n ls ts rest both.1)
-
--- a test for null always has a truth
-null_truth_fits : (n : Nullability) (l t : Option Bool) → truth_val t ≡ is_null3 (truth_val l) → truth_fits n t ≡ true
-null_truth_fits n l (Some b) e = refl
-null_truth_fits n None None e = absurd cc
-null_truth_fits n (Some b) None e = absurd cc
-
-pub null_fit : (n : Nullability) (ls ts : List (Option Bool)) → vals_of ts ≡ map is_null3 (vals_of ls) → truths_fit n ts ≡ true
-null_fit n ls [] e = refl
-null_fit n [] (t ∷ ts) e = absurd cc
-null_fit n (l ∷ ls) (t ∷ ts) e =
-    let here : truth_val t ≡ is_null3 (truth_val l) = cc in
-    let rest : vals_of ts ≡ map is_null3 (vals_of ls) = cc in
-    of_both _ _ (null_truth_fits n l t here) (null_fit n ls ts rest)
-
 -- a nullable type has every truth
 pub truths_fit_nullable : (ts : List (Option Bool)) → truths_fit Nullable ts ≡ true
 truths_fit_nullable [] = refl
@@ -230,19 +160,6 @@ kept_truths_fit n (t ∷ ts) (k ∷ ks) e =
     let both = both_of (truth_fits n t) (truths_fit n ts) e in
     fit_cond n (is_true k) t (kept_items ts ks) both.0 (kept_truths_fit n ts ks both.1)
 
--- what a loop over two columns has made of them with one row more
-pub zip_truths_step : (rule : Val → Val → Val) (l r : Column) (ts us : List (Option Bool)) (i : ℕ) (t : Option Bool) → i < length l.rows → length l.rows ≡ length r.rows → us ≡ ts ++ t ∷ [] → truth_val t ≡ rule (row_at l i) (row_at r i) → vals_of ts ≡ zip_rows rule (take i l.rows) (take i r.rows) → vals_of us ≡ zip_rows rule (take (i + 1) l.rows) (take (i + 1) r.rows)
-zip_truths_step rule l r ts us i t h k e v before =
-    let more : zip_rows rule (take (i + 1) l.rows) (take (i + 1) r.rows) ≡ zip_rows rule (take i l.rows) (take i r.rows) ++ rule (row_at l i) (row_at r i) ∷ [] = rw add-one (zip_rows_suc rule l.rows r.rows i null_val h (omega (arith, k))) in
-    rw (e, vals_append ts t, before, v) (sym more)
-
--- what a rule makes of two constants
-pub zip_constant_truth : (rule : Val → Val → Val) (l r : Column) (n : ℕ) (t : Option Bool) (v w : Val) → n ≡ length l.rows → length l.rows ≡ length r.rows → l.rows ≡ replicate (length l.rows) v → r.rows ≡ replicate (length r.rows) w → truth_val t ≡ rule v w → replicate n (truth_val t) ≡ zip_rows rule l.rows r.rows
-zip_constant_truth rule l r n t v w e k p q h =
-    let lefts : l.rows ≡ replicate n v = p ∙ ap (λ m. replicate m v) (sym e) in
-    let rights : r.rows ≡ replicate n w = q ∙ ap (λ m. replicate m w) (sym (e ∙ k)) in
-    ap (replicate n) h ∙ sym (zip_rows_repeated rule n v w) ∙ (λ j. zip_rows rule (sym lefts j) (sym rights j))
-
 -- the truth at a row, and a value of it
 pub truth_row : (c : Column) (ts : List (Option Bool)) (i : ℕ) (t : Option Bool) → vals_of ts ≡ c.rows → t ≡ get_or ts i None → truth_val t ≡ row_at c i
 truth_row c ts i t r e = ap truth_val e ∙ val_at ts i ∙ ap (λ vs. get_or vs i null_val) r
@@ -281,12 +198,6 @@ constant_count c n x t b k f r e h =
     let here : is_true_val (seen c.ty x) ≡ b = ap is_true_val (sym (truth_seen c.ty (raw_view x) k f)) ∙ is_true_of (raw_truth (raw_view x)) ∙ ap is_true (sym e) ∙ sym h in
     sym (count_repeated b n (seen c.ty x) here) ∙ ap true_count r
 
--- what a loop over rows has made of them with one row more
-pub zip_made_step : (rule : Val → Val → Val) (w : Ty) (us vs : List Val) (ms ns : List ScalarValue) (i : ℕ) (m : ScalarValue) → i < length us → length us ≡ length vs → ns ≡ ms ++ m ∷ [] → seen w m ≡ rule (get_or us i null_val) (get_or vs i null_val) → seen_rows w ms ≡ zip_rows rule (take i us) (take i vs) → seen_rows w ns ≡ zip_rows rule (take (i + 1) us) (take (i + 1) vs)
-zip_made_step rule w us vs ms ns i m h k e v before =
-    let more : zip_rows rule (take (i + 1) us) (take (i + 1) vs) ≡ zip_rows rule (take i us) (take i vs) ++ rule (get_or us i null_val) (get_or vs i null_val) ∷ [] = rw add-one (zip_rows_suc rule us vs i null_val h (omega (arith, k))) in
-    rw (e, seen_rows_append w ms m, before, v) (sym more)
-
 -- truths that are kept are those of the type, and of the column of what is kept
 pub kept_truths_of : (t d : Ty) (ts ks us : List (Option Bool)) → d ≡ t → AreTruthsOf t ts → us ≡ kept_items ts ks → AreTruthsOf d us
 kept_truths_of t d ts ks us e h k = record {
@@ -298,9 +209,6 @@ pub kept_truths_column : (c : Column) (d : Ty) (ts ks us : List (Option Bool)) �
 kept_truths_column c d ts ks us e r k =
     let rows : vals_of us ≡ kept_rows c.rows (vals_of ks) = ap vals_of k ∙ kept_truths_rows ts ks ∙ ap (λ vs. kept_rows vs (vals_of ks)) r in
     λ j. column (e j) (rows j)
-
-pub nulls_of_truths : (ls ts : List (Option Bool)) → vals_of ts ≡ map is_null3 (vals_of ls) → AreTruthsOf (bool_ty NonNullable) ts
-nulls_of_truths ls ts e = record { kind = refl; fit = null_fit NonNullable ls ts e }
 
 -- truths of which some are hidden stand for values of which some are made null
 hidden_row : (b : Bool) (t : Option Bool) → truth_val (cond b None t) ≡ cond b null_val (truth_val t)

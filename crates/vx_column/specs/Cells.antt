@@ -1,12 +1,10 @@
 -- For the checker: no public clause cites this. What the parts of a column hold.
-use Rattle.std.specs.Prelude.{◌≡◌, ℕ, ℤ, slice_index_or, Bool, true, false, not, ◌&&◌, List, [], ◌∷◌, ◌++◌, map, length, Option, None}
+use Rattle.std.specs.Prelude.{◌≡◌, ℕ, slice_index_or, Bool, true, false, not, ◌&&◌, List, [], ◌∷◌, ◌++◌, map, length, Option, None}
 use Rattle.std.specs.Hash as fed
 use Rattle.std.specs.Hash.{HashWrites}
 use Rattle.std.specs.List.{range_with_len}
 use Rattle.std.proofs.Math.ListN.{replicate}
-use Rattle.vx_dtype.specs.Types.{Bytes, Ty, int_ty, struct_ty}
-use Rattle.vx_dtype.specs.declared.Nullability.{Nullability}
-use Rattle.vx_dtype.specs.declared.PType.{PType}
+use Rattle.vx_dtype.specs.Types.{Bytes, Ty, struct_ty}
 use Rattle.vx_dtype.specs.declared.Nullability.TheVariants.{NonNullable, Nullable}
 use Rattle.vx_dtype.specs.TypeRules.{field_names, fields_of, is_bool_ty, is_int_ty, is_nullable, nullability_of, with_nullability}
 use Rattle.vx_dtype.specs.StructTypes.{field_types}
@@ -18,11 +16,9 @@ use Rattle.vx_column.specs.declared.cells.Cells.{Cells}
 use Rattle.vx_column.specs.declared.cells.Cells.TheVariants.{Constant, Rows, Truths, Numbers, Columns, Masked}
 use Rattle.vx_column.specs.Columns.{Column, column, row_at, rows_fit, values_fit, seen, seen_rows, kept_rows, masked, zip_rows}
 use Rattle.vx_column.specs.ColumnEqual.{val_feed}
-use Rattle.vx_column.specs.RawParts.{truth_fits}
-use Rattle.vx_column.specs.Totals.{number_fits}
+use Rattle.vx_column.specs.ColumnParts.{keeps_values, AreTruthsOf, AreNumbersOf}
 use Rattle.vx_column.specs.PlainValues.{numbers_vals}
 use Rattle.vx_words.specs.Truths.{vals_of}
-use Rattle.vx_numbers.specs.Numbers.{NumberList}
 use Rattle.vx_column.specs.StructColumns.{column_types, all_have_rows, struct_row}
 
 -- the structs of the columns' values at each of this many rows
@@ -55,21 +51,6 @@ pub record AreStructsOf (c : Column) (cs : List Column) : Type 0 where
   pub fields : AreFieldsOf c.ty cs (length c.rows)
   pub rows : structs_of (field_names (fields_of c.ty)) cs (length c.rows) ≡ c.rows
 
--- whether a boolean type of this nullability has each of the truths, and the null where there is none
-abbrev pub truths_fit : Nullability → List (Option Bool) → Bool
-truths_fit n [] = true
-truths_fit n (t ∷ ts) = truth_fits n t && truths_fit n ts
-
--- whether an integer type of this nullability has each of the numbers, and the null where there is none
-abbrev pub numbers_fit : PType → Nullability → List (Option ℤ) → Bool
-numbers_fit p n [] = true
-numbers_fit p n (i ∷ is) = number_fits p n i && numbers_fit p n is
-
--- whether a column of the type keeps no columns of fields
-abbrev pub keeps_values : Ty → Bool
-keeps_values (struct_ty fs n) = false
-keeps_values _ = true
-
 -- the values are those of a type of texts or lists that isn't nullable
 pub record AreValuesOf (t : Ty) (xs : List ScalarValue) : Type 0 where
   pub fit : values_fit t xs ≡ true
@@ -77,16 +58,6 @@ pub record AreValuesOf (t : Ty) (xs : List ScalarValue) : Type 0 where
   pub no_structs : keeps_values t ≡ true
   pub no_truths : is_bool_ty t ≡ false
   pub no_numbers : is_int_ty t ≡ false
-
--- the truths are those of a boolean type
-pub record AreTruthsOf (t : Ty) (ts : List (Option Bool)) : Type 0 where
-  pub kind : is_bool_ty t ≡ true
-  pub fit : truths_fit (nullability_of t) ts ≡ true
-
--- the numbers are those of an integer type
-pub record AreNumbersOf (t : Ty) (ns : NumberList) : Type 0 where
-  pub kind : t ≡ int_ty ns.ptype (nullability_of t)
-  pub fit : numbers_fit ns.ptype (nullability_of t) ns.numbers ≡ true
 
 -- whether columns of a type are masked by truths that stand beside them: those of a type that isn't nullable, and neither boolean nor an integer type
 abbrev pub masks_apart : Ty → Bool

@@ -4,6 +4,7 @@ use Rattle.vx_dtype.specs.declared.Nullability.{Nullability}
 use Rattle.vx_dtype.specs.declared.PType.{PType}
 use Rattle.vx_dtype.specs.Types.{Bytes}
 use Rattle.vx_dtype.specs.TypeRules.{is_nullable}
+use Rattle.vx_dtype.specs.Fits.{in_range}
 use Rattle.vx_dtype.specs.Values.{Val, null_val, int_val, text_val}
 use Rattle.vx_numbers.specs.Numbers.{NumberList}
 
@@ -15,6 +16,11 @@ number_val p (Some i) = int_val p i
 -- the values that numbers of an integer type stand for
 abbrev pub numbers_vals : NumberList → List Val
 numbers_vals ns = map (number_val ns.ptype) ns.numbers
+
+-- whether an integer type of this nullability has the number, or the null where there is none
+abbrev pub number_fits : PType → Nullability → Option ℤ → Bool
+number_fits p n None = is_nullable n
+number_fits p n (Some i) = in_range p i
 
 -- the value at a row that a text stands for
 abbrev pub text_or_null : Option Bytes → Val

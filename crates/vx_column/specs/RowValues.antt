@@ -1,4 +1,4 @@
--- For the checker: no public clause cites this. The value that is read at a row.
+-- The value that is read at a row.
 use Rattle.vx_dtype.specs.declared.values.ScalarValue.{ScalarValue}
 use Rattle.vx_column.specs.declared.reading.RowValue.{RowValue}
 use Rattle.vx_column.specs.declared.reading.RowValue.TheVariants.{Kept, Made}

@@ -3,7 +3,7 @@ ghost use Rattle.std.specs.Prelude.{◌≡◌, ◌<◌, None, length, slice_inde
 ghost use Rattle.vx_words.specs.Truths.{is_true};
 
 use crate::columns::ColumnRef;
-use crate::logic::is_true;
+use crate::plain_values::is_true;
 use std::rc::Rc;
 use vx_dtype::ScalarValue;
 use vx_numbers::Numbers;

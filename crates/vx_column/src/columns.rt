@@ -10,13 +10,14 @@ ghost use Rattle.vx_column.specs.Answers.{AnswersColumn, column_of_raws};
 ghost use Rattle.vx_dtype.specs.TypeRules.{no_name_twice, field_names, fields_of, with_nullability};
 ghost use Rattle.vx_dtype.specs.TypeViews.{type_view};
 ghost use Rattle.vx_column.specs.Columns.{Column, column, row_at, rows_fit, values_fit, seen, seen_rows, masked, zip_rows};
-ghost use Rattle.vx_column.specs.Cells.{cell_rows, structs_of, AreFieldsOf, AreValuesOf, AreNumbersOf, ArePartsOf, AreTruthsOf, masks_apart};
+ghost use Rattle.vx_column.specs.Cells.{cell_rows, structs_of, AreFieldsOf, AreValuesOf, ArePartsOf, masks_apart};
+ghost use Rattle.vx_column.specs.ColumnParts.{AreNumbersOf, AreTruthsOf};
 ghost use Rattle.vx_column.specs.PlainValues.{numbers_vals};
 ghost use Rattle.vx_words.specs.Truths.{vals_of};
 
 use crate::cells::{Cells, is_hidden, numbers_in, truths_in};
 use crate::errors::ColumnError;
-use crate::logic::is_null_value;
+use crate::plain_values::is_null_value;
 use crate::reading::made_at;
 use crate::splits::column_of;
 use std::alloc::{AllocError, Global};
@@ -112,8 +113,9 @@ impl ColumnRef {
         }
     }
 
-    /// The column of this many rows of one value. It is for a value that is known to be of the type.
-    pub(crate) fn of_constant(dtype: DType, value: ScalarValue, len: usize) -> ColumnRef
+    /// The column of this many rows of one value, as `constant` makes it, for a value that is known to be of the type, in no struct of which a
+    /// name stands twice.
+    pub fn of_constant(dtype: DType, value: ScalarValue, len: usize) -> ColumnRef
         requires fit { fits (raw_view value) (type_view dtype) ≡ true }
         requires names { no_name_twice (type_view dtype) ≡ true }
         ensures { result ≡ column (type_view dtype) (replicate len (seen (type_view dtype) value)) }
@@ -169,7 +171,7 @@ impl ColumnRef {
         if !all_fit(&dtype, values.as_slice()) {
             return Err(ColumnError::WrongValue);
         }
-        if !dtype.has_distinct_names(alloc)? {
+        if !dtype.has_distinct_names() {
             return Err(ColumnError::DuplicateField);
         }
         Ok(column_of(alloc, dtype, values)?)

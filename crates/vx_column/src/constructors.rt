@@ -1,15 +1,16 @@
 // Making columns of values.
-ghost use Rattle.std.specs.Prelude.{◌≡◌, map, Ok, IfOk};
+ghost use Rattle.std.specs.Prelude.{◌≡◌, true, map, Ok, IfOk};
 ghost use Rattle.std.proofs.Math.ListN.{replicate};
 ghost use Rattle.vx_dtype.specs.Types.{bool_ty, int_ty, text_ty, list_ty};
 ghost use Rattle.vx_dtype.specs.TypeRules.{no_name_twice};
 ghost use Rattle.vx_dtype.specs.Values.{raw_bool, raw_int, raw_text, value_of};
 ghost use Rattle.vx_dtype.specs.RawViews.{raw_view};
 ghost use Rattle.vx_dtype.specs.TypeViews.{type_view};
+ghost use Rattle.vx_words.specs.Truths.{vals_of};
 ghost use Rattle.vx_column.specs.declared.errors.ColumnError.TheVariants.{DuplicateField};
 ghost use Rattle.vx_column.specs.Columns.{Column, column};
-ghost use Rattle.vx_column.specs.Cells.{numbers_fit, truths_fit};
-ghost use Rattle.vx_column.specs.Totals.{number_fits};
+ghost use Rattle.vx_column.specs.ColumnParts.{numbers_fit, truths_fit};
+ghost use Rattle.vx_column.specs.PlainValues.{number_fits, numbers_vals};
 ghost use Rattle.vx_column.specs.Answers.{AnswersColumn, unless, optional_raw, list_raw, column_of_raws};
 
 use crate::columns::ColumnRef;
@@ -35,14 +36,31 @@ impl ColumnRef {
     }
 
     /// The column of this many rows of one value. DuplicateField exactly where a name stands twice in a struct of its type, at any depth.
-    pub fn constant(alloc: Global, value: &Scalar, len: usize) -> Result<ColumnRef, ColumnError>
+    pub fn constant(_alloc: Global, value: &Scalar, len: usize) -> Result<ColumnRef, ColumnError>
         ensures { AnswersColumn result (unless (no_name_twice value.now.ty) DuplicateField (Ok (column value.now.ty (replicate len (value_of value.now))))) }
     {
-        if !value.dtype().has_distinct_names(alloc)? {
+        if !value.dtype().has_distinct_names() {
             return Err(ColumnError::DuplicateField);
         }
         let dtype = value.dtype().clone()?;
         Ok(ColumnRef::of_constant(dtype, value.value().clone()?, len))
+    }
+
+    /// The column of these truths, for truths that are known to be of the boolean type of this nullability.
+    pub fn from_truths(alloc: Global, truths: Truths, n: Nullability) -> Mem<ColumnRef>
+        requires { truths_fit n truths ≡ true }
+        ensures { IfOk result (λ c. c ≡ column (bool_ty n) (vals_of truths)) }
+    {
+        ColumnRef::of_truths(alloc, DType::Bool(n), truths)
+    }
+
+    /// The column of these numbers, for numbers that are known to be of their integer type in this nullability.
+    pub fn from_numbers(alloc: Global, numbers: Numbers, n: Nullability) -> Mem<ColumnRef>
+        requires { numbers_fit numbers.ptype n numbers.numbers ≡ true }
+        ensures { IfOk result (λ c. c ≡ column (int_ty numbers.ptype n) (numbers_vals numbers)) }
+    {
+        let dtype = DType::Primitive(numbers.ptype(), n);
+        ColumnRef::of_numbers(alloc, dtype, numbers)
     }
 
     /// The column of these booleans, null where there is none. WrongValue exactly where there is none and the type isn't nullable.

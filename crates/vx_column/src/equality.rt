@@ -16,8 +16,8 @@ ghost use Rattle.vx_column.specs.Cells.{HasFit, HasAt, SameAt, AreStructsOf, fie
 use crate::cells::{Cells, column_in, columns_in, is_hidden, numbers_in, truths_in, values_in};
 use crate::columns::ColumnRef;
 use crate::fields::parts_of;
-use crate::logic::{is_null_value, null, of_truth};
 use crate::numbers::of_number;
+use crate::plain_values::{is_null_value, null, of_truth};
 use std::hash::{Hash, Hasher};
 use vx_dtype::ScalarValue;
 

@@ -14,7 +14,7 @@ ghost use Rattle.vx_column.specs.Answers.{AnswersColumn, field_column, type_at_p
 use crate::cells::{Cells, column_in, columns_in};
 use crate::columns::ColumnRef;
 use crate::errors::ColumnError;
-use crate::logic::null;
+use crate::plain_values::null;
 use crate::rows::{RowRule, map_column};
 use std::alloc::Global;
 use vx_dtype::{DType, FieldName, Mem, Nullability, ScalarValue, StructFields};

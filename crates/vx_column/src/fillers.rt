@@ -6,7 +6,7 @@ ghost use Rattle.vx_dtype.specs.RawViews.{raw_view};
 ghost use Rattle.vx_dtype.specs.TypeViews.{type_view};
 ghost use Rattle.vx_column.specs.Splits.{unless_null};
 
-use crate::logic::null;
+use crate::plain_values::null;
 use crate::structs::struct_of;
 use std::alloc::Global;
 use std::rc::Rc;

@@ -1,34 +1,30 @@
-//! Plain columns of a columnar store, and row-wise work on them.
+//! Plain columns of a columnar store: made of values, truths and numbers, and read back; their fields, their rows where a truth is true, and
+//! their rows made null. Work that makes one column of the values of others stands in `vx_kernels`.
 #![tactic(auto)]
 
-mod casts;
 mod cells;
 mod columns;
-mod comparisons;
 mod constructors;
 mod equality;
 mod errors;
 mod fields;
 mod fillers;
-mod likes;
-mod logic;
-mod lookups;
 mod masks;
 mod numbers;
-mod patterns;
+mod parts;
+mod plain_values;
 mod projections;
 mod reading;
 mod rows;
 mod splits;
 mod structs;
-mod sums;
 
-pub use casts::cast;
 pub use columns::ColumnRef;
-pub use comparisons::{between, compare, list_contains};
 pub use constructors::made;
 pub use errors::ColumnError;
-pub use likes::like;
-pub use logic::{and_kleene, invert, is_null, or_kleene};
-pub use sums::{checked_add, checked_sub};
+pub use numbers::number_of;
+pub use parts::ColumnParts;
+pub use plain_values::{is_null_value, of_truth, text_of, truth_of};
+pub use reading::RowValue;
+pub use splits::column_of;
 pub use vx_words::{and_words, not_words, or_words};

@@ -13,8 +13,8 @@ ghost use Rattle.vx_column.specs.Cells.{kept_column, masks_apart};
 
 use crate::cells::{Cells, column_in, columns_in, numbers_in, truths_in, values_in};
 use crate::columns::ColumnRef;
-use crate::logic::{is_null_value, is_true, null, truth_of};
 use crate::numbers::numbers_of;
+use crate::plain_values::{is_null_value, is_true, null, truth_of};
 use crate::reading::truths_of;
 use crate::splits::column_of;
 use std::alloc::Global;

@@ -8,11 +8,10 @@ ghost use Rattle.vx_dtype.specs.Types.{int_ty};
 ghost use Rattle.vx_dtype.specs.TypeRules.{is_int_ty, nullability_of};
 ghost use Rattle.vx_dtype.specs.Fits.{fits};
 ghost use Rattle.vx_dtype.specs.RawViews.{raw_view};
-ghost use Rattle.vx_column.specs.Cells.{AreNumbersOf};
-ghost use Rattle.vx_column.specs.PlainValues.{number_val, numbers_vals};
+ghost use Rattle.vx_column.specs.ColumnParts.{AreNumbersOf};
+ghost use Rattle.vx_column.specs.PlainValues.{number_fits, number_val, numbers_vals};
 ghost use Rattle.vx_column.specs.Columns.{seen, values_fit};
 ghost use Rattle.vx_column.specs.RawParts.{raw_number};
-ghost use Rattle.vx_column.specs.Totals.{number_fits};
 ghost use Rattle.vx_numbers.specs.Numbers.{number_list};
 
 use crate::cells::Cells;
@@ -24,7 +23,7 @@ use vx_numbers::Numbers;
 
 /// The number of an integer value, and none of another.
 #[tactic(auto, unfolding(vx_dtype::specs::Fits::fits, vx_dtype::specs::Values::valued))]
-pub(crate) fn number_of(value: &ScalarValue) -> Option<i128>
+pub fn number_of(value: &ScalarValue) -> Option<i128>
     ensures raw { result ≡ raw_number (raw_view value.now) }
     ensures value { (p : PType) (n : Nullability) → fits (raw_view value.now) (int_ty p n) ≡ true → seen (int_ty p n) value.now ≡ number_val p result }
     ensures fit { (p : PType) (n : Nullability) → fits (raw_view value.now) (int_ty p n) ≡ true → number_fits p n result ≡ true }
@@ -66,6 +65,7 @@ impl ColumnRef {
         requires { is_int_ty self.now.ty ≡ true }
         ensures rows { IfOk result (λ ns. numbers_vals ns.value ≡ self.now.rows) }
         ensures types { IfOk result (λ ns. self.now.ty ≡ int_ty ns.value.ptype (nullability_of self.now.ty)) }
+        ensures fit { IfOk result (λ ns. AreNumbersOf self.now.ty ns.value) }
     {
         numbers_of(alloc, self)
     }

@@ -12,7 +12,7 @@ use crate::cells::{Cells, column_in, columns_in};
 use crate::columns::ColumnRef;
 use crate::errors::ColumnError;
 use crate::fields::parts_of;
-use crate::logic::null;
+use crate::plain_values::null;
 use crate::rows::{RowRule, map_column};
 use crate::structs::struct_of;
 use std::alloc::Global;
@@ -62,6 +62,7 @@ impl ColumnRef {
     }
 
     /// The column of structs of these fields, as `project` answers, whatever parts the column is kept in.
+    #[tactic(auto, using(vx_dtype::proofs::ProjectionLemmas::projected_names))]
     fn projection_of(&self, alloc: Global, names: &[FieldName]) -> Result<ColumnRef, ColumnError>
         requires { is_struct_ty self.now.ty ≡ true }
         ensures { AnswersColumn result (projected_column names.now self.now) }
@@ -70,7 +71,7 @@ impl ColumnRef {
             return Err(ColumnError::UnknownField);
         };
         let made = fields.project(alloc, names)?;
-        if !FieldName::are_distinct(alloc, names)? {
+        if !made.names().are_distinct() {
             return Err(ColumnError::DuplicateField);
         }
         let places = places_of(alloc, fields, names)?;

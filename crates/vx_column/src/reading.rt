@@ -11,7 +11,8 @@ ghost use Rattle.vx_dtype.specs.RawViews.{raw_view};
 ghost use Rattle.vx_dtype.specs.TypeRules.{is_bool_ty, is_int_ty, is_text_ty, nullability_of, with_nullability};
 ghost use Rattle.vx_column.specs.Columns.{AppendsRows, column, row_at, values_fit, seen, seen_rows};
 ghost use Rattle.vx_column.specs.StructColumns.{StandsAt};
-ghost use Rattle.vx_column.specs.Cells.{keeps_values, masks_apart, truths_fit};
+ghost use Rattle.vx_column.specs.Cells.{masks_apart};
+ghost use Rattle.vx_column.specs.ColumnParts.{keeps_values, truths_fit};
 ghost use Rattle.vx_column.specs.PlainValues.{number_val, text_or_null, text_or_null_fits};
 ghost use Rattle.vx_column.specs.RowValues.{shown};
 ghost use Rattle.vx_words.specs.Truths.{vals_of};
@@ -19,9 +20,8 @@ ghost use Rattle.vx_words.specs.Words.{truth_val};
 
 use crate::cells::{Cells, column_in, columns_in, is_hidden, numbers_in, truths_in, values_in};
 use crate::columns::ColumnRef;
-use crate::likes::text_of;
-use crate::logic::{null, of_truth, truth_of};
 use crate::numbers::{number_of, of_number};
+use crate::plain_values::{null, of_truth, text_of, truth_of};
 use crate::structs::struct_of;
 use std::alloc::Global;
 use std::rc::Rc;
@@ -30,14 +30,16 @@ use vx_words::Truths;
 
 /// The value at a row of a column: one that the column keeps, or one that is made of what it keeps.
 #[derive(Drop)]
-pub(crate) enum RowValue<'a> {
+pub enum RowValue<'a> {
+    /// One that the column keeps.
     Kept(&'a ScalarValue),
+    /// One that is made of what the column keeps.
     Made(ScalarValue),
 }
 
 impl RowValue<'_> {
     /// The value.
-    pub(crate) fn get(&self) -> &ScalarValue
+    pub fn get(&self) -> &ScalarValue
         ensures { result.now ≡ shown self.now }
     {
         match self {
@@ -48,8 +50,8 @@ impl RowValue<'_> {
 }
 
 impl ColumnRef {
-    /// The value at a row of a column that is no structs of columns.
-    pub(crate) fn value_at(&self, i: usize) -> RowValue<'_>
+    /// The value at this row, counted from 0, of a column whose type is no struct's. It takes no memory.
+    pub fn value_at(&self, i: usize) -> RowValue<'_>
         requires kept { keeps_values self.now.ty ≡ true }
         requires row { i < length self.now.rows }
         ensures value { seen self.now.ty (shown result) ≡ row_at self.now i }
@@ -140,8 +142,18 @@ impl ColumnRef {
         }
     }
 
-    /// The value of all rows, where the column is kept as one value.
-    pub(crate) fn constant_value(&self) -> Option<&ScalarValue>
+    /// The truths at the rows of a boolean column, in order, null where a row is. They are those that the column keeps, but for a column that is
+    /// kept as one value: then they are made, a truth for each row.
+    pub fn truths(&self, alloc: Global) -> Mem<Rc<Truths>>
+        requires { is_bool_ty self.now.ty ≡ true }
+        ensures rows { IfOk result (λ ts. vals_of ts.value ≡ self.now.rows) }
+        ensures fit { IfOk result (λ ts. truths_fit (nullability_of self.now.ty) ts.value ≡ true) }
+    {
+        truths_of(alloc, self)
+    }
+
+    /// The value of all rows, where the column is kept as one value; none where it is kept in another way, also if all rows have one value.
+    pub fn constant_value(&self) -> Option<&ScalarValue>
         ensures value { IfSome (option_copied result) (λ x. self.now.rows ≡ replicate (length self.now.rows) (seen self.now.ty x)) }
         ensures fit { IfSome (option_copied result) (λ x. fits (raw_view x) self.now.ty ≡ true) }
     {
@@ -175,7 +187,7 @@ impl ColumnRef {
     }
 
     /// The column with its type made nullable.
-    pub(crate) fn made_nullable(&self, alloc: Global) -> Mem<ColumnRef>
+    pub fn made_nullable(&self, alloc: Global) -> Mem<ColumnRef>
         ensures { IfOk result (λ c. c ≡ column (with_nullability self.now.ty Nullable) self.now.rows) }
     {
         let dtype = self.dtype().with_nullability(Nullability::Nullable)?;

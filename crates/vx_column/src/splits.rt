@@ -13,15 +13,16 @@ ghost use Rattle.vx_column.specs.Splits.{HasPart, field_columns, parts_at, parts
 use crate::cells::values_in;
 use crate::columns::ColumnRef;
 use crate::fillers::{filled, filler_of};
-use crate::logic::{are_null, truths_of_values};
 use crate::numbers::numbers_of_values;
+use crate::plain_values::{are_null, truths_of_values};
 use std::alloc::Global;
 use std::rc::Rc;
 use vx_dtype::{DType, Mem, Nullability, ScalarValue, StructFields};
 
-/// The column of these values. It is for values that are known to be of the type.
+/// The column of these values, as `ColumnRef::of_values` makes it, for values that are known to be of the type, in no struct of which a name stands
+/// twice.
 #[cycle(splits)]
-pub(crate) fn column_of(alloc: Global, dtype: DType, rows: Vec<ScalarValue>) -> Mem<ColumnRef>
+pub fn column_of(alloc: Global, dtype: DType, rows: Vec<ScalarValue>) -> Mem<ColumnRef>
     requires fit { values_fit (type_view dtype) rows.items ≡ true }
     requires names { no_name_twice (type_view dtype) ≡ true }
     ensures { IfOk result (λ c. c ≡ column (type_view dtype) (seen_rows (type_view dtype) rows.items)) }

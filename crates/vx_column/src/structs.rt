@@ -13,7 +13,7 @@ use crate::columns::ColumnRef;
 use crate::errors::ColumnError;
 use std::alloc::Global;
 use std::rc::Rc;
-use vx_dtype::{DType, FieldName, FieldNames, Mem, Nullability, ScalarValue, StructFields};
+use vx_dtype::{DType, FieldNames, Mem, Nullability, ScalarValue, StructFields};
 use vx_words::Truths;
 
 impl ColumnRef {
@@ -39,7 +39,7 @@ impl ColumnRef {
         if !truths_number(len, truths) {
             return Err(ColumnError::WrongLength);
         }
-        if !FieldName::are_distinct(alloc, names.as_slice())? {
+        if !names.are_distinct() {
             return Err(ColumnError::DuplicateField);
         }
         let dtypes = types_of(alloc, fields.as_slice())?;

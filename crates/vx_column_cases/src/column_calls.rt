@@ -6,11 +6,12 @@ use crate::errors::CaseError;
 use crate::rows::{list_in, text_in};
 use serde_json::Value;
 use std::alloc::Global;
-use vx_column::{
-    ColumnRef, and_kleene, between, cast, checked_add, checked_sub, compare, invert, is_null, like,
+use vx_column::ColumnRef;
+use vx_dtype::{BetweenOptions, CompareOperator, DType, FieldName, StrictComparison};
+use vx_kernels::{
+    and_kleene, between, cast, checked_add, checked_sub, compare, invert, is_null, like,
     list_contains, or_kleene,
 };
-use vx_dtype::{BetweenOptions, CompareOperator, DType, FieldName, StrictComparison};
 use vx_typing::{equal_plain, is_bool, is_text, takes_cast};
 
 /// The columns that words tell, each made of words within, of so many levels at most.

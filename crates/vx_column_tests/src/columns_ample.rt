@@ -9,14 +9,15 @@ ghost use Rattle.vx_dtype.specs.StructTypes.{is_struct_ty};
 use std::alloc::Global;
 use std::rc::Rc;
 use std::test::Fail;
-use vx_column::{
-    ColumnError, ColumnRef, and_kleene, between, cast, checked_add, checked_sub, compare, invert,
-    is_null, like, list_contains, or_kleene,
-};
+use vx_column::{ColumnError, ColumnRef};
 use vx_dtype::Nullability::NonNullable;
 use vx_dtype::{
     BetweenOptions, CompareOperator, DType, ElementType, FieldName, FieldNames, Mem, NoMemory,
     PType, Scalar, ScalarValue, StrictComparison, Text,
+};
+use vx_kernels::{
+    and_kleene, between, cast, checked_add, checked_sub, compare, invert, is_null, like,
+    list_contains, or_kleene,
 };
 
 /// A column, or why there is none.

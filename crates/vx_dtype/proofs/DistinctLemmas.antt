@@ -1,5 +1,5 @@
 -- Names that stand twice in one struct of a type: a test of fields tests the type of each.
-use Rattle.std.proofs.Common.{◌≡◌, Bool, true, false, ◌&&◌, ◌||◌, not, cond, ℕ, zero, suc, ◌+◌, ◌<◌, List, [], ◌∷◌, length, drop, refl, ap, sym, ◌∙◌}
+use Rattle.std.proofs.Common.{◌≡◌, Bool, true, false, ◌&&◌, ◌||◌, not, cond, ℕ, zero, suc, ◌+◌, ◌<◌, List, [], ◌∷◌, length, drop, map, refl, ap, sym, ◌∙◌}
 use Rattle.std.proofs.Math.ListN.{get_or}
 use Rattle.std.proofs.lemmas.List.{drop_more}
 use Rattle.std.proofs.lemmas.Map.Text.{is_eq-slice_cmp}
@@ -8,7 +8,9 @@ use Rattle.std.specs.Str.{bytes_eq}
 use Rattle.std.specs.Ordering.{nat_cmp, is_eq}
 use Rattle.std.specs.Cmp.Lexicographic.{slice_cmp}
 use Rattle.vx_dtype.specs.EqualLaws.{bytes_eq_equiv}
-use Rattle.vx_dtype.specs.Types.{Bytes, Fields, no_fields, field}
+use Rattle.vx_dtype.proofs.ZippedLemmas.{field_names_zipped, field_types_zipped}
+use Rattle.vx_dtype.specs.Types.{Bytes, Ty, Fields, struct_ty, no_fields, field, NonNullable}
+use Rattle.vx_dtype.specs.Zipped.{zipped}
 use Rattle.vx_dtype.specs.TypeRules.{has_name, distinct_names, no_name_twice, no_name_twice_below}
 use Rattle.vx_dtype.specs.StructTypes.{field_types}
 
@@ -16,6 +18,18 @@ pub no_name_twice_below_all : (fs : Fields) → no_name_twice_below fs ≡ list_
 unfolding no_name_twice
 no_name_twice_below_all no_fields = refl
 no_name_twice_below_all (field f t fs) = ap (λ b. no_name_twice t && b) (no_name_twice_below_all fs)
+
+module _ {A : Type 0} (see : A → Ty) where
+  below_zipped : (fs : List Bytes) (xs : List A) → length fs ≡ length xs → no_name_twice_below (zipped fs (map see xs)) ≡ list_all no_name_twice (map see xs)
+  below_zipped fs xs e = no_name_twice_below_all (zipped fs (map see xs)) ∙ ap (list_all no_name_twice) (field_types_zipped see fs xs e)
+
+  -- a struct of fields made of names and types has no name twice where the names are distinct and none of the types has one twice
+  pub no_name_twice_zipped : (fs : List Bytes) (xs : List A) → length fs ≡ length xs
+      → no_name_twice (struct_ty (zipped fs (map see xs)) NonNullable) ≡ (distinct_names fs && list_all no_name_twice (map see xs))
+  unfolding no_name_twice
+  no_name_twice_zipped fs xs e =
+      ap (λ gs. distinct_names gs && no_name_twice_below (zipped fs (map see xs))) (field_names_zipped see fs xs e)
+      ∙ ap (λ b. distinct_names fs && b) (below_zipped fs xs e)
 
 and_false : (a : Bool) → (a && false) ≡ false
 and_false true = refl

@@ -2,6 +2,7 @@
 use Rattle.std.proofs.Common.{◌≡◌, Bool, true, false, ◌&&◌, ◌||◌, cond, Some, None, option_map, refl, ap, ◌∙◌, List, [], ◌∷◌, ◌++◌, append_assoc, append-nil, sym, ℕ, ◌+◌, ◌<◌, ◌≤◌, length, drop}
 use Rattle.std.specs.Prelude.{Option, is_some}
 use Rattle.std.specs.Str.{bytes_eq}
+use Rattle.std.proofs.lemmas.Bool.{and_parts}
 use Rattle.std.proofs.lemmas.Option.{same_Some}
 use Rattle.std.proofs.Math.ListN.{get_or}
 use Rattle.std.proofs.lemmas.List.{drop_all}
@@ -71,3 +72,23 @@ module _ (names : List Bytes) (fs : Fields) (i : ℕ) (ts : List Ty) (collected 
   projected-found h =
       let rest : types_named (drop i names) fs ≡ Some [] = ap (λ gs. types_named gs fs) (drop_all i names h) in
       projected_named names fs ∙ ap (option_map (zipped names)) (collected ∙ ap (joined ts) rest ∙ ap Some (append-nil ts))
+
+by_known : (f : Bytes) (names : List Bytes) (fs : Fields) (o : Option Ty) → is_some o ≡ true → field_names (fields_at names fs) ≡ names
+    → field_names (with_field f o (fields_at names fs)) ≡ f ∷ names
+by_known f names fs None e h = absurd cc
+by_known f names fs (Some t) e h = ap (λ gs. f ∷ gs) h
+
+-- the fields with some names, where each is one of the fields', have these names
+field_names-at : (names : List Bytes) (fs : Fields) → all_known names fs ≡ true → field_names (fields_at names fs) ≡ names
+field_names-at [] fs h = refl
+field_names-at (f ∷ names) fs h =
+    let parts = and_parts (has_name f (field_names fs)) (all_known names fs) h in
+    by_known f names fs (field_type f fs) (sym (has_name-typed f fs) ∙ parts.0) (field_names-at names fs parts.1)
+
+names_of_projected : (names : List Bytes) (fs made : Fields) (b : Bool) → all_known names fs ≡ b → cond b (Some (fields_at names fs)) None ≡ Some made → field_names made ≡ names
+names_of_projected names fs made true known e = ap field_names (sym (same_Some (fields_at names fs) made e)) ∙ field_names-at names fs known
+names_of_projected names fs made false known e = absurd cc
+
+-- so have the fields that are projected
+pub projected_names : (names : List Bytes) (fs made : Fields) → projected names fs ≡ Some made → field_names made ≡ names
+projected_names names fs made e = names_of_projected names fs made (all_known names fs) refl e

@@ -149,7 +149,7 @@ impl Model for FieldNames {
 
 impl FieldNames {
     /// These names, in their order. Where they are more than a few the place of each is noted, so that `position` and `contains` take one
-    /// look-up.
+    /// look-up; whether one stands twice is noted too.
     pub fn new(alloc: Global, names: Vec<FieldName>) -> Mem<FieldNames>
         ensures { IfOk result (λ made. made ≡ names.items) }
     {
@@ -185,6 +185,13 @@ impl FieldNames {
         ensures { result ≡ has_name name.now self.now }
     {
         self.position(name).is_some()
+    }
+
+    /// Whether no name stands twice: known since the names were put together.
+    pub fn are_distinct(&self) -> bool
+        ensures { result ≡ distinct_names self.now }
+    {
+        self.names.are_distinct()
     }
 
     /// The names as a slice.

@@ -8,6 +8,7 @@ use crate::integers::PType;
 use crate::memory::Mem;
 use crate::names::FieldNames;
 use crate::nulls::Nullability;
+use distinct::fields_have_distinct_names;
 use std::alloc::{AllocError, Global};
 use std::marker::Model;
 use std::rc::Rc;
@@ -40,12 +41,14 @@ pub struct ElementType {
     dtype: Rc<DType>,
 }
 
-/// The fields of a struct type, as many types as names. They are seen as names beside their types.
+/// The fields of a struct type, as many types as names, and whether no struct of them, at any depth, has a name twice. They are seen as
+/// names beside their types.
 #[cycle(types)]
 #[derive(Debug, Drop)]
 pub struct StructFields {
     names: FieldNames,
     dtypes: Rc<Vec<DType>>,
+    have_distinct_names: bool,
 }
 
 impl Model for ElementType {
@@ -84,7 +87,11 @@ impl Model for StructFields {
 
     ghost view = { λ fs. zipped fs.names (map type_view fs.dtypes.value.items) };
 
-    ghost invariant = { λ fs. length fs.names ≡ length fs.dtypes.value.items };
+    ghost use Rattle.vx_dtype.specs.Types.{struct_ty, NonNullable};
+    ghost use Rattle.vx_dtype.specs.TypeRules.{no_name_twice};
+
+    ghost invariant = { λ fs. (length fs.names ≡ length fs.dtypes.value.items)
+        × (fs.have_distinct_names ≡ no_name_twice (struct_ty (zipped fs.names (map type_view fs.dtypes.value.items)) NonNullable)) };
 
     ghost use Rattle.vx_dtype.specs.TypeRules.{depth_below};
 
@@ -93,7 +100,7 @@ impl Model for StructFields {
     ghost use Rattle.std.proofs.Common.{arith};
     ghost use Rattle.vx_dtype.specs.Depths.{most_le-depth_below};
 
-    ghost size_decreases = { λ a h. omega (arith, most_le-depth_below a.names a.dtypes.value.items h) };
+    ghost size_decreases = { λ a h. omega (arith, most_le-depth_below a.names a.dtypes.value.items h.0) };
 }
 
 impl ElementType {
@@ -126,9 +133,11 @@ impl StructFields {
         requires { length names ≡ length dtypes.items }
         ensures { IfOk result (λ fields. fields ≡ zipped names (map type_view dtypes.items)) }
     {
+        let have_distinct_names = fields_have_distinct_names(&names, dtypes.as_slice());
         Ok(StructFields {
             names,
             dtypes: Rc::new(alloc, dtypes)?,
+            have_distinct_names,
         })
     }
 
@@ -180,6 +189,7 @@ impl Clone for StructFields {
         Ok(StructFields {
             names: self.names.clone()?,
             dtypes: self.dtypes.clone()?,
+            have_distinct_names: self.have_distinct_names,
         })
     }
 }

@@ -12,8 +12,9 @@ ghost use Rattle.vx_eval.specs.Steps.{MakesUnlessBroken};
 
 use crate::errors::Failure;
 use std::alloc::Global;
-use vx_column::{ColumnError, ColumnRef, cast, checked_add, checked_sub};
+use vx_column::{ColumnError, ColumnRef};
 use vx_dtype::DType;
+use vx_kernels::{cast, checked_add, checked_sub};
 use vx_typing::takes_cast;
 
 /// Whether two types are the same integer type but for nullability.

@@ -44,13 +44,16 @@ fn names_in_each(alloc: Global, structs: &[ColumnRef]) -> Mem<Vec<FieldNames>>
     Ok(names)
 }
 
-/// The fields that columns of structs give together.
-fn fields_together(alloc: Global, structs: &[ColumnRef]) -> Mem<Vec<MergedField>>
-    ensures names { IfOk result (λ fields. map name_of fields.items ≡ merged_names column_names structs.now) }
-    ensures places { IfOk result (λ fields. All (IsGivenBy (map column_names structs.now)) fields.items) }
+/// The fields that columns of structs give together, and the list of their names.
+fn fields_together(alloc: Global, structs: &[ColumnRef]) -> Mem<(Vec<MergedField>, FieldNames)>
+    ensures names { IfOk result (λ made. map name_of made.0.items ≡ merged_names column_names structs.now) }
+    ensures places { IfOk result (λ made. All (IsGivenBy (map column_names structs.now)) made.0.items) }
+    ensures list { IfOk result (λ made. made.1 ≡ map name_of made.0.items) }
 {
-    let names = names_in_each(alloc, structs)?;
-    Ok(merged_fields(alloc, names.as_slice())?)
+    let own = names_in_each(alloc, structs)?;
+    let fields = merged_fields(alloc, own.as_slice())?;
+    let names = merged_field_names(alloc, fields.as_slice(), own.as_slice())?;
+    Ok((fields, names))
 }
 
 /// The column of a merged field: that of its name in the column of structs at its place.
@@ -91,8 +94,7 @@ pub(crate) fn merge_column(
     if !all_structs(structs.as_slice()) {
         return Err(Failure::Mistyped);
     }
-    let fields = fields_together(alloc, structs.as_slice())?;
+    let (fields, names) = fields_together(alloc, structs.as_slice())?;
     let columns = merged_columns(alloc, fields.as_slice(), structs.as_slice())?;
-    let names = merged_field_names(alloc, fields.as_slice())?;
     Ok(whole_structs(alloc, names, nullability, columns, len)?)
 }

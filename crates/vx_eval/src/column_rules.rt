@@ -15,11 +15,9 @@ ghost use Rattle.vx_eval.specs.Steps.{Makes};
 
 use crate::errors::Failure;
 use std::alloc::Global;
-use vx_column::{
-    ColumnError, ColumnRef, and_kleene, between, compare, invert, is_null, like, list_contains,
-    or_kleene,
-};
+use vx_column::{ColumnError, ColumnRef};
 use vx_dtype::{BetweenOptions, CompareOperator, DType, FieldName, Scalar};
+use vx_kernels::{and_kleene, between, compare, invert, is_null, like, list_contains, or_kleene};
 use vx_typing::{equal_plain, is_bool, is_text};
 
 /// The rows themselves. No column's type has a struct with a name twice.

@@ -17,9 +17,10 @@ ghost use Rattle.vx_eval.specs.Steps.{Makes};
 
 use crate::errors::Failure;
 use std::alloc::Global;
-use vx_column::{ColumnError, ColumnRef, compare};
+use vx_column::{ColumnError, ColumnRef};
 use vx_dtype::{CompareOperator, DType, Mem, NoMemory, Scalar};
 use vx_expr::DynamicComparisonExpr;
+use vx_kernels::compare;
 use vx_typing::{equal_plain, held_fits, union_of};
 
 /// The column of this many rows of a value whose type has no name twice.

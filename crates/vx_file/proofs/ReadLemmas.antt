@@ -1,6 +1,7 @@
 -- How a read of a block file ends, by what was found of its range and what it left.
-use Rattle.std.proofs.Common.{◌≡◌, inr, refl, sym, ap, ◌∙◌, subst, ℕ, ◌+◌, ◌≤◌, Some, None, [], ◌∷◌, ◌++◌, length, length-append, arith}
+use Rattle.std.proofs.Common.{◌≡◌, ◌⊎◌, inl, inr, refl, sym, ap, ◌∙◌, subst, ℕ, ◌+◌, ◌≤◌, Some, None, List, [], ◌∷◌, ◌++◌, length, length-append, arith}
 use Rattle.std.specs.Prelude.{Result, Ok, Err}
+use Rattle.std.proofs.lemmas.List.{append-nil}
 use Rattle.vx_dtype.specs.Types.{Bytes}
 use Rattle.vx_column.specs.Columns.{Column}
 use Rattle.vx_column.specs.declared.columns.ColumnRef.{ColumnRef}
@@ -10,7 +11,8 @@ use Rattle.vx_scan.specs.declared.errors.StoreError.{StoreError}
 use Rattle.vx_scan.specs.declared.errors.StoreError.TheVariants as errors
 use Rattle.vx_file_open.specs.Layouts.{content_at, IsFileWith, WhereBytes}
 use Rattle.vx_file_open.specs.ColumnAnswers.{IsColumnIn, IsRangeRead}
-use Rattle.vx_file.specs.FileStates.{FileState, file_seen, IsSound, IsSpoilt, IsSameFile, counted_to, after_read, after_damage, LeavesRead, LeavesFailed, IsReadOf}
+use Rattle.vx_file.specs.FileStates.{FileState, file_seen, IsSound, IsSpoilt, IsSameFile, HasGrown, IsLaterFile, FailsByFault, FailsByDamage, counted_to, after_read, after_damage, LeavesRead, LeavesFailed, IsReadOf}
+use Rattle.vx_file.specs.FileMoves.{later_file}
 use Rattle.vx_file.proofs.FileLemmas.{where_so, where_both, sound_is, spoilt_is, told_rows}
 
 -- a file whose source counted no fault since is as it was
@@ -96,3 +98,19 @@ ends_in_damage s f t r block name (Err errors.Failed) entry same range left =
       file = inr (record { same = refl; damaged = refl; spoilt = spoilt_entry s s (block, name) block name refl refl range });
     })
 ends_in_damage s f t r block name (Err errors.NoMemory) entry same range left = ends_without s t block name (left ∙ same)
+
+-- ---- what a read makes of the file
+
+grown_when_same : (before after : List Read) → after ≡ before → HasGrown before after
+grown_when_same before after e = ([], e ∙ sym (append-nil before))
+
+more_damaged : (s t : FileState) (read : Read) → FailsByFault s t ⊎ FailsByDamage s t read → HasGrown s.damaged t.damaged
+more_damaged s t read (inl h) = grown_when_same s.damaged t.damaged h.damaged
+more_damaged s t read (inr h) = (read ∷ [], h.damaged)
+
+pub later_by_read : (s t : FileState) (block : ℕ) (name : Bytes) (answer : Result ColumnRef StoreError) → IsReadOf s t block name answer → IsLaterFile s t
+later_by_read s t block name (Ok c) h =
+    record { same = h.same_file; reads = ((block, name) ∷ [], h.reads.1); damaged = grown_when_same s.damaged t.damaged h.file.damaged }
+later_by_read s t block name (Err errors.Failed) h =
+    record { same = h.same_file; reads = grown_when_same s.reads t.reads h.reads.1; damaged = more_damaged s t (block, name) h.file }
+later_by_read s t block name (Err errors.NoMemory) h = subst (λ (u : FileState). IsLaterFile s u) (sym h.file) (later_file s)

@@ -70,6 +70,17 @@ pub record IsSameFile (before after : FileState) : Type 0 where
   pub bytes : after.bytes ≡ before.bytes
   pub later : before.count ≤ after.count
 
+-- a list of reads has grown at its end, or is as it was
+abbrev pub HasGrown : List Read → List Read → Type 0
+HasGrown before after = (more : List Read) × (after ≡ before ++ more)
+
+-- what calls make of a block file: its header and its bytes stay, the source's count never falls, and the reads that succeeded, and those that failed by
+-- damage, grow at their ends
+pub record IsLaterFile (before after : FileState) : Type 0 where
+  pub same : IsSameFile before after
+  pub reads : HasGrown before.reads after.reads
+  pub damaged : HasGrown before.damaged after.damaged
+
 -- a read succeeded: the source counted no fault, and where the bytes are told the values are those that the range of the pair spells
 pub record Succeeds (before after : FileState) (block : ℕ) (name : Bytes) (rows : List Val) : Type 0 where
   pub same : after.count ≡ before.count

@@ -1,4 +1,5 @@
 pub mod FileStates
+pub mod FileMoves
 pub mod FileCodes
 pub use Rattle.vx_file_open.specs.Layouts
 pub use Rattle.vx_file_open.specs.OpenAnswers

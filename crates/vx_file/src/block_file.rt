@@ -7,8 +7,9 @@ ghost use Rattle.vx_scan.specs.Stores.{WhereTold, AgreesWith, IsSameStore, Reads
 ghost use Rattle.vx_scan.specs.StoreViews.{entry_view};
 ghost use Rattle.vx_file_open.specs.Layouts.{content_at, WhereBytes, IsFileWith};
 ghost use Rattle.vx_file_open.specs.ColumnAnswers.{IsColumnIn, IsRangeRead};
-ghost use Rattle.vx_file.specs.FileStates.{file_seen, IsSound, IsSpoilt, IsKept, IsSameFile, ReadsFile};
+ghost use Rattle.vx_file.specs.FileStates.{file_seen, IsSound, IsSpoilt, IsKept, IsSameFile, IsLaterFile, ReadsFile};
 ghost use Rattle.vx_file.specs.FileStates.{counted_to, after_fault, after_damage, LeavesRead, LeavesFailed, IsReadOf};
+ghost use Rattle.vx_file.specs.FileMoves.{later_file, later_file_on};
 
 use std::alloc::{AllocError, Global};
 use std::marker::Model;
@@ -175,6 +176,12 @@ impl<R: Ranged> BlockFile<R> {
 impl<R: Ranged> ColumnStore for BlockFile<R> {
     ghost seen = { file_seen };
 
+    ghost moves = { IsLaterFile };
+
+    ghost stays = { later_file };
+
+    ghost goes_on = { later_file_on };
+
     fn zones(&self) -> &ZoneMap
         ensures zones { result.now ≡ self.now.header.zones }
         ensures agrees { WhereTold (file_seen self.now).held (AgreesWith self.now.header.zones) }
@@ -187,6 +194,7 @@ impl<R: Ranged> ColumnStore for BlockFile<R> {
         requires column { has_name name.now (field_names self.old.header.zones.columns) ≡ true }
         ensures same { IsSameStore (file_seen self.old) (file_seen self.new) }
         ensures reads { Reads (file_seen self.old) (file_seen self.new) block name.now result }
+        ensures moves { IsLaterFile self.old self.new }
         ensures same_file { IsSameFile self.old self.new }
         ensures file { ReadsFile self.old self.new block name.now result }
     {

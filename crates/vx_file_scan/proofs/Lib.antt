@@ -1,5 +1,5 @@
-pub mod AskedLemmas
-pub mod StoreLemmas
+pub mod FailureLemmas
+pub mod CountLemmas
 pub mod FileScanLemmas
 pub mod TableScanLemmas
 pub mod LawLemmas

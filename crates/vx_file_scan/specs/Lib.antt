@@ -1,5 +1,7 @@
 pub mod FirstFailures
+pub mod FailureMoves
 pub mod FileScans
+pub mod FailureLaws
 pub mod TableScans
 pub mod FileScanLaws
 pub use Rattle.vx_file.specs.FileStates

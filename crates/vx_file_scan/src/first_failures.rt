@@ -3,8 +3,9 @@ ghost use Rattle.std.specs.Prelude.{◌≡◌, ◌<◌, true, length};
 ghost use Rattle.vx_dtype.specs.TypeRules.{has_name, field_names};
 ghost use Rattle.vx_scan.specs.Stores.{WhereTold, AgreesWith, IsSameStore, Reads};
 ghost use Rattle.vx_file_open.specs.Layouts.{WhereBytes};
-ghost use Rattle.vx_file.specs.FileStates.{IsKept};
-ghost use Rattle.vx_file_scan.specs.FirstFailures.{IsUnread, once_seen, FailedOnce};
+ghost use Rattle.vx_file.specs.FileStates.{IsKept, file_seen};
+ghost use Rattle.vx_file_scan.specs.FirstFailures.{IsReadToFailure};
+ghost use Rattle.vx_file_scan.specs.FailureMoves.{read_to_failure, read_to_failure_on};
 
 use std::marker::Model;
 use vx_column::ColumnRef;
@@ -14,10 +15,10 @@ use vx_file_ranges::Ranged;
 use vx_scan::{ColumnStore, StoreError};
 use vx_zones::ZoneMap;
 
-/// A block file that wasn't read before. It is read up to the first read that fails: each later one is refused as if there were no memory, and a scan makes
-/// none. So what failed, and whether by damage, is told by what is left.
+/// A block file that is read up to the first read that fails: each later one is refused as if there were no memory, and a scan makes none. So what failed,
+/// and whether by damage, is told by what is left, whatever calls were made of it.
 #[derive(Drop)]
-pub(crate) struct FirstFailure<R: Ranged> {
+pub struct FirstFailure<R: Ranged> {
     file: BlockFile<R>,
 }
 
@@ -29,27 +30,20 @@ impl<R: Ranged> Model for FirstFailure<R> {
 
     ghost coded = { coded_file };
 
-    ghost use Rattle.std.specs.Prelude.{length};
-    ghost use Rattle.vx_file_scan.specs.FirstFailures.{FailedOnce};
-
     ghost view = { λ s. s.file };
-
-    ghost invariant = { λ s. FailedOnce (length s.file.header.zones.lengths) s.file.failed s.file.damaged };
 }
 
 impl<R: Ranged> FirstFailure<R> {
-    /// A file that wasn't read yet.
-    pub(crate) fn new(file: BlockFile<R>) -> FirstFailure<R>
-        requires { IsUnread file }
+    /// The file as a store that is read up to the first read that fails; where one has failed already, none is made of it.
+    pub fn new(file: BlockFile<R>) -> FirstFailure<R>
         ensures { result ≡ file }
     {
         FirstFailure { file }
     }
 
     /// The file as it was left.
-    pub(crate) fn into_file(self) -> BlockFile<R>
+    pub fn into_file(self) -> BlockFile<R>
         ensures file { result ≡ self }
-        ensures once { FailedOnce (length self.header.zones.lengths) self.failed self.damaged }
         ensures kept { WhereBytes self.bytes (IsKept self) }
     {
         let FirstFailure { file } = self;
@@ -59,11 +53,17 @@ impl<R: Ranged> FirstFailure<R> {
 }
 
 impl<R: Ranged> ColumnStore for FirstFailure<R> {
-    ghost seen = { once_seen };
+    ghost seen = { file_seen };
+
+    ghost moves = { IsReadToFailure };
+
+    ghost stays = { read_to_failure };
+
+    ghost goes_on = { read_to_failure_on };
 
     fn zones(&self) -> &ZoneMap
         ensures zones { result.now ≡ self.now.header.zones }
-        ensures agrees { WhereTold (once_seen self.now).held (AgreesWith self.now.header.zones) }
+        ensures agrees { WhereTold (file_seen self.now).held (AgreesWith self.now.header.zones) }
     {
         self.file.zones()
     }
@@ -71,8 +71,9 @@ impl<R: Ranged> ColumnStore for FirstFailure<R> {
     fn read(&mut self, block: u32, name: &FieldName) -> Result<ColumnRef, StoreError>
         requires block { block < length self.old.header.zones.lengths }
         requires column { has_name name.now (field_names self.old.header.zones.columns) ≡ true }
-        ensures same { IsSameStore (once_seen self.old) (once_seen self.new) }
-        ensures reads { Reads (once_seen self.old) (once_seen self.new) block name.now result }
+        ensures same { IsSameStore (file_seen self.old) (file_seen self.new) }
+        ensures reads { Reads (file_seen self.old) (file_seen self.new) block name.now result }
+        ensures moves { IsReadToFailure self.old self.new }
     {
         if self.file.failed().is_some() {
             return Err(StoreError::NoMemory);

@@ -1,8 +1,15 @@
 // Laws of how scans of block files end: each is the contract of a function that does nothing.
 
+ghost use Rattle.vx_file_scan.specs.FailureLaws.{FilesAreLeftAtFailures};
 ghost use Rattle.vx_file_scan.specs.TableScans.{ScansOfOneTableEndTheSame};
 ghost use Rattle.vx_file_scan.specs.FileScanLaws.{FaultsShowDamage, DamageIsAFault, UndamagedScansReport, UndamagedScansBreak};
 ghost use Rattle.vx_file_scan.specs.FileScanLaws.{HonestFileScansAreWhole, UndamagedScansEndAsInMemory};
+
+/// Of a file that wasn't read before and is read up to the first read that fails no read is damaged but the one that failed; the source counted no fault
+/// where none failed, and one where one failed that isn't damaged.
+pub fn files_are_left_at_failures()
+    ensures { FilesAreLeftAtFailures }
+{}
 
 /// Two scans by the same texts over stores that tell one table, with the same statistics, answer the same and make the same reads, where neither answer is
 /// want of memory or a read that failed. Of two breaks one may be by a sum and the other by a cast.

@@ -1,6 +1,6 @@
 -- What is answered over files as one table is what is answered over the files, in turn.
-use Rattle.std.proofs.Common.{◌≡◌, refl, ap, sym, ◌∙◌, ℕ, suc, ◌+◌, ◌<◌, nat_eq, Bool, true, false, cond, not, ◌||◌, Option, Some, None, is_some, List, [], ◌∷◌, ◌++◌, map, length, get_or, arith, append-nil}
-use Rattle.std.specs.List.{filter, flat_map, list_any}
+use Rattle.std.proofs.Common.{◌≡◌, refl, ap, sym, ◌∙◌, ℕ, suc, ◌+◌, ◌<◌, nat_eq, Bool, true, false, cond, not, ◌||◌, Option, Some, None, is_some, List, [], ◌∷◌, ◌++◌, map, length, get_or, Result, Ok, Err, IfOk, arith, append-nil}
+use Rattle.std.specs.List.{AllByRecursion, filter, flat_map, list_any}
 use Rattle.std.specs.Option.{option_or}
 use Rattle.std.proofs.lemmas.List.{map-append, get_or-append-add, get_or_append_left}
 use Rattle.std.proofs.lemmas.List.Concat.{flat_map-append}
@@ -14,12 +14,18 @@ use Rattle.vx_semantics.specs.Tables.{Table, Zones, row_type, numbered_from}
 use Rattle.vx_semantics.specs.Scans.{matching_rows, has_rows, reads_in, further_columns, kept_blocks, kept_of}
 use Rattle.vx_laws_scan.proofs.Keeping.{kept_numbers}
 use Rattle.vx_laws_topk.specs.TopPhases.{SlottedPhase}
+use Rattle.vx_laws_file.proofs.Lists.{each_so}
+use Rattle.vx_laws_statements.specs.Clauses.{Key}
+use Rattle.vx_laws_statements.specs.Refusals.{StatementRefusal}
+use Rattle.vx_laws_statements.specs.Statements.{Plan, plan_of}
 use Rattle.vx_scan.specs.Stores.{Read}
-use Rattle.vx_laws_shell.specs.Answers.{Stop, damaged, broken, first_stop, unslotted, phases_in, rows_in, before_stop, Found, found_in_order, answer_stopped}
-use Rattle.vx_laws_shell.specs.Folders.{TableFile, file_before, files_joined, HasItsZones, IsOfForm, AreOneFolder, damaged_behind, answer_of_file}
-use Rattle.vx_laws_shell.specs.Folders.{status_in_turn, output_in_turn, AnswersOfFiles}
+use Rattle.vx_laws_shell.specs.Answers.{Stop, damaged, broken, first_stop, unslotted, phases_in, rows_in, before_stop, Found, found_in_order}
+use Rattle.vx_laws_shell.specs.Answers.{Answer, refused_with, answer_stopped, answer_planned, answer_wanted}
+use Rattle.vx_laws_shell.specs.Folders.{TableFile, file_before, files_joined, table_of_files, HasItsZones, IsOfForm, AreOneFolder, damaged_behind, answer_of_file}
+use Rattle.vx_laws_shell.specs.Folders.{status_in_turn, output_in_turn, IsInTurn, AnswersOfFiles, statement_over, StatementsOfFiles}
 use Rattle.vx_laws_shell.specs.Lines.{row_lines}
-use Rattle.vx_laws_shell.proofs.FolderFiles.{has_before, joined, others_are}
+use Rattle.vx_laws_shell.specs.Wants.{condition_tree, in_order, wanted_in, wanted_of}
+use Rattle.vx_laws_shell.proofs.FolderFiles.{has_before, joined, others_are, columns_first}
 use Rattle.vx_laws_shell.proofs.FolderScans.{kept_both}
 use Rattle.vx_laws_shell.proofs.OrderedRuns.{lines_append}
 use Rattle.vx_laws_shell.proofs.Stops.{stop_append}
@@ -272,11 +278,11 @@ output_stopped table found (Some damaged) = refl
 output_stopped table found (Some broken) = refl
 
 -- an answer over a file has the status of its stop, and writes its rows
-status_is : (is_damaged : Read → Bool) (f p : Tree) (file : TableFile) → (answer_of_file is_damaged f p file).status ≡ status_by (stop_of_file is_damaged f p file)
+status_is : (is_damaged : Read → Bool) (f p : Tree) (file : TableFile) → (answer_of_file f p is_damaged file).status ≡ status_by (stop_of_file is_damaged f p file)
 status_is is_damaged f p file =
     status_stopped file.table (found_in_order is_damaged file.table file.zones f p None) (stop_of_file is_damaged f p file)
 
-output_is : (is_damaged : Read → Bool) (f p : Tree) (file : TableFile) → (answer_of_file is_damaged f p file).output ≡ row_lines (rows_of_file is_damaged f p file)
+output_is : (is_damaged : Read → Bool) (f p : Tree) (file : TableFile) → (answer_of_file f p is_damaged file).output ≡ row_lines (rows_of_file is_damaged f p file)
 output_is is_damaged f p file =
     output_stopped file.table (found_in_order is_damaged file.table file.zones f p None) (stop_of_file is_damaged f p file)
 
@@ -303,14 +309,14 @@ one_output false output = sym (append-nil output)
 
 -- a file before others
 abbrev Turn : (Read → Bool) → Tree → Tree → TableFile → ℕ → Bytes → Type 0
-Turn is_damaged f p file status output = ((answer_of_file is_damaged f p file).status ≡ status) × ((answer_of_file is_damaged f p file).output ≡ output)
+Turn is_damaged f p file status output = ((answer_of_file f p is_damaged file).status ≡ status) × ((answer_of_file f p is_damaged file).output ≡ output)
 
 turns : (is_damaged : Read → Bool) (first : TableFile) (files : List TableFile) (f p : Tree) → AreOneFolder first files
-    → Turn is_damaged f p (files_joined first files) (status_in_turn is_damaged f p (first ∷ files)) (output_in_turn is_damaged f p (first ∷ files))
+    → Turn is_damaged f p (files_joined first files) (status_in_turn (answer_of_file f p) is_damaged (first ∷ files)) (output_in_turn (answer_of_file f p) is_damaged (first ∷ files))
 turns is_damaged first [] f p h =
     let status = status_is is_damaged f p first in (
       status ∙ one_status (stop_of_file is_damaged f p first) ∙ ap (λ (s : ℕ). cond (nat_eq s 0) 0 s) (sym status),
-      one_output (nat_eq (answer_of_file is_damaged f p first).status 0) (answer_of_file is_damaged f p first).output,
+      one_output (nat_eq (answer_of_file f p is_damaged first).status 0) (answer_of_file f p is_damaged first).output,
     )
 turns is_damaged first (next ∷ files) f p h =
     let rest = joined first next files h in
@@ -335,3 +341,68 @@ pub answers_of_files : AnswersOfFiles
 answers_of_files is_damaged first files f p h =
     let turn = turns is_damaged first files f p h in
     record { status = turn.0; output = turn.1 }
+
+-- ---- statements
+
+-- a statement that asks neither an order nor a limit is answered by its condition and its rows
+planned_so : (statement : Bytes) (plan : Plan) (is_damaged : Read → Bool) (file : TableFile) → plan_of (row_type file.table.columns) statement ≡ Ok plan
+    → plan.order ≡ None → plan.limit ≡ None
+    → statement_over statement is_damaged file ≡ answer_of_file (condition_tree plan.filter) plan.rows.tree is_damaged file
+unfolding wanted_of
+planned_so statement plan is_damaged file e order limit =
+    ap (λ (r : Result Plan StatementRefusal). answer_planned is_damaged file.table file.zones r) e
+    ∙ ap (λ (o : Option Key). answer_wanted is_damaged file.table file.zones plan (wanted_in file.table.columns plan o)) order
+    ∙ ap (λ (l : Option ℕ). answer_wanted is_damaged file.table file.zones plan (Ok (in_order l))) limit
+
+refused_so : (statement : Bytes) (refusal : StatementRefusal) (is_damaged : Read → Bool) (file : TableFile)
+    → plan_of (row_type file.table.columns) statement ≡ Err refusal → statement_over statement is_damaged file ≡ refused_with 4
+refused_so statement refusal is_damaged file e = ap (λ (r : Result Plan StatementRefusal). answer_planned is_damaged file.table file.zones r) e
+
+-- answers that are the same over each file are so in turn
+same_turns : (answer other : (Read → Bool) → TableFile → Answer) (is_damaged : Read → Bool) (files : List TableFile)
+    → AllByRecursion (λ (file : TableFile). (d : Read → Bool) → answer d file ≡ other d file) files
+    → (status_in_turn answer is_damaged files ≡ status_in_turn other is_damaged files)
+    × (output_in_turn answer is_damaged files ≡ output_in_turn other is_damaged files)
+same_turns answer other is_damaged [] h = (refl, refl)
+same_turns answer other is_damaged (file ∷ files) h =
+    let own = h.0 is_damaged in
+    let rest = same_turns answer other (damaged_behind (length file.table.blocks) is_damaged) files h.1 in
+    (λ i. cond (nat_eq (own i).status 0) (rest.0 i) (own i).status, λ i. (own i).output ++ cond (nat_eq (own i).status 0) (rest.1 i) [])
+
+-- a statement has one plan over files of one form
+plan_over : (statement : Bytes) (columns others : Fields) (r : Result Plan StatementRefusal) → others ≡ columns → plan_of (row_type columns) statement ≡ r
+    → plan_of (row_type others) statement ≡ r
+plan_over statement columns others r same e = ap (λ (fs : Fields). plan_of (row_type fs) statement) same ∙ e
+
+pub statements_of_files : StatementsOfFiles
+statements_of_files is_damaged first files statement h plain = by-plan (plan_of (row_type first.table.columns) statement) refl plain
+  where
+    by-plan : (r : Result Plan StatementRefusal) → plan_of (row_type first.table.columns) statement ≡ r
+        → IfOk r (λ (plan : Plan). (plan.order ≡ None) × (plan.limit ≡ None)) → IsInTurn (statement_over statement) is_damaged first files
+    by-plan (Ok plan) e asks =
+        let f = condition_tree plan.filter in
+        let p = plan.rows.tree in
+        let all = planned_so statement plan is_damaged (files_joined first files)
+        (plan_over statement first.table.columns (table_of_files first files).columns (Ok plan) (columns_first first files) e) asks.0 asks.1 in
+        let each = each_so (IsOfForm first)
+        (λ (file : TableFile). (d : Read → Bool) → statement_over statement d file ≡ answer_of_file (condition_tree plan.filter) plan.rows.tree d file) files
+        (λ file form d. planned_so statement plan d file (plan_over statement first.table.columns file.table.columns (Ok plan) form.columns e) asks.0 asks.1)
+        h.forms in
+        let same = same_turns (statement_over statement) (answer_of_file f p) is_damaged (first ∷ files)
+        (λ d. planned_so statement plan d first e asks.0 asks.1, each) in
+        let answers = answers_of_files is_damaged first files f p h in
+        record {
+          status = ap (λ (a : Answer). a.status) all ∙ answers.status ∙ sym same.0;
+          output = ap (λ (a : Answer). a.output) all ∙ answers.output ∙ sym same.1;
+        }
+    by-plan (Err refusal) e asks =
+        let later = damaged_behind (length first.table.blocks) is_damaged in
+        let all = refused_so statement refusal is_damaged (files_joined first files)
+        (plan_over statement first.table.columns (table_of_files first files).columns (Err refusal) (columns_first first files) e) in
+        let own = refused_so statement refusal is_damaged first e in
+        record {
+          status = ap (λ (a : Answer). a.status) all
+              ∙ sym (ap (λ (a : Answer). cond (nat_eq a.status 0) (status_in_turn (statement_over statement) later files) a.status) own);
+          output = ap (λ (a : Answer). a.output) all
+              ∙ sym (ap (λ (a : Answer). a.output ++ cond (nat_eq a.status 0) (output_in_turn (statement_over statement) later files) []) own);
+        }

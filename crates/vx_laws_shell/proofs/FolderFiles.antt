@@ -221,7 +221,7 @@ built_files_are_one_folder first tables h =
     record { first_has = built_has first; each_has = rest.0; forms = rest.1 }
 
 -- the statistics of such a table before another one
-columns_first : (first : TableFile) (files : List TableFile) → (table_of_files first files).columns ≡ first.table.columns
+pub columns_first : (first : TableFile) (files : List TableFile) → (table_of_files first files).columns ≡ first.table.columns
 columns_first first [] = refl
 columns_first first (next ∷ files) = refl
 

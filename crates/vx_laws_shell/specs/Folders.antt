@@ -1,5 +1,5 @@
 -- The table of a folder: the blocks of its files, one file after another. What is answered over it is what is answered over the files, in their order.
-use Rattle.std.specs.Prelude.{◌≡◌, ℕ, ◌+◌, nat_eq, Bool, false, cond, List, [], ◌∷◌, ◌++◌, map, length, None}
+use Rattle.std.specs.Prelude.{◌≡◌, ℕ, ◌+◌, nat_eq, Bool, false, cond, List, [], ◌∷◌, ◌++◌, map, length, None, IfOk}
 use Rattle.std.specs.List.{AllByRecursion, flat_map, list_any, sum}
 use Rattle.vx_dtype.specs.Types.{Bytes}
 use Rattle.vx_expr.specs.Trees.{Tree}
@@ -12,7 +12,8 @@ use Rattle.vx_laws_stats.specs.BuiltLaws.{path_and_stat}
 use Rattle.vx_laws_stats.specs.BuiltStatistics.{built_zones}
 use Rattle.vx_scan.specs.Cutting.{shifted_reads}
 use Rattle.vx_scan.specs.Stores.{Read}
-use Rattle.vx_laws_shell.specs.Answers.{Answer, answer_found, found_in_order}
+use Rattle.vx_laws_statements.specs.Statements.{plan_of}
+use Rattle.vx_laws_shell.specs.Answers.{Answer, answer_found, answer_of_statement, found_in_order}
 
 -- ---- files as one table
 
@@ -138,30 +139,40 @@ ScansOfFiles =
 abbrev pub damaged_behind : ℕ → (Read → Bool) → Read → Bool
 damaged_behind blocks is_damaged read = is_damaged (blocks + read.0, read.1)
 
--- what is answered over a file, in the table's order and without a limit
-abbrev pub answer_of_file : (Read → Bool) → Tree → Tree → TableFile → Answer
-answer_of_file is_damaged f p file = answer_found is_damaged file.table (found_in_order is_damaged file.table file.zones f p None)
+-- answers over files in turn: the exit status is that of the first which isn't 0
+abbrev pub status_in_turn : ((Read → Bool) → TableFile → Answer) → (Read → Bool) → List TableFile → ℕ
+status_in_turn answer is_damaged [] = 0
+status_in_turn answer is_damaged (file ∷ files) =
+    cond (nat_eq (answer is_damaged file).status 0) (status_in_turn answer (damaged_behind (length file.table.blocks) is_damaged) files)
+    (answer is_damaged file).status
 
--- the exit status of answers over files in turn: that of the first which isn't 0
-abbrev pub status_in_turn : (Read → Bool) → Tree → Tree → List TableFile → ℕ
-status_in_turn is_damaged f p [] = 0
-status_in_turn is_damaged f p (file ∷ files) =
-    let answer = answer_of_file is_damaged f p file in
-    cond (nat_eq answer.status 0) (status_in_turn (damaged_behind (length file.table.blocks) is_damaged) f p files) answer.status
+-- and what is written is what they write, one behind another, up to the end of that one
+abbrev pub output_in_turn : ((Read → Bool) → TableFile → Answer) → (Read → Bool) → List TableFile → Bytes
+output_in_turn answer is_damaged [] = []
+output_in_turn answer is_damaged (file ∷ files) =
+    (answer is_damaged file).output
+    ++ cond (nat_eq (answer is_damaged file).status 0) (output_in_turn answer (damaged_behind (length file.table.blocks) is_damaged) files) []
 
--- and what they write: one behind another, up to the end of that one
-abbrev pub output_in_turn : (Read → Bool) → Tree → Tree → List TableFile → Bytes
-output_in_turn is_damaged f p [] = []
-output_in_turn is_damaged f p (file ∷ files) =
-    let answer = answer_of_file is_damaged f p file in
-    answer.output ++ cond (nat_eq answer.status 0) (output_in_turn (damaged_behind (length file.table.blocks) is_damaged) f p files) []
+-- what is answered over the table of files is what is answered over them in turn
+pub record IsInTurn (answer : (Read → Bool) → TableFile → Answer) (is_damaged : Read → Bool) (first : TableFile) (files : List TableFile) : Type 0 where
+  pub status : (answer is_damaged (files_joined first files)).status ≡ status_in_turn answer is_damaged (first ∷ files)
+  pub output : (answer is_damaged (files_joined first files)).output ≡ output_in_turn answer is_damaged (first ∷ files)
 
--- so the answer over the table of files has their exit status, and writes what they do
-pub record IsAnswerOfFiles (is_damaged : Read → Bool) (first : TableFile) (files : List TableFile) (f p : Tree) : Type 0 where
-  pub status : (answer_of_file is_damaged f p (files_joined first files)).status ≡ status_in_turn is_damaged f p (first ∷ files)
-  pub output : (answer_of_file is_damaged f p (files_joined first files)).output ≡ output_in_turn is_damaged f p (first ∷ files)
+-- so it is in the table's order and without a limit
+abbrev pub answer_of_file : Tree → Tree → (Read → Bool) → TableFile → Answer
+answer_of_file f p is_damaged file = answer_found is_damaged file.table (found_in_order is_damaged file.table file.zones f p None)
 
 abbrev pub AnswersOfFiles : Type 0
 AnswersOfFiles =
     (is_damaged : Read → Bool) (first : TableFile) (files : List TableFile) (f p : Tree) → AreOneFolder first files
-    → IsAnswerOfFiles is_damaged first files f p
+    → IsInTurn (answer_of_file f p) is_damaged first files
+
+-- and with a statement that asks neither an order nor a limit
+abbrev pub statement_over : Bytes → (Read → Bool) → TableFile → Answer
+statement_over statement is_damaged file = answer_of_statement is_damaged file.table file.zones statement
+
+abbrev pub StatementsOfFiles : Type 0
+StatementsOfFiles =
+    (is_damaged : Read → Bool) (first : TableFile) (files : List TableFile) (statement : Bytes) → AreOneFolder first files
+    → IfOk (plan_of (row_type first.table.columns) statement) (λ plan. (plan.order ≡ None) × (plan.limit ≡ None))
+    → IsInTurn (statement_over statement) is_damaged first files

@@ -5,7 +5,7 @@ ghost use Rattle.vx_laws_shell.specs.CutAnew.{TablesAreCutAnew, CutTablesKeepRow
 ghost use Rattle.vx_laws_shell.specs.CutAnew.{CutTablesLoseNoRow, CutTablesKeepLimits, CutTablesKeepFirstRows};
 ghost use Rattle.vx_laws_shell.specs.Damage.{DamageIsDecided};
 ghost use Rattle.vx_laws_shell.specs.Folders.{FilesAreJoined, JoinedFilesAreHonest, BuiltFilesAreOneFolder, BuiltFilesHaveBuiltStatistics};
-ghost use Rattle.vx_laws_shell.specs.Folders.{ScansOfFiles, AnswersOfFiles};
+ghost use Rattle.vx_laws_shell.specs.Folders.{ScansOfFiles, AnswersOfFiles, StatementsOfFiles};
 ghost use Rattle.vx_laws_shell.specs.KeyedRuns.{KeyedRunsWriteAnswers};
 ghost use Rattle.vx_laws_shell.specs.OrderedRuns.{OrderedRunsWriteAnswers};
 ghost use Rattle.vx_laws_shell.specs.Parts.{PartsJoin};
@@ -62,11 +62,12 @@ pub fn files_are_one_table()
 {}
 
 /// A scan of that table has the rows and the reads of scans of the files, one after another, and breaks exactly where one of them does, and as the
-/// first of them that does. Without a limit the answer over it has the exit status of the first answer over a file that isn't 0, and writes what the
-/// answers over the files write, up to the end of that one.
+/// first of them that does. In the table's order and without a limit, so with each statement that asks no other, the answer over it has the exit status
+/// of the first answer over a file that isn't 0, and writes what the answers over the files write, up to the end of that one.
 pub fn files_are_answered_in_turn()
     ensures scans { ScansOfFiles }
     ensures answers { AnswersOfFiles }
+    ensures statements { StatementsOfFiles }
 {}
 
 /// A table is cut anew into blocks of one length, of which the last may have fewer rows and none has none: they have its rows in their order, and no

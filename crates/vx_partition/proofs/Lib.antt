@@ -2,11 +2,10 @@ mod NumberLemmas
 mod TableLemmas
 mod EntryLemmas
 mod KeyLemmas
-mod StackLemmas
-mod WalkLemmas
 mod VisitLemmas
 mod ScopeLemmas
 mod ShareLemmas
 mod TakeLemmas
 mod SplitLemmas
 mod NamedLemmas
+mod UntouchedLemmas

@@ -1,13 +1,12 @@
 -- Partitions, share by share, and an expression in parts.
-use Rattle.std.proofs.Common.{◌≡◌, Bool, List, [], ◌∷◌, Option, Ok, Result, refl, ap, sym, subst, ◌∙◌}
+use Rattle.std.proofs.Common.{◌≡◌, List, [], ◌∷◌, Ok, Result, refl, ap, sym, subst, ◌∙◌}
 use Rattle.vx_dtype.specs.Types.{Bytes, Ty}
 use Rattle.vx_expr.specs.Trees.{Tree}
 use Rattle.vx_semantics.specs.Typing.{Refusal, and_then}
 use Rattle.vx_passes.specs.TypedSimplifying.{simplified_typed}
-use Rattle.vx_passes.specs.Splitting.{Partition, Share, Split, Taken, partition_of, partitions_of, partitions_type, split_taken, taken_from, with_root}
-use Rattle.vx_passes.specs.Annotating.{Entry}
+use Rattle.vx_passes.specs.Splitting.{Partition, Share, Split, Taken, partition_of, partitions_of, partitions_type, split_taken, with_root}
 use Rattle.vx_transform.specs.declared.errors.TransformError.{TransformError}
-use Rattle.vx_transform.specs.Rebuilds.{each, or_same}
+use Rattle.vx_transform.specs.Rebuilds.{each}
 use Rattle.vx_transform.specs.TransformAnswers.{Refuses}
 use Rattle.vx_transform.proofs.RebuildLemmas.{handed_on}
 use Rattle.vx_partition.specs.Splits.{SplitColumns, in_columns}
@@ -47,9 +46,3 @@ module _ {A : Type 0} (text : A → Bytes) where
         subst (λ x. Refuses (as_columns (split_taken text t x)) e) (sym is)
         (handed_on (and_then (partitions_of text t ss) (with_root text root)) (λ made. Ok (in_columns text made)) e
         (handed_on (partitions_of text t ss) (with_root text root) e h))
-
-  -- the parts that are taken out by the map of a visit
-  pub taken_whole : (same : A → A → Bool) (m n : List (Entry A)) (e : Tree) (start : List (Share A)) (made : Option Tree) (ss : List (Share A))
-      → n ≡ m → start ≡ [] → taken_from same text n e start ≡ taken_as (or_same e made) ss → taken_from same text m e [] ≡ taken_as (or_same e made) ss
-  taken_whole same m n e start made ss is none h =
-      ap (λ k. taken_from same text k e []) (sym is) ∙ ap (taken_from same text n e) (sym none) ∙ h

@@ -7,10 +7,12 @@ use Rattle.indexmap.specs.IndexMap.{insert_entry}
 use Rattle.vx_expr.specs.Equal.{tree_eq}
 use Rattle.vx_expr.specs.EqualLaws.{tree_decides}
 use Rattle.vx_expr.specs.Trees.{Tree, children_of}
-use Rattle.vx_partition.specs.Numbering.{over_numbers, exprs_of, AreNumbersOf, AreNumbered, IsNumbering, KeepsNumbers, Grows}
+use Rattle.vx_partition.specs.Numbering.{over_numbers, exprs_of, AreNumbersOf, IsNumbering, KeepsNumbers, Grows, HasNumbered}
 use Rattle.vx_partition.specs.declared.numbers.Numbered.{Numbered}
 use Rattle.vx_partition.specs.declared.numbers.Numbers.{Numbers}
 use Rattle.vx_partition.proofs.NumberLemmas.{same_numbers, same_node}
+use Rattle.vx_traversal.specs.FoldTurns.{MayTurn}
+use Rattle.vx_traversal.proofs.FoldTurnLemmas.{turn_on}
 
 -- ---- lists
 
@@ -44,32 +46,13 @@ kept_numbers old new [] (e ∷ es) kept h = absurd h
 kept_numbers old new (n ∷ ns) [] kept h = absurd h
 kept_numbers old new (n ∷ ns) (e ∷ es) kept h = (kept n e h.0, kept_numbers old new ns es kept h.1)
 
--- one more expression with its number behind those of a list
-pub numbered_more : (known : List Tree) (xs ys : List (Tree × ℕ)) (e : Tree) (n : ℕ) → ys ≡ xs ++ (e, n) ∷ [] → AreNumbered known xs → slice_get known n ≡ Some e → AreNumbered known ys
-numbered_more known xs ys e n is h at = subst (AreNumbered known) (sym is) (behind xs h)
-  where
-    behind : (zs : List (Tree × ℕ)) → AreNumbered known zs → AreNumbered known (zs ++ (e, n) ∷ [])
-    behind [] h = (at, tt)
-    behind (z ∷ zs) h = (h.0, behind zs h.1)
-
--- the last expression of a list has its number, and so have the others
-pub numbered_last : (known : List Tree) (xs ys : List (Tree × ℕ)) (e : Tree) (n : ℕ) → ys ≡ xs ++ (e, n) ∷ [] → AreNumbered known ys
-    → AreNumbered known xs × (slice_get known n ≡ Some e)
-numbered_last known xs ys e n is h = apart xs (subst (AreNumbered known) is h)
-  where
-    apart : (zs : List (Tree × ℕ)) → AreNumbered known (zs ++ (e, n) ∷ []) → AreNumbered known zs × (slice_get known n ≡ Some e)
-    apart [] h = (tt, h.0)
-    apart (z ∷ zs) h = let rest = apart zs h.1 in ((h.0, rest.0), rest.1)
-
--- the number at a place is that of the expression there
-pub number_of_place : (known : List Tree) (ns : List ℕ) (es : List Tree) (i n : ℕ) (e : Tree) → AreNumbersOf known ns es
-    → slice_get ns i ≡ Some n → slice_get es i ≡ Some e → slice_get known n ≡ Some e
-number_of_place known [] [] i n e h at_n at_e = absurd (none-some n at_n)
-number_of_place known [] (d ∷ es) i n e h at_n at_e = absurd h
-number_of_place known (m ∷ ns) [] i n e h at_n at_e = absurd h
-number_of_place known (m ∷ ns) (d ∷ es) zero n e h at_n at_e =
-    ap (slice_get known) (sym (same_Some m n at_n)) ∙ h.0 ∙ at_e
-number_of_place known (m ∷ ns) (d ∷ es) (suc i) n e h at_n at_e = number_of_place known ns es i n e h.1 at_n at_e
+-- the numbers of the expressions of two lists, one behind the other
+pub numbers_on : (old new : List Tree) (ms ns : List ℕ) (ds es : List Tree) → KeepsNumbers old new → AreNumbersOf old ms ds → AreNumbersOf new ns es
+    → AreNumbersOf new (ms ++ ns) (ds ++ es)
+numbers_on old new [] ns [] es kept h k = k
+numbers_on old new [] ns (d ∷ ds) es kept h k = absurd h
+numbers_on old new (m ∷ ms) ns [] es kept h k = absurd h
+numbers_on old new (m ∷ ms) ns (d ∷ ds) es kept h k = (kept m d h.0, numbers_on old new ms ns ds es kept h.1 k)
 
 same_exprs : (known : List Tree) (ns : List ℕ) (ds es : List Tree) → AreNumbersOf known ns ds → AreNumbersOf known ns es → ds ≡ es
 same_exprs known [] [] [] h k = refl
@@ -229,3 +212,21 @@ module _ (nodes : List Node) (is : IsNumbering nodes) (key : Tree) (v : Numbered
 
 pub grows_on : (old mid new : Numbers) → Grows old mid → Grows mid new → Grows old new
 grows_on old mid new first second = record { numbering = second.numbering; kept = λ n e at. second.kept n e (first.kept n e at) }
+
+-- ---- the fold
+
+-- one more node is numbered
+numbered_on : (s t u : Numbers) (es : List Tree) (ns : List ℕ) (e : Tree) (n : ℕ) → HasNumbered s es ns t → HasNumbered t (e ∷ []) (n ∷ []) u
+    → HasNumbered s (es ++ e ∷ []) (ns ++ n ∷ []) u
+numbered_on s t u es ns e n first second =
+    record {
+      numbers = numbers_on (exprs_of t.nodes.entries) (exprs_of u.nodes.entries) ns (n ∷ []) es (e ∷ []) second.grown.kept first.numbers second.numbers;
+      grown = grows_on s t u first.grown second.grown;
+    }
+
+-- the children of a node may be numbered in turn
+pub children_numbered : (s : Numbers) (es : List Tree) → IsNumbering s.nodes.entries
+    → MayTurn (λ t _. IsNumbering t.nodes.entries) (λ t e n u. HasNumbered t (e ∷ []) (n ∷ []) u) (HasNumbered s es) es [] s
+children_numbered s es is =
+    turn_on (λ t _. IsNumbering t.nodes.entries) HasNumbered (λ r t ds ns numbered e. numbered.grown.numbering) numbered_on s s es (HasNumbered s es)
+    (record { numbers = tt; grown = record { numbering = is; kept = λ n e at. at } }) (λ ns t numbered. numbered)

@@ -1,41 +1,24 @@
--- Taking parts out of an expression goes by its children, node after node from the leaves up.
-use Rattle.std.proofs.Common.{◌≡◌, ℕ, zero, suc, ◌+◌, ◌<◌, ◌≤◌, ◌==◌, Bool, false, List, [], ◌∷◌, ◌++◌, length, take, drop, Option, Some, None, refl, sym, ap, subst, ◌∙◌, arith, true≢false, Bor}
-use Rattle.std.specs.Prelude.{unwrap_or, is_some, option_copied}
-use Rattle.std.specs.Cmp.{unsigned_Decides}
-use Rattle.std.proofs.Math.ListN.{get_or}
-use Rattle.std.proofs.lemmas.List.{drop_all, length-append}
+-- Taking parts out of an expression goes by its children.
+use Rattle.std.proofs.Common.{◌≡◌, ℕ, suc, ◌==◌, Bool, List, [], ◌∷◌, ◌++◌, length, take, drop, reverse, Option, Some, None, refl, sym, ap, subst, ◌∙◌, append_assoc, append-nil, arith}
+use Rattle.std.specs.Prelude.{unwrap_or}
+use Rattle.std.specs.List.{slice_get}
+use Rattle.std.proofs.lemmas.List.{length-append, reverse-append}
 use Rattle.std.proofs.lemmas.Option.{same_Some, none-some}
 use Rattle.vx_dtype.specs.Types.{Bytes}
 use Rattle.vx_expr.specs.Children.{one_of, where_so}
-use Rattle.vx_expr.specs.PostOrders.{post_order, post_order_all}
 use Rattle.vx_expr.specs.Trees.{Tree, root, literal, get_item, binary, not_of, is_null_of, like, between, cast, list_contains, pack, merge, select, dynamic}
 use Rattle.vx_expr.specs.Trees.{Trees, no_trees, tree, trees_of, listed, children_of}
+use Rattle.vx_traversal.specs.FoldTurns.{MayTurn}
+use Rattle.vx_traversal.proofs.FoldTurnLemmas.{turns}
 use Rattle.vx_passes.specs.Annotating.{Entry, entry_of}
 use Rattle.vx_passes.specs.Splitting.{Share, Taken, AllTaken, parts_count, with_part, part_access, part_or_below, over_list, before_others, taken_from, all_taken_from}
-use Rattle.vx_transform.specs.Rebuilds.{OneByOne, or_same, all_or_same}
-use Rattle.vx_transform.proofs.LoopLemmas.{as_many as one_value_each}
-use Rattle.vx_transform.proofs.RebuildLemmas.{as_many_or_same}
-use Rattle.vx_partition.specs.Takings.{taken_as, ListTaken, put_before, taken_in_turn, taken_below, looked_below, taken_node, looked_expr, below_looked, HasPart, Looks}
-use Rattle.vx_partition.specs.declared.taking.LookedAt.{LookedAt}
-use Rattle.vx_partition.proofs.WalkLemmas.{children_have_fewer, none_has_fewer, Midway, begun, is_right, has_room, values_below, gone_on, one_left, whole_valued, whole_holds, next_element}
-
-with_as_many : (m n : ℕ) (made other : Tree) → m ≡ n → unwrap_or (where_so (m == n) made) other ≡ made
-with_as_many m n made other e = ap (λ b. unwrap_or (where_so b made) other) ((unsigned_Decides m n).1 e)
-
--- lists with equally long fronts are the same in front and behind
-same_front : (xs ys us vs : List Tree) → length xs ≡ length ys → xs ++ us ≡ ys ++ vs → (xs ≡ ys) × (us ≡ vs)
-same_front [] [] us vs many h = (refl, h)
-same_front [] (y ∷ ys) us vs many h = absurd (omega (arith, many))
-same_front (x ∷ xs) [] us vs many h = absurd (omega (arith, many))
-same_front (x ∷ xs) (y ∷ ys) us vs many h =
-    let first : x ≡ y = cc in
-    let others : xs ++ us ≡ ys ++ vs = cc in
-    let fewer : length xs ≡ length ys = omega (arith, many) in
-    let rest = same_front xs ys us vs fewer others in (ap (λ z. z ∷ xs) first ∙ ap (λ zs. y ∷ zs) rest.0, rest.1)
-
--- expressions and the shares then
-abbrev listed_as : {A : Type 0} → List Tree → List (Share A) → ListTaken A
-listed_as es ss = record { expressions = es; shares = ss }
+use Rattle.vx_transform.specs.Rebuilds.{or_same, all_or_same, with_these}
+use Rattle.vx_transform.proofs.RebuildLemmas.{with_as_many}
+use Rattle.vx_partition.specs.Entries.{IsSound, numbered_entries}
+use Rattle.vx_partition.specs.Numbering.{known, AreNumbersOf}
+use Rattle.vx_partition.specs.Takings.{taken_as, ListTaken, listed_as, put_before, taken_in_turn, over_these, taken_below, next_numbers, IsNext, Takes, TakesBelow}
+use Rattle.vx_partition.specs.Views.{shares_view}
+use Rattle.vx_partition.specs.declared.taking.Taking.{Taking}
 
 module _ {A : Type 0} (same : A → A → Bool) (text : A → Bytes) (m : List (Entry A)) where
   -- as a list of the tree's own
@@ -93,140 +76,117 @@ module _ {A : Type 0} (same : A → A → Bool) (text : A → Bytes) (m : List (
   one_part e (x ∷ []) a below ss h = ap (λ b. taken_as (part_access (text b) (parts_count same b ss)) (with_part same b e ss)) (same_Some x a h)
   one_part e (x ∷ y ∷ xs) a below ss h = absurd (none-some a h)
 
-  -- what a node becomes by the one annotation of its entry, if it has one, and by what those below it become
-  node_at : (e : Tree) (o : Option A) (ss : List (Share A)) → o ≡ one_of (entry_of e m)
-      → taken_from same text m e ss
-      ≡ taken_node same text e o ((taken_in_turn same text m (looked_below o e) ss).expressions) ((taken_in_turn same text m (looked_below o e) ss).shares)
-  node_at e None ss is = by_children e ss ∙ no_part e (entry_of e m) (taken_below same text m e) ss (sym is)
-  node_at e (Some a) ss is = by_children e ss ∙ one_part e (entry_of e m) a (taken_below same text m e) ss (sym is)
-
   in_turn_more : (es ds : List Tree) (ss : List (Share A))
       → taken_in_turn same text m (es ++ ds) ss
       ≡ put_before ((taken_in_turn same text m es ss).expressions) (taken_in_turn same text m ds ((taken_in_turn same text m es ss).shares))
   in_turn_more [] ds ss = refl
   in_turn_more (e ∷ es) ds ss = let x = taken_from same text m e ss in ap (put_before (x.expression ∷ [])) (in_turn_more es ds x.shares)
 
-  -- the node after those below it
-  pub node_taken : (before : List Tree) (e : Tree) (o : Option A) (start old new : List (Share A)) (bs cs : List Tree) (d : Tree) → o ≡ one_of (entry_of e m)
-      → length bs ≡ length before → taken_in_turn same text m (before ++ looked_below o e) start ≡ listed_as (bs ++ cs) old
-      → taken_node same text e o cs old ≡ taken_as d new → taken_in_turn same text m (before ++ e ∷ []) start ≡ listed_as (bs ++ d ∷ []) new
-  node_taken before e o start old new bs cs d is many so_far became =
-      let x = taken_in_turn same text m before start in
-      let y = taken_in_turn same text m (looked_below o e) x.shares in
-      let parted : put_before x.expressions y ≡ listed_as (bs ++ cs) old = sym (in_turn_more before (looked_below o e) start) ∙ so_far in
-      let both = same_front x.expressions bs y.expressions cs (as_many before start ∙ sym many) (ap (λ z. z.expressions) parted) in
-      let made : taken_from same text m e x.shares ≡ taken_as d new =
-      node_at e o x.shares is ∙ ap (λ ds. taken_node same text e o ds y.shares) both.1 ∙ ap (λ z. taken_node same text e o cs z.shares) parted ∙ became in
-      in_turn_more before (e ∷ []) start
-      ∙ ap (λ z. listed_as (x.expressions ++ z.expression ∷ []) z.shares) made
-      ∙ ap (λ ds. listed_as (ds ++ d ∷ []) new) both.0
+-- what was made of one more expression
+became_more : (es : List Tree) (made : List (Option Tree)) (e : Tree) (d : Option Tree) → length made ≡ length es
+    → all_or_same (es ++ e ∷ []) (made ++ d ∷ []) ≡ all_or_same es made ++ or_same e d ∷ []
+became_more [] [] e d many = refl
+became_more [] (m ∷ made) e d many = absurd (omega (arith, many))
+became_more (b ∷ es) [] e d many = absurd (omega (arith, many))
+became_more (b ∷ es) (m ∷ made) e d many =
+    let fewer : length made ≡ length es = omega (arith, many) in
+    ap (λ ds. or_same b m ∷ ds) (became_more es made e d fewer)
 
-  -- once the expression is all that is looked at
-  pub whole_taken : (e d : Tree) (start ss : List (Share A)) → taken_in_turn same text m (e ∷ []) start ≡ listed_as (d ∷ []) ss → taken_from same text m e start ≡ taken_as d ss
-  whole_taken e d start ss h =
-      ap (λ z. taken_as (first_or e z.expressions) z.shares) h
-    where
-      first_or : Tree → List Tree → Tree
-      first_or d [] = d
-      first_or d (x ∷ xs) = x
+-- ---- the fold
 
--- ---- the children that are looked at
+-- the last element of a list is the first of the list turned round
+pub last_first : {A : Type 0} (xs ys : List A) (y : A) → ys ≡ xs ++ y ∷ [] → reverse ys ≡ y ∷ reverse xs
+last_first xs ys y is = ap reverse is ∙ reverse-append xs (y ∷ [])
 
--- all children of a node that is no part
-pub all_looked_at : {A : Type 0} (o : Option (Bor A)) (e : Tree) → is_some o ≡ false → looked_below (option_copied o) e ≡ children_of e
-all_looked_at None e h = refl
-all_looked_at (Some a) e h = absurd (true≢false h)
+-- no expression is looked at next where no number is left
+pub none_next : (numbered : List Tree) (ns : List ℕ) (e : Tree) → length ns ≡ 0 → AreNumbersOf numbered (take 1 (reverse ns)) (e ∷ []) → ⊥
+none_next numbered [] e none h = h
+none_next numbered (n ∷ ns) e none h = absurd (omega (arith, none))
 
--- they have fewer nodes than the node's expression
-pub fewer_looked_at : {A : Type 0} (o : Option A) (e : Tree) → length (post_order_all (trees_of (looked_below o e))) < length (post_order e)
-fewer_looked_at None e = children_have_fewer e
-fewer_looked_at (Some a) e = none_has_fewer e
+module _ {A : Type 0} (same : A → A → Bool) (text : A → Bytes) (s : Taking A) (e : Tree) where
+  abbrev m : List (Entry A)
+  m = numbered_entries s.found.now
 
--- ---- what the expressions of a list became
+  -- the last number is that of the node, and the others are left
+  pub next_taken : (rest : List ℕ) (n : ℕ) → s.next.items ≡ rest ++ n ∷ [] → IsNext s e
+      → (slice_get (known s.found.now.numbers) n ≡ Some e) × (reverse rest ≡ drop 1 (next_numbers s))
+  next_taken rest n is next =
+      let first = last_first rest s.next.items n is in
+      let numbers : AreNumbersOf (known s.found.now.numbers) (n ∷ []) (e ∷ []) = subst (λ ns. AreNumbersOf (known s.found.now.numbers) (take 1 ns) (e ∷ [])) first next.number in
+      (numbers.0, ap (drop 1) (sym first))
 
--- any value may be one of an expression
-abbrev pub Any : Tree → Option Tree → Type 0
-Any e made = Unit {0}
+  -- the node becomes a part
+  pub taken_part : (a : A) (d : Tree) (t : Taking A) → Some a ≡ one_of (entry_of e m) → t.found ≡ s.found → next_numbers t ≡ drop 1 (next_numbers s)
+      → d ≡ part_access (text a) (parts_count same a (shares_view s.shares)) → shares_view t.shares ≡ with_part same a e (shares_view s.shares) → Takes same text s e (Some d) t
+  taken_part a d t at found next access shares =
+      record {
+        found = found;
+        next = next;
+        taken =
+            by_children same text m e (shares_view s.shares) ∙ one_part same text m e (entry_of e m) a (taken_below same text m e) (shares_view s.shares) (sym at)
+            ∙ (λ i. taken_as (sym access i) (sym shares i));
+      }
 
-became_parted : (bs cs : List Tree) (made : List (Option Tree)) (k : ℕ) → OneByOne Any bs (take k made)
-    → all_or_same (bs ++ cs) made ≡ all_or_same bs (take k made) ++ all_or_same cs (drop k made)
-became_parted [] cs made zero h = refl
-became_parted [] cs [] (suc k) h = refl
-became_parted [] cs (m ∷ made) (suc k) h = absurd h
-became_parted (b ∷ bs) cs made zero h = absurd h
-became_parted (b ∷ bs) cs [] (suc k) h = absurd h
-became_parted (b ∷ bs) cs (m ∷ made) (suc k) h = ap (λ ds. or_same b m ∷ ds) (became_parted bs cs made k h.1)
+  -- the node over what its children became
+  pub taken_over : (made : List (Option Tree)) (t : Taking A) (d : Option Tree) → TakesBelow same text s e made t
+      → or_same e d ≡ with_these e (all_or_same (children_of e) made) → Takes same text s e d t
+  taken_over made t d below is =
+      record {
+        found = below.found;
+        next = below.next;
+        taken =
+            by_children same text m e (shares_view s.shares) ∙ no_part same text m e (entry_of e m) (taken_below same text m e) (shares_view s.shares) below.none
+            ∙ ap (over_these e) below.taken ∙ ap (λ c. taken_as c (shares_view t.shares)) (sym is);
+      }
 
-became_more : (bs : List Tree) (made : List (Option Tree)) (e : Tree) (d : Option Tree) → OneByOne Any bs made
-    → all_or_same (bs ++ e ∷ []) (made ++ d ∷ []) ≡ all_or_same bs made ++ or_same e d ∷ []
-became_more [] [] e d h = refl
-became_more [] (m ∷ made) e d h = absurd h
-became_more (b ∷ bs) [] e d h = absurd h
-became_more (b ∷ bs) (m ∷ made) e d h = ap (λ ds. or_same b m ∷ ds) (became_more bs made e d h.1)
+  -- some of its children were looked at, and the numbers of the others are next
+  abbrev Midway : List Tree → List Tree → List (Option Tree) → Taking A → Type 0
+  Midway done rest made t =
+      (done ++ rest ≡ children_of e) × (t.found ≡ s.found) × (length made ≡ length done)
+      × (taken_in_turn same text m done (shares_view s.shares) ≡ listed_as (all_or_same done made) (shares_view t.shares))
+      × (ns : List ℕ) × AreNumbersOf (known s.found.now.numbers) ns rest × (next_numbers t ≡ ns ++ drop 1 (next_numbers s))
 
-module _ {A : Type 0} (same : A → A → Bool) (text : A → Bytes) (m : List (Entry A)) (start : List (Share A)) where
-  -- what was made so far is what these expressions become in turn
-  abbrev pub IsTaken : List (Share A) → List (Option Tree) → List Tree → Type 0
-  IsTaken ss made es = taken_in_turn same text m es start ≡ listed_as (all_or_same es made) ss
+  next_child : IsSound s.found.now → (done : List Tree) (c : Tree) (rest : List Tree) (made : List (Option Tree)) (t : Taking A) → Midway done (c ∷ rest) made t
+      → IsNext t c × ((x : Option Tree) (u : Taking A) → Takes same text t c x u → Midway (done ++ c ∷ []) rest (made ++ x ∷ []) u)
+  next_child sound done c rest made t (whole, found, many, taken, [], numbers, next) = absurd numbers
+  next_child sound done c rest made t (whole, found, many, taken, n ∷ ns, numbers, next) = (
+    record {
+      sound = subst (λ f. IsSound f.now) (sym found) sound;
+      number =
+          subst (λ ms. AreNumbersOf (known t.found.now.numbers) (take 1 ms) (c ∷ [])) (sym next)
+          (subst (λ f. slice_get (known f.now.numbers) n ≡ Some c) (sym found) numbers.0, tt);
+    },
+    λ x u takes. (
+      append_assoc done (c ∷ []) rest ∙ whole,
+      takes.found ∙ found,
+      omega (arith, many, length-append made (x ∷ []), length-append done (c ∷ [])),
+      in_turn_more same text m done (c ∷ []) (shares_view s.shares)
+          ∙ ap (λ z. put_before z.expressions (taken_in_turn same text m (c ∷ []) z.shares)) taken
+          ∙ ap (λ f. put_before (all_or_same done made) (taken_in_turn same text (numbered_entries f.now) (c ∷ []) (shares_view t.shares))) (sym found)
+          ∙ ap (λ z. listed_as (all_or_same done made ++ z.expression ∷ []) z.shares) takes.taken
+          ∙ ap (λ ds. listed_as ds (shares_view u.shares)) (sym (became_more done made c x many)),
+      ns,
+      numbers.1,
+      takes.next ∙ ap (drop 1) next,
+    ),
+  )
 
-  -- the node after those below it, as the loop makes it
-  pub next_taken : (e : Tree) (o : Option A) (old new : List (Share A)) (made more : List (Option Tree)) (k : ℕ) (d : Option Tree) → o ≡ one_of (entry_of e m)
-      → more ≡ take k made ++ d ∷ [] → taken_node same text e o (all_or_same (looked_below o e) (drop k made)) old ≡ taken_as (or_same e d) new
-      → (before : List Tree) → OneByOne Any before (take k made) → IsTaken old made (before ++ looked_below o e) → IsTaken new more (before ++ e ∷ [])
-  next_taken e o old new made more k d is grown became before h so_far =
-      node_taken same text m before e o start old new (all_or_same before (take k made)) (all_or_same (looked_below o e) (drop k made)) (or_same e d) is
-      (as_many_or_same before (take k made)) (so_far ∙ ap (λ ds. listed_as ds old) (became_parted before (looked_below o e) made k h)) became
-      ∙ ap (λ ds. listed_as ds new) (sym (became_more before (take k made) e d h) ∙ ap (all_or_same (before ++ e ∷ [])) (sym grown))
+  no_child : one_of (entry_of e m) ≡ None → (done : List Tree) (made : List (Option Tree)) (t : Taking A) → Midway done [] made t → TakesBelow same text s e made t
+  no_child none done made t (whole, found, many, taken, n ∷ ns, numbers, next) = absurd numbers
+  no_child none done made t (whole, found, many, taken, [], numbers, next) =
+      let all : done ≡ children_of e = sym (append-nil done) ∙ whole in
+      record {
+        none = none;
+        found = found;
+        next = next;
+        many = subst (λ es. length made ≡ length es) all many;
+        taken = subst (λ es. taken_in_turn same text m es (shares_view s.shares) ≡ listed_as (all_or_same es made) (shares_view t.shares)) all taken;
+      }
 
-  -- at the end the last that was made is what the expression becomes
-  pub last_taken : (e : Tree) (ss : List (Share A)) (made others : List (Option Tree)) (d : Option Tree) → made ≡ others ++ d ∷ [] → OneByOne Any (e ∷ []) made
-      → IsTaken ss made (e ∷ []) → taken_from same text m e start ≡ taken_as (or_same e d) ss
-  last_taken e ss made [] d is h so = whole_taken same text m e (or_same e d) start ss (so ∙ ap (λ ds. listed_as (all_or_same (e ∷ []) ds) ss) is)
-  last_taken e ss made (o ∷ others) d is h so =
-      let one : length made ≡ 1 = one_value_each Any (e ∷ []) made h in
-      absurd (omega (arith, one, ap length is, length-append others (d ∷ [])))
-
--- ---- the loop
-
-module _ {A : Type 0} (same : A → A → Bool) (text : A → Bytes) (m : List (Entry A)) (start : List (Share A)) (whole : Tree) where
-  -- the nodes that are left make the expression of those that are looked at, and these become in turn what was made so far
-  abbrev pub MidTake : List (Share A) → List (LookedAt A) → List (Option Tree) → Type 0
-  MidTake ss vs made = Midway looked_expr below_looked (HasPart m) Any (IsTaken same text m start ss made) vs made whole
-
-  pub take_begun : (vs : List (LookedAt A)) (made : List (Option Tree)) → Looks m vs [] whole → made ≡ [] → MidTake start vs made
-  take_begun vs made walk none = begun looked_expr below_looked (HasPart m) Any (IsTaken same text m start start made) vs made whole walk none refl
-
-  module _ (ss : List (Share A)) (nodes : List (LookedAt A)) (i : ℕ) (v : LookedAt A) (made : List (Option Tree)) (within : i < length nodes) (at : v ≡ get_or nodes i v)
-      (h : MidTake ss (drop i nodes) made) where
-    here : MidTake ss (v ∷ drop (i + 1) nodes) made
-    here = subst (λ vs. MidTake ss vs made) (next_element nodes i v within at) h
-
-    pub take_room : length (below_looked v) ≤ length made
-    take_room = has_room looked_expr below_looked (HasPart m) Any (IsTaken same text m start ss made) v (drop (i + 1) nodes) made whole here
-
-    pub made_below : (k : ℕ) → k + length (below_looked v) ≡ length made → length (drop k made) ≡ length (below_looked v)
-    made_below k cut =
-        one_value_each Any (below_looked v) (drop k made)
-        (values_below looked_expr below_looked (HasPart m) Any (IsTaken same text m start ss made) v (drop (i + 1) nodes) made whole here k cut)
-
-    pub take_next : (k : ℕ) → k + length (below_looked v) ≡ length made → (new : List (Share A)) (d : Option Tree) (more : List (Option Tree)) → more ≡ take k made ++ d ∷ []
-        → taken_node same text (looked_expr v) (option_copied v.part_of) (all_or_same (below_looked v) (drop k made)) ss ≡ taken_as (or_same (looked_expr v) d) new
-        → MidTake new (drop (i + 1) nodes) more
-    take_next k cut new d more grown became =
-        gone_on looked_expr below_looked (HasPart m) Any (IsTaken same text m start ss made) v (drop (i + 1) nodes) made whole here k cut
-        Any (IsTaken same text m start new more) d more grown (λ e x a. a) tt
-        (next_taken same text m start (looked_expr v) (option_copied v.part_of) ss new made more k d
-        (is_right looked_expr below_looked (HasPart m) Any (IsTaken same text m start ss made) v (drop (i + 1) nodes) made whole here) grown became)
-
-  module _ (ss : List (Share A)) (nodes : List (LookedAt A)) (i : ℕ) (made : List (Option Tree)) (past : length nodes ≤ i) (h : MidTake ss (drop i nodes) made) where
-    at_end : MidTake ss [] made
-    at_end = subst (λ vs. MidTake ss vs made) (drop_all i nodes past) h
-
-    pub take_one_left : made ≡ [] → ⊥
-    take_one_left = one_left looked_expr below_looked (HasPart m) Any (IsTaken same text m start ss made) made whole at_end
-
-    pub take_ended : (others : List (Option Tree)) (d : Option Tree) → made ≡ others ++ d ∷ [] → taken_from same text m whole start ≡ taken_as (or_same whole d) ss
-    take_ended others d is =
-        last_taken same text m start whole ss made others d is
-        (whole_valued looked_expr below_looked (HasPart m) Any (IsTaken same text m start ss made) made whole at_end)
-        (whole_holds looked_expr below_looked (HasPart m) Any (IsTaken same text m start ss made) made whole at_end)
+  -- the children of a node that becomes no part may be looked at in turn, once their numbers are next
+  pub children_taken : (t : Taking A) (ns : List ℕ) → IsSound s.found.now → one_of (entry_of e m) ≡ None → AreNumbersOf (known s.found.now.numbers) ns (children_of e)
+      → t.found ≡ s.found → t.shares ≡ s.shares → next_numbers t ≡ ns ++ drop 1 (next_numbers s)
+      → MayTurn IsNext (Takes same text) (TakesBelow same text s e) (children_of e) [] t
+  children_taken t ns sound none numbers found shares next =
+      turns IsNext (Takes same text) (TakesBelow same text s e) Midway (next_child sound) (no_child none) (children_of e) [] [] t
+      (refl, found, refl, ap (λ ss. listed_as [] (shares_view ss)) (sym shares), ns, numbers, next)

@@ -1,20 +1,21 @@
 -- A visit of an expression goes by its children.
-use Rattle.std.proofs.Common.{◌≡◌, ℕ, ◌+◌, ◌<◌, ◌≤◌, Bool, List, [], ◌∷◌, ◌++◌, length, take, drop, Some, Ok, Err, Result, refl, sym, ap, subst, ◌∙◌, append_assoc, append-nil, arith}
+use Rattle.std.proofs.Common.{◌≡◌, ℕ, ◌+◌, ◌<◌, ◌≤◌, ◌==◌, Bool, true, false, List, [], ◌∷◌, ◌++◌, length, take, Some, Ok, Err, Result, refl, sym, ap, ◌∙◌, append_assoc, append-nil, arith, true≢false}
 use Rattle.std.specs.Prelude.{OnOk}
+use Rattle.std.specs.Cmp.{unsigned_Decides}
 use Rattle.std.specs.List.{slice_get, flat_map}
 use Rattle.std.proofs.Math.ListN.{get_or}
-use Rattle.std.proofs.lemmas.List.{drop_all, take_all, take_more}
-use Rattle.vx_expr.specs.PostOrders.{post_order, post_order_all}
+use Rattle.std.proofs.lemmas.List.{take_all, take_more}
 use Rattle.vx_expr.specs.Trees.{Tree, root, literal, get_item, binary, not_of, is_null_of, like, between, cast, list_contains, pack, merge, select, dynamic}
-use Rattle.vx_expr.specs.Trees.{Trees, no_trees, tree, trees_of, listed, children_of}
+use Rattle.vx_expr.specs.Trees.{Trees, no_trees, tree, listed, children_of}
+use Rattle.vx_traversal.specs.FoldTurns.{MayTurn}
+use Rattle.vx_traversal.proofs.FoldTurnLemmas.{turn_on}
 use Rattle.vx_passes.specs.Annotating.{Entry, with_annotations, annotated_down, annotated_up, annotated_node, annotated_from, all_annotated_from}
-use Rattle.vx_partition.specs.Entries.{numbered_entries}
-use Rattle.vx_partition.specs.Numbering.{known, AreNumbersOf, KeepsNumbers}
-use Rattle.vx_partition.specs.Visits.{visited_in_turn, visited_below, visited_node, visited_expr, below_visited, HasOwn, Visits}
-use Rattle.vx_partition.specs.declared.annotating.Visited.{Visited}
-use Rattle.vx_partition.specs.declared.numbered.NumberedAnnotations.{NumberedAnnotations}
-use Rattle.vx_partition.proofs.StackLemmas.{HasNumber, are_numbers}
-use Rattle.vx_partition.proofs.WalkLemmas.{children_have_fewer, none_has_fewer, Midway, begun, is_right, has_room, values_below, gone_on, one_left, last_is, whole_holds, next_element}
+use Rattle.vx_partition.specs.Entries.{IsSound, Extends, numbered_entries}
+use Rattle.vx_partition.specs.Numbering.{known}
+use Rattle.vx_partition.specs.Visits.{visited_in_turn, HasVisited, HasVisitedBelow}
+use Rattle.vx_partition.specs.declared.annotating.Visit.{Visit}
+use Rattle.vx_partition.proofs.EntryLemmas.{extends_on}
+use Rattle.vx_partition.proofs.TableLemmas.{numbers_on}
 
 module _ {A : Type 0} (same : A → A → Bool) (annotate : Tree → List A) where
   all_in_turn : (es : Trees) (m : List (Entry A)) → all_annotated_from same annotate es m ≡ visited_in_turn same annotate (listed es) m
@@ -46,47 +47,24 @@ module _ {A : Type 0} (same : A → A → Bool) (annotate : Tree → List A) whe
   in_turn_more [] ds m = refl
   in_turn_more (e ∷ es) ds m = in_turn_more es ds (annotated_from same annotate e m)
 
-  -- what stands below a node can be visited before the node's own way down
-  below_first : (e : Tree) (ys : List A) (m : List (Entry A))
-      → annotated_down same e ys (visited_in_turn same annotate (children_of e)) m ≡ annotated_down same e ys (λ k. k) (visited_in_turn same annotate (visited_below ys e) m)
-  below_first e [] m = refl
-  below_first e (y ∷ ys) m = refl
+  -- a node that has no annotations itself gets what its children hold once these are visited
+  up_alone : (e : Tree) (ys : List A) (m : List (Entry A)) → ys ≡ [] → annotated_node same (λ _. ys) e (visited_in_turn same annotate (children_of e)) m
+      ≡ annotated_up same e (visited_in_turn same annotate (children_of e) m)
+  up_alone e ys m none = ap (λ zs. annotated_up same e (annotated_down same e zs (visited_in_turn same annotate (children_of e)) m)) none
 
-  -- the node after those below it
-  pub node_visited : (before : List Tree) (e : Tree) (ys : List A) (m old new : List (Entry A)) → ys ≡ annotate e
-      → visited_in_turn same annotate (before ++ visited_below ys e) m ≡ old → new ≡ visited_node same e ys old → visited_in_turn same annotate (before ++ e ∷ []) m ≡ new
-  node_visited before e ys m old new own so_far is =
-      let k = visited_in_turn same annotate before m in
-      in_turn_more before (e ∷ []) m ∙ by_children e k
-      ∙ ap (λ zs. annotated_up same e (annotated_down same e zs (visited_in_turn same annotate (children_of e)) k)) (sym own)
-      ∙ ap (annotated_up same e) (below_first e ys k)
-      ∙ ap (visited_node same e ys) (sym (in_turn_more before (visited_below ys e) m) ∙ so_far)
-      ∙ sym is
+  -- a node that has some gets these first, and its children aren't visited
+  own_first : (e : Tree) (ys : List A) (m : List (Entry A)) → (length ys ≡ 0 → ⊥) → annotated_node same (λ _. ys) e (visited_in_turn same annotate (children_of e)) m
+      ≡ annotated_up same e (with_annotations same e ys m)
+  own_first e [] m some = absurd (some refl)
+  own_first e (y ∷ ys) m some = refl
 
--- where a node has no annotations itself the way down leaves the map
-pub none_itself : {A : Type 0} (same : A → A → Bool) (e : Tree) (ys : List A) (m : List (Entry A)) → length ys ≡ 0 → annotated_down same e ys (λ k. k) m ≡ m
-none_itself same e [] m h = refl
-none_itself same e (y ∷ ys) m h = absurd (omega (arith, h))
+-- a list that is told as empty is, and one that isn't has an element
+pub empty_is : {A : Type 0} (xs : List A) (n : ℕ) (b : Bool) → b ≡ (n == 0) → n ≡ length xs → b ≡ true → xs ≡ []
+empty_is [] n b told long so = refl
+empty_is (x ∷ xs) n b told long so = absurd (omega (arith, long, (unsigned_Decides n 0).0 (sym told ∙ so)))
 
--- else the node gets these
-pub some_itself : {A : Type 0} (same : A → A → Bool) (e : Tree) (ys : List A) (m : List (Entry A)) → (length ys ≡ 0 → ⊥)
-    → annotated_down same e ys (λ k. k) m ≡ with_annotations same e ys m
-some_itself same e [] m h = absurd (h refl)
-some_itself same e (y ∷ ys) m h = refl
-
--- the children that are visited: all where the node has no annotations itself, and else none
-pub all_below : {A : Type 0} (ys : List A) (e : Tree) → length ys ≡ 0 → visited_below ys e ≡ children_of e
-all_below [] e h = refl
-all_below (y ∷ ys) e h = absurd (omega (arith, h))
-
-pub none_below : {A : Type 0} (ys : List A) (e : Tree) → (length ys ≡ 0 → ⊥) → visited_below ys e ≡ []
-none_below [] e h = absurd (h refl)
-none_below (y ∷ ys) e h = refl
-
--- they have fewer nodes than the node's expression
-pub fewer_below : {A : Type 0} (ys : List A) (e : Tree) → length (post_order_all (trees_of (visited_below ys e))) < length (post_order e)
-fewer_below [] e = children_have_fewer e
-fewer_below (y ∷ ys) e = none_has_fewer e
+pub filled_is : {A : Type 0} (xs : List A) (n : ℕ) (b : Bool) → b ≡ (n == 0) → n ≡ length xs → b ≡ false → length xs ≡ 0 → ⊥
+filled_is xs n b told long so none = true≢false (sym (told ∙ (unsigned_Decides n 0).1 (long ∙ none)) ∙ so)
 
 -- what holds where there is an answer
 pub on_ok : {X E : Type 0} (r : Result X E) (P Q : Type 0) → (P → Q) → OnOk r P → OnOk r Q
@@ -107,52 +85,57 @@ next_held f xs i x held held_with so_far within at is =
 pub all_held : {X Y : Type 0} (f : X → List Y) (xs : List X) (i : ℕ) (held : List Y) → held ≡ flat_map f (take i xs) → length xs ≤ i → held ≡ flat_map f xs
 all_held f xs i held so_far past = so_far ∙ ap (flat_map f) (take_all i xs past)
 
--- ---- the loop
+-- ---- the fold
 
-module _ {A : Type 0} (same : A → A → Bool) (annotate : Tree → List A) (start : NumberedAnnotations A) (whole : Tree) where
-  -- the entries are those after a visit of these expressions in turn
-  abbrev AreVisited : NumberedAnnotations A → List Tree → Type 0
-  AreVisited found es = visited_in_turn same annotate es (numbered_entries start) ≡ numbered_entries found
+module _ {F A : Type 0} (same : A → A → Bool) (annotated : F → Tree → List A) where
+  -- one more node is visited
+  visited_on : (s t u : Visit F A) (es : List Tree) (ns : List ℕ) (e : Tree) (n : ℕ) → HasVisited same annotated s es ns t → HasVisited same annotated t (e ∷ []) (n ∷ []) u
+      → HasVisited same annotated s (es ++ e ∷ []) (ns ++ n ∷ []) u
+  visited_on s t u es ns e n first second =
+      record {
+        rule = second.rule ∙ first.rule;
+        entries =
+            second.entries ∙ ap (λ rule. annotated_from same (annotated rule.now) e (numbered_entries t.found)) first.rule
+            ∙ ap (annotated_from same (annotated s.rule.now) e) first.entries ∙ sym (in_turn_more same (annotated s.rule.now) es (e ∷ []) (numbered_entries s.found));
+        extended = extends_on s.found t.found u.found first.extended second.extended;
+        numbers = numbers_on (known t.found.numbers) (known u.found.numbers) ns (n ∷ []) es (e ∷ []) second.extended.kept first.numbers second.numbers;
+      }
 
-  -- the nodes that are left make the expression of those that are visited, and these have the numbers
-  abbrev pub MidVisit : NumberedAnnotations A → List (Visited A) → List ℕ → Type 0
-  MidVisit found vs ns = Midway visited_expr below_visited (HasOwn annotate) (HasNumber (known found.numbers)) (AreVisited found) vs ns whole
+  module _ (s : Visit F A) (e : Tree) where
+    -- the children of a node that has no annotations itself may be visited in turn
+    pub children_visited : annotated s.rule.now e ≡ [] → IsSound s.found
+        → MayTurn (λ t _. IsSound t.found) (λ t d n u. HasVisited same annotated t (d ∷ []) (n ∷ []) u)
+        (HasVisitedBelow same annotated s e) (children_of e) [] s
+    children_visited none sound =
+        turn_on (λ t _. IsSound t.found) (HasVisited same annotated) (λ r t ds ns visited d. visited.extended.sound) visited_on s s (children_of e)
+        (HasVisitedBelow same annotated s e)
+        (record { rule = refl; entries = refl; extended = record { sound = sound; kept = λ n d at. at }; numbers = tt }) (λ ns t visited. record { none = none; visited = visited })
 
-  pub visit_begun : (vs : List (Visited A)) (ns : List ℕ) → Visits annotate vs [] whole → ns ≡ [] → MidVisit start vs ns
-  visit_begun vs ns walk none = begun visited_expr below_visited (HasOwn annotate) (HasNumber (known start.numbers)) (AreVisited start) vs ns whole walk none refl
+    -- then it is
+    pub visited_over : (ns : List ℕ) (t u : Visit F A) (n : ℕ) → HasVisitedBelow same annotated s e ns t → u.rule ≡ t.rule
+        → numbered_entries u.found ≡ annotated_up same e (numbered_entries t.found) → Extends t.found u.found → slice_get (known u.found.numbers) n ≡ Some e
+        → HasVisited same annotated s (e ∷ []) (n ∷ []) u
+    visited_over ns t u n below rule entries extended number =
+        record {
+          rule = rule ∙ below.visited.rule;
+          entries =
+              entries ∙ ap (annotated_up same e) below.visited.entries
+              ∙ sym (by_children same (annotated s.rule.now) e (numbered_entries s.found) ∙ up_alone same (annotated s.rule.now) e (annotated s.rule.now e) (numbered_entries s.found) below.none);
+          extended = extends_on s.found t.found u.found below.visited.extended extended;
+          numbers = (number, tt);
+        }
 
-  module _ (found : NumberedAnnotations A) (nodes : List (Visited A)) (i : ℕ) (v : Visited A) (ns : List ℕ) (within : i < length nodes) (at : v ≡ get_or nodes i v)
-      (h : MidVisit found (drop i nodes) ns) where
-    here : MidVisit found (v ∷ drop (i + 1) nodes) ns
-    here = subst (λ vs. MidVisit found vs ns) (next_element nodes i v within at) h
-
-    pub visit_room : length (below_visited v) ≤ length ns
-    visit_room = has_room visited_expr below_visited (HasOwn annotate) (HasNumber (known found.numbers)) (AreVisited found) v (drop (i + 1) nodes) ns whole here
-
-    pub numbers_below : (k : ℕ) → k + length (below_visited v) ≡ length ns → AreNumbersOf (known found.numbers) (drop k ns) (below_visited v)
-    numbers_below k cut =
-        are_numbers (known found.numbers) (below_visited v) (drop k ns)
-        (values_below visited_expr below_visited (HasOwn annotate) (HasNumber (known found.numbers)) (AreVisited found) v (drop (i + 1) nodes) ns whole here k cut)
-
-    pub visit_next : (k : ℕ) → k + length (below_visited v) ≡ length ns → (new : NumberedAnnotations A) (n : ℕ) (more : List ℕ) → more ≡ take k ns ++ n ∷ []
-        → KeepsNumbers (known found.numbers) (known new.numbers) → slice_get (known new.numbers) n ≡ Some (visited_expr v)
-        → numbered_entries new ≡ visited_node same (visited_expr v) v.own.items (numbered_entries found) → MidVisit new (drop (i + 1) nodes) more
-    visit_next k cut new n more grown kept number entries =
-        gone_on visited_expr below_visited (HasOwn annotate) (HasNumber (known found.numbers)) (AreVisited found) v (drop (i + 1) nodes) ns whole here k cut
-        (HasNumber (known new.numbers)) (AreVisited new) n more grown (λ e x at. kept x e at) number
-        (λ before numbered so_far.
-        node_visited same annotate before (visited_expr v) v.own.items (numbered_entries start) (numbered_entries found) (numbered_entries new)
-        (is_right visited_expr below_visited (HasOwn annotate) (HasNumber (known found.numbers)) (AreVisited found) v (drop (i + 1) nodes) ns whole here) so_far entries)
-
-  module _ (found : NumberedAnnotations A) (nodes : List (Visited A)) (i : ℕ) (ns : List ℕ) (past : length nodes ≤ i) (h : MidVisit found (drop i nodes) ns) where
-    at_end : MidVisit found [] ns
-    at_end = subst (λ vs. MidVisit found vs ns) (drop_all i nodes past) h
-
-    pub visit_one_left : ns ≡ [] → ⊥
-    visit_one_left = one_left visited_expr below_visited (HasOwn annotate) (HasNumber (known found.numbers)) (AreVisited found) ns whole at_end
-
-    pub visit_number : (others : List ℕ) (n : ℕ) → ns ≡ others ++ n ∷ [] → slice_get (known found.numbers) n ≡ Some whole
-    visit_number = last_is visited_expr below_visited (HasOwn annotate) (HasNumber (known found.numbers)) (AreVisited found) ns whole at_end
-
-    pub visit_entries : numbered_entries found ≡ annotated_from same annotate whole (numbered_entries start)
-    visit_entries = sym (whole_holds visited_expr below_visited (HasOwn annotate) (HasNumber (known found.numbers)) (AreVisited found) ns whole at_end)
+    -- a node that has annotations itself is visited alone
+    pub visited_alone : (ys : List A) (u : Visit F A) (n : ℕ) → ys ≡ annotated s.rule.now e → (length ys ≡ 0 → ⊥) → u.rule ≡ s.rule
+        → numbered_entries u.found ≡ annotated_up same e (with_annotations same e ys (numbered_entries s.found)) → Extends s.found u.found
+        → slice_get (known u.found.numbers) n ≡ Some e → HasVisited same annotated s (e ∷ []) (n ∷ []) u
+    visited_alone ys u n own some rule entries extended number =
+        record {
+          rule = rule;
+          entries =
+              entries ∙ sym (own_first same (annotated s.rule.now) e ys (numbered_entries s.found) some)
+              ∙ ap (λ zs. annotated_node same (λ _. zs) e (visited_in_turn same (annotated s.rule.now) (children_of e)) (numbered_entries s.found)) own
+              ∙ sym (by_children same (annotated s.rule.now) e (numbered_entries s.found));
+          extended = extended;
+          numbers = (number, tt);
+        }

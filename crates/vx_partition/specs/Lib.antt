@@ -1,7 +1,6 @@
 pub mod Numbering
 pub mod Views
 pub mod Entries
-pub mod Walks
 pub mod Visits
 pub mod Scopes
 pub mod Takings

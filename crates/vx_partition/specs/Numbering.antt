@@ -34,11 +34,6 @@ AreNumbersOf known [] [] = Unit {0}
 AreNumbersOf known (n ∷ ns) (e ∷ es) = (slice_get known n ≡ Some e) × AreNumbersOf known ns es
 AreNumbersOf known _ _ = ⊥
 
--- each of these expressions has the number beside it
-abbrev pub AreNumbered : List Tree → List (Tree × ℕ) → Type 0
-AreNumbered known [] = Unit {0}
-AreNumbered known (x ∷ xs) = (slice_get known x.1 ≡ Some x.0) × AreNumbered known xs
-
 -- each entry has the numbers of its expression's children and stands under the node over these, and no expression has two numbers
 pub record IsNumbering (nodes : List (Tree × Numbered)) : Type 0 where
   pub keyed : (n : ℕ) (r : Tree × Numbered) → slice_get nodes n ≡ Some r → r.0 ≡ over_numbers r.1.expr r.1.below.items
@@ -53,3 +48,8 @@ KeepsNumbers old new = (n : ℕ) (e : Tree) → slice_get old n ≡ Some e → s
 pub record Grows (old new : Numbers) : Type 0 where
   pub numbering : IsNumbering new.nodes.entries
   pub kept : KeepsNumbers (known old) (known new)
+
+-- these expressions were numbered so
+pub record HasNumbered (old : Numbers) (es : List Tree) (ns : List ℕ) (new : Numbers) : Type 0 where
+  pub numbers : AreNumbersOf (known new) ns es
+  pub grown : Grows old new

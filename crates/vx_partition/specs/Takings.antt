@@ -1,14 +1,16 @@
 -- For the checker: no public clause cites this.
--- Parts taken out of several expressions in turn, out of the children of a node, and of one node after those below it.
-use Rattle.std.specs.Prelude.{◌≡◌, Bool, List, [], ◌∷◌, ◌++◌, Option, Some, None, option_copied}
+-- Parts taken out of several expressions in turn, and out of the children of a node.
+use Rattle.std.specs.Prelude.{◌≡◌, ℕ, Bool, List, [], ◌∷◌, ◌++◌, length, take, drop, reverse, Option, None}
 use Rattle.vx_dtype.specs.Types.{Bytes}
 use Rattle.vx_expr.specs.Children.{one_of}
 use Rattle.vx_expr.specs.Trees.{Tree, children_of}
 use Rattle.vx_passes.specs.Annotating.{Entry, entry_of}
-use Rattle.vx_passes.specs.Splitting.{Share, Taken, parts_count, with_part, part_access, taken_from}
-use Rattle.vx_transform.specs.Rebuilds.{with_these}
-use Rattle.vx_partition.specs.Walks.{Walks}
-use Rattle.vx_partition.specs.declared.taking.LookedAt.{LookedAt}
+use Rattle.vx_passes.specs.Splitting.{Share, Taken, taken_from}
+use Rattle.vx_transform.specs.Rebuilds.{or_same, all_or_same, with_these}
+use Rattle.vx_partition.specs.Entries.{IsSound, numbered_entries}
+use Rattle.vx_partition.specs.Numbering.{known, AreNumbersOf}
+use Rattle.vx_partition.specs.Views.{shares_view}
+use Rattle.vx_partition.specs.declared.taking.Taking.{Taking}
 
 -- what an expression became, and the shares then
 abbrev pub taken_as : {A : Type 0} → Tree → List (Share A) → Taken A
@@ -18,6 +20,9 @@ taken_as e ss = record { expression = e; shares = ss }
 pub record ListTaken (A : Type 0) : Type 0 where
   pub expressions : List Tree
   pub shares : List (Share A)
+
+abbrev pub listed_as : {A : Type 0} → List Tree → List (Share A) → ListTaken A
+listed_as es ss = record { expressions = es; shares = ss }
 
 -- with these expressions before the others
 abbrev pub put_before : {A : Type 0} → List Tree → ListTaken A → ListTaken A
@@ -40,26 +45,25 @@ over_these e x = taken_as (with_these e x.expressions) x.shares
 abbrev pub taken_below : {A : Type 0} → (A → A → Bool) → (A → Bytes) → List (Entry A) → Tree → List (Share A) → Taken A
 taken_below same text m e ss = over_these e (taken_in_turn same text m (children_of e) ss)
 
--- the children that are looked at of a node which becomes the next part of this annotation; none where it becomes a part
-abbrev pub looked_below : {A : Type 0} → Option A → Tree → List Tree
-looked_below None e = children_of e
-looked_below (Some a) e = []
+-- the numbers of the expressions that are looked at next, the first of them first
+abbrev pub next_numbers : {A : Type 0} → Taking A → List ℕ
+next_numbers s = reverse s.next.items
 
--- what a node becomes which becomes the next part of this annotation, or stays over what its children became
-abbrev pub taken_node : {A : Type 0} → (A → A → Bool) → (A → Bytes) → Tree → Option A → List Tree → List (Share A) → Taken A
-taken_node same text e None cs ss = taken_as (with_these e cs) ss
-taken_node same text e (Some a) cs ss = taken_as (part_access (text a) (parts_count same a ss)) (with_part same a e ss)
+-- the expression is looked at next
+pub record IsNext {A : Type 0} (s : Taking A) (e : Tree) : Type 0 where
+  pub sound : IsSound s.found.now
+  pub number : AreNumbersOf (known s.found.now.numbers) (take 1 (next_numbers s)) (e ∷ [])
 
--- the expression of a node that is looked at, its children that are, and its annotation, which is the one of its entry, if it has one
-abbrev pub looked_expr : {A : Type 0} → LookedAt A → Tree
-looked_expr v = v.expr.now
+-- parts were taken out of the expression, and this stands in its place
+pub record Takes {A : Type 0} (same : A → A → Bool) (text : A → Bytes) (old : Taking A) (e : Tree) (made : Option Tree) (new : Taking A) : Type 0 where
+  pub found : new.found ≡ old.found
+  pub next : next_numbers new ≡ drop 1 (next_numbers old)
+  pub taken : taken_from same text (numbered_entries old.found.now) e (shares_view old.shares) ≡ taken_as (or_same e made) (shares_view new.shares)
 
-abbrev pub below_looked : {A : Type 0} → LookedAt A → List Tree
-below_looked v = looked_below (option_copied v.part_of) v.expr.now
-
-abbrev pub HasPart : {A : Type 0} → List (Entry A) → LookedAt A → Type 0
-HasPart m v = option_copied v.part_of ≡ one_of (entry_of v.expr.now m)
-
--- the nodes that are left to be looked at
-abbrev pub Looks : {A : Type 0} → List (Entry A) → List (LookedAt A) → List Tree → Tree → Type 0
-Looks m = Walks looked_expr below_looked (HasPart m)
+-- parts were taken out of the children of the expression, which is none, and these stand in their places
+pub record TakesBelow {A : Type 0} (same : A → A → Bool) (text : A → Bytes) (old : Taking A) (e : Tree) (made : List (Option Tree)) (new : Taking A) : Type 0 where
+  pub none : one_of (entry_of e (numbered_entries old.found.now)) ≡ None
+  pub found : new.found ≡ old.found
+  pub next : next_numbers new ≡ drop 1 (next_numbers old)
+  pub many : length made ≡ length (children_of e)
+  pub taken : taken_in_turn same text (numbered_entries old.found.now) (children_of e) (shares_view old.shares) ≡ listed_as (all_or_same (children_of e) made) (shares_view new.shares)

@@ -1,18 +1,21 @@
-// The annotations of an expression and of those below it: the nodes that are visited, listed from the leaves up, and one loop over them.
-ghost use Rattle.std.specs.Prelude.{◌≡◌, [], ◌++◌, length, map, Some, IfOk, OnOk};
-ghost use Rattle.std.specs.List.{flat_map, slice_get};
-ghost use Rattle.vx_passes.specs.Annotating.{annotated, annotated_down, annotated_from, annotated_up};
+// The annotations of an expression and of those below it: a fold that visits each expression, down and up.
+ghost use Rattle.std.specs.Prelude.{◌≡◌, [], ◌∷◌, not, Some, IfOk, OnOk};
+ghost use Rattle.std.specs.List.{flat_map, list_all, slice_get};
+ghost use Rattle.vx_expr.specs.PostOrders.{post_order};
+ghost use Rattle.vx_expr.specs.Trees.{children_of};
+ghost use Rattle.vx_passes.specs.Annotating.{annotated, annotated_up, with_annotations};
 ghost use Rattle.vx_partition.specs.Entries.{held_at, IsSound, Extends, numbered_entries};
 ghost use Rattle.vx_partition.specs.Numbering.{known, AreNumbersOf};
 ghost use Rattle.vx_partition.specs.Views.{entries_view};
-ghost use Rattle.vx_partition.specs.Visits.{visited_below, visited_node, Visits};
+ghost use Rattle.vx_partition.specs.Visits.{has_none, HasVisited, HasVisitedBelow};
 
 use crate::annotation::{Annotation, AnnotationFn};
 use crate::annotations::Annotations;
 use crate::numbered::NumberedAnnotations;
 use std::alloc::Global;
 use vx_dtype::Mem;
-use vx_expr::{ExprRef, VortexExpr};
+use vx_expr::ExprRef;
+use vx_traversal::{FoldSteps, NodeExt};
 
 /// The annotations of an expression and of those below it, by a visit down and up. On the way down an expression that the rule gives
 /// annotations itself gets these, and what stands below it is skipped. On the way up, also after a skip, each visited expression gets
@@ -40,124 +43,100 @@ pub(crate) fn numbered_annotations<F: AnnotationFn>(
     ensures sound { IfOk result (λ made. IsSound made.0) }
     ensures number { IfOk result (λ made. slice_get (known made.0.numbers) made.1 ≡ Some expr.now) }
 {
-    let mut found = NumberedAnnotations::new(alloc);
-    let number = visit(alloc, expr, annotate, &mut found)?;
+    let mut visit = Visit {
+        rule: annotate,
+        found: NumberedAnnotations::new(alloc),
+    };
+    let number = expr.fold_by(alloc, &mut visit)?;
+    let Visit { rule: _rule, found } = visit;
     Ok((found, number))
 }
 
-/// A node that is visited, and the annotations that the rule gives it itself: where it has some, what stands below it is skipped.
-#[derive(Drop)]
-pub(crate) struct Visited<'a, A> {
-    expr: &'a ExprRef,
-    own: Vec<A>,
+/// Whether the rule gives annotations to some node of an expression.
+pub(crate) fn is_touched<F: AnnotationFn>(alloc: Global, expr: &ExprRef, annotate: &F) -> Mem<bool>
+    ensures { IfOk result (λ touched. touched ≡ not (list_all (has_none (F.annotated annotate.now)) (post_order expr.now))) }
+{
+    let nodes = expr.post_order(alloc)?;
+    for &node in nodes.as_slice() {
+        let own = annotate.annotate(alloc, node)?;
+        if !own.is_empty() {
+            return Ok(true);
+        }
+    }
+    Ok(false)
 }
 
-/// Visits an expression, down and up. Gives its number.
-fn visit<F: AnnotationFn>(
+/// A visit of expressions: the rule that annotates them, and the annotations so far.
+#[derive(Drop)]
+pub(crate) struct Visit<'a, F: AnnotationFn> {
+    rule: &'a F,
+    found: NumberedAnnotations<F::Annotation>,
+}
+
+/// A fold that gives each visited expression its number. Where the rule gives it annotations itself, what stands below it is skipped.
+impl<F: AnnotationFn> FoldSteps for Visit<'_, F> {
+    type NodeTy = ExprRef;
+
+    type Result = usize;
+
+    ghost ready = { λ visit _. IsSound visit.found };
+
+    ghost folds = { λ old expr number new. HasVisited F.Annotation.eq F.annotated old (expr ∷ []) (number ∷ []) new };
+
+    ghost gathers = { HasVisitedBelow F.Annotation.eq F.annotated };
+
+    fn down(&mut self, alloc: Global, node: &ExprRef) -> Mem<Option<usize>> {
+        let own = self.rule.annotate(alloc, node)?;
+        if own.is_empty() {
+            return Ok(None);
+        }
+        let number = visit_alone(alloc, node, own.as_slice(), &mut self.found)?;
+        Ok(Some(number))
+    }
+
+    fn up(&mut self, alloc: Global, node: &ExprRef, results: Vec<usize>) -> Mem<usize>
+        requires { (start : _) × HasVisitedBelow F.Annotation.eq F.annotated start node.now results.items self.old }
+        ensures { (start : _) → HasVisitedBelow F.Annotation.eq F.annotated start node.now results.items self.old →
+            IfOk result (λ number. HasVisited F.Annotation.eq F.annotated start (node.now ∷ []) (number ∷ []) self.new) }
+    {
+        let number = visit_over(alloc, node, results, &mut self.found)?;
+        Ok(number)
+    }
+}
+
+/// Visits an expression which has these annotations itself. Gives its number.
+fn visit_alone<A: Annotation>(
     alloc: Global,
     expr: &ExprRef,
-    annotate: &F,
-    found: &mut NumberedAnnotations<F::Annotation>,
+    own: &[A],
+    found: &mut NumberedAnnotations<A>,
 ) -> Mem<usize>
     requires { IsSound found.old }
-    ensures entries { OnOk result (numbered_entries found.new
-        ≡ annotated_from F.Annotation.eq (F.annotated annotate.now) expr.now (numbered_entries found.old)) }
+    ensures entries { OnOk result (numbered_entries found.new ≡ annotated_up A.eq expr.now (with_annotations A.eq expr.now own.now (numbered_entries found.old))) }
     ensures extended { OnOk result (Extends found.old found.new) }
     ensures number { IfOk result (λ number. slice_get (known found.new.numbers) number ≡ Some expr.now) }
 {
-    let nodes = visited_nodes(alloc, expr, annotate)?;
-    let mut numbers = Vec::new(alloc);
-    for i in 0..nodes.len() {
-        let node = &nodes[i];
-        let below = numbers.split_off(numbers.len() - visited_count(node))?;
-        numbers.push(visit_node(alloc, node, below, found)?)?;
-    }
-    match numbers.pop() {
-        Some(number) => Ok(number),
-        None => unreachable!(),
-    }
-}
-
-/// The nodes of an expression that are visited, each after those below it, children in order.
-fn visited_nodes<'a, F: AnnotationFn>(
-    alloc: Global,
-    expr: &'a ExprRef,
-    annotate: &F,
-) -> Mem<Vec<Visited<'a, F::Annotation>>>
-    ensures { IfOk result (λ nodes. Visits (F.annotated annotate.now) nodes.items [] expr.now) }
-{
-    let mut nodes = Vec::new(alloc);
-    let mut left = Vec::new(alloc);
-    left.push(expr)?;
-    while let Some(next) = left.pop() {
-        let own = annotate.annotate(alloc, next)?;
-        push_below(&mut left, next, own.as_slice())?;
-        nodes.push(Visited { expr: next, own })?;
-    }
-    nodes.reverse();
-    Ok(nodes)
-}
-
-/// Puts the children of a node, which has these annotations itself, behind the expressions that are left, where they are visited.
-fn push_below<'a, A>(left: &mut Vec<&'a ExprRef>, expr: &'a ExprRef, own: &[A]) -> Mem<()>
-    ensures { OnOk result (map (λ e. e.now) left.new.items ≡ map (λ e. e.now) left.old.items ++ visited_below own.now expr.now) }
-{
-    if !own.is_empty() {
-        return Ok(());
-    }
-    for i in 0..expr.children_count() {
-        left.push(expr.child_at(i))?;
-    }
-    Ok(())
-}
-
-/// How many children of a node are visited.
-fn visited_count<A>(node: &Visited<'_, A>) -> usize
-    ensures { result ≡ length (visited_below node.now.own.items node.now.expr.now) }
-{
-    if node.own.is_empty() {
-        return node.expr.children_count();
-    }
-    0
-}
-
-/// Visits a node, the visited children of which have these numbers. Gives its number.
-fn visit_node<A: Annotation>(
-    alloc: Global,
-    node: &Visited<'_, A>,
-    below: Vec<usize>,
-    found: &mut NumberedAnnotations<A>,
-) -> Mem<usize>
-    requires sound { IsSound found.old }
-    requires below { AreNumbersOf (known found.old.numbers) below.items (visited_below node.now.own.items node.now.expr.now) }
-    ensures entries { OnOk result (numbered_entries found.new ≡ visited_node A.eq node.now.expr.now node.now.own.items (numbered_entries found.old)) }
-    ensures extended { OnOk result (Extends found.old found.new) }
-    ensures number { IfOk result (λ number. slice_get (known found.new.numbers) number ≡ Some node.now.expr.now) }
-{
-    let number = visit_down(alloc, node, below, found)?;
-    visit_up(alloc, node.expr, number, found)?;
+    let number = found.number_whole(alloc, expr)?;
+    found.add(alloc, expr, number, own)?;
+    visit_up(alloc, expr, number, found)?;
     Ok(number)
 }
 
-/// The way down at a node, the visited children of which have these numbers: what the rule gives the node itself. Gives its number.
-fn visit_down<A: Annotation>(
+/// Visits an expression whose children were visited and have these numbers. Gives its number.
+fn visit_over<A: Annotation>(
     alloc: Global,
-    node: &Visited<'_, A>,
+    expr: &ExprRef,
     below: Vec<usize>,
     found: &mut NumberedAnnotations<A>,
 ) -> Mem<usize>
     requires sound { IsSound found.old }
-    requires below { AreNumbersOf (known found.old.numbers) below.items (visited_below node.now.own.items node.now.expr.now) }
-    ensures entries { OnOk result (numbered_entries found.new
-        ≡ annotated_down A.eq node.now.expr.now node.now.own.items (λ m. m) (numbered_entries found.old)) }
+    requires below { AreNumbersOf (known found.old.numbers) below.items (children_of expr.now) }
+    ensures entries { OnOk result (numbered_entries found.new ≡ annotated_up A.eq expr.now (numbered_entries found.old)) }
     ensures extended { OnOk result (Extends found.old found.new) }
-    ensures number { IfOk result (λ number. slice_get (known found.new.numbers) number ≡ Some node.now.expr.now) }
+    ensures number { IfOk result (λ number. slice_get (known found.new.numbers) number ≡ Some expr.now) }
 {
-    if node.own.is_empty() {
-        return found.numbers.number(alloc, node.expr, below);
-    }
-    let number = found.numbers.number_whole(alloc, node.expr)?;
-    found.add(alloc, node.expr, number, node.own.as_slice())?;
+    let number = found.number(alloc, expr, below)?;
+    visit_up(alloc, expr, number, found)?;
     Ok(number)
 }
 

@@ -1,9 +1,10 @@
 // The annotations of expressions under the numbers of these.
 ghost use Rattle.std.specs.Prelude.{◌≡◌, [], ◌++◌, Some, IfOk, OnOk, option_map, unwrap_or};
 ghost use Rattle.std.specs.List.{list_any, slice_get};
+ghost use Rattle.vx_expr.specs.Trees.{children_of};
 ghost use Rattle.vx_passes.specs.Annotating.{joined_sets, with_annotations};
 ghost use Rattle.vx_partition.specs.Entries.{held_at, HasAnnotations, IsSound, Extends, numbered_entries};
-ghost use Rattle.vx_partition.specs.Numbering.{known};
+ghost use Rattle.vx_partition.specs.Numbering.{known, AreNumbersOf};
 ghost use Rattle.vx_partition.specs.Views.{has_entry};
 
 use crate::annotation::Annotation;
@@ -42,6 +43,27 @@ impl<A: Annotation> NumberedAnnotations<A> {
             numbers: Numbers::new(alloc),
             entries: IndexMap::new(alloc),
         }
+    }
+
+    /// The number of an expression whose children have these numbers; a new one where it has none.
+    pub(crate) fn number(&mut self, alloc: Global, expr: &ExprRef, below: Vec<usize>) -> Mem<usize>
+        requires sound { IsSound self.old }
+        requires below { AreNumbersOf (known self.old.numbers) below.items (children_of expr.now) }
+        ensures entries { OnOk result (numbered_entries self.new ≡ numbered_entries self.old) }
+        ensures extended { OnOk result (Extends self.old self.new) }
+        ensures number { IfOk result (λ number. slice_get (known self.new.numbers) number ≡ Some expr.now) }
+    {
+        self.numbers.number(alloc, expr, below)
+    }
+
+    /// The number of an expression, after those that stand below it have got theirs.
+    pub(crate) fn number_whole(&mut self, alloc: Global, expr: &ExprRef) -> Mem<usize>
+        requires { IsSound self.old }
+        ensures entries { OnOk result (numbered_entries self.new ≡ numbered_entries self.old) }
+        ensures extended { OnOk result (Extends self.old self.new) }
+        ensures number { IfOk result (λ number. slice_get (known self.new.numbers) number ≡ Some expr.now) }
+    {
+        self.numbers.number_whole(alloc, expr)
     }
 
     /// The annotations of the entry at a number; None where there is no entry.

@@ -1,16 +1,17 @@
 // Numbers of expressions: equal ones have the same number.
-ghost use Rattle.std.specs.Prelude.{◌≡◌, ◌<◌, length, Some, None, IfOk, OnOk};
+ghost use Rattle.std.specs.Prelude.{◌≡◌, ◌<◌, [], ◌∷◌, length, Some, None, IfOk, OnOk};
 ghost use Rattle.std.specs.List.{slice_get};
 ghost use Rattle.std.specs.Map.{lookup};
 ghost use Rattle.vx_expr.specs.Equal.{tree_eq};
 ghost use Rattle.vx_expr.specs.Trees.{Tree, children_of};
-ghost use Rattle.vx_partition.specs.Numbering.{over_numbers, known, AreNumbersOf, IsNumbering, Grows};
+ghost use Rattle.vx_partition.specs.Numbering.{over_numbers, known, AreNumbersOf, IsNumbering, Grows, HasNumbered};
 
 use indexmap::IndexMap;
 use std::alloc::Global;
 use vx_dtype::{Mem, Scalar};
-use vx_expr::{ExprRef, LiteralExpr, VortexExpr};
+use vx_expr::{ExprRef, LiteralExpr};
 use vx_transform::with_these;
+use vx_traversal::{FoldSteps, NodeExt};
 
 /// An expression and the numbers of its children.
 #[derive(Debug, Drop)]
@@ -82,17 +83,34 @@ impl Numbers {
         ensures number { IfOk result (λ number. slice_get (known self.new) number ≡ Some expr.now) }
         ensures grown { OnOk result (Grows self.old self.new) }
     {
-        let nodes = expr.post_order(alloc)?;
-        let mut numbers = Vec::new(alloc);
-        for i in 0..nodes.len() {
-            let node = nodes[i];
-            let below = numbers.split_off(numbers.len() - node.children_count())?;
-            numbers.push(self.number(alloc, node, below)?)?;
-        }
-        match numbers.pop() {
-            Some(number) => Ok(number),
-            None => unreachable!(),
-        }
+        let number = expr.fold_by(alloc, self)?;
+        Ok(number)
+    }
+}
+
+/// A fold that gives each node its number, after its children.
+impl FoldSteps for Numbers {
+    type NodeTy = ExprRef;
+
+    type Result = usize;
+
+    ghost ready = { λ numbers _. IsNumbering numbers.nodes.entries };
+
+    ghost folds = { λ old expr number new. HasNumbered old (expr ∷ []) (number ∷ []) new };
+
+    ghost gathers = { λ old expr below new. HasNumbered old (children_of expr) below new };
+
+    fn down(&mut self, _alloc: Global, _node: &ExprRef) -> Mem<Option<usize>> {
+        Ok(None)
+    }
+
+    fn up(&mut self, alloc: Global, node: &ExprRef, results: Vec<usize>) -> Mem<usize>
+        requires { (start : _) × HasNumbered start (children_of node.now) results.items self.old }
+        ensures { (start : _) → HasNumbered start (children_of node.now) results.items self.old →
+            IfOk result (λ number. HasNumbered start (node.now ∷ []) (number ∷ []) self.new) }
+    {
+        let number = self.number(alloc, node, results)?;
+        Ok(number)
     }
 }
 

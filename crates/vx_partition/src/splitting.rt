@@ -1,13 +1,15 @@
 // An expression in parts: a root over what the partitions give, and the partitions.
-ghost use Rattle.std.specs.Prelude.{◌≡◌, Ok, length, map, option_copied, position, IfOk};
+ghost use Rattle.std.specs.Prelude.{◌≡◌, [], Ok, length, map, option_copied, position, IfOk};
 ghost use Rattle.vx_dtype.specs.TypeViews.{type_view};
-ghost use Rattle.vx_passes.specs.Splitting.{split, with_root};
+ghost use Rattle.vx_passes.specs.Annotating.{annotated};
+ghost use Rattle.vx_passes.specs.Splitting.{split, taken_from, with_root};
 ghost use Rattle.vx_semantics.specs.Typing.{and_then};
 ghost use Rattle.vx_transform.specs.TransformAnswers.{AnswersBy};
 ghost use Rattle.vx_partition.specs.Splits.{first_of, in_columns, split_view};
-ghost use Rattle.vx_partition.specs.Views.{partition_view};
+ghost use Rattle.vx_partition.specs.Takings.{taken_as};
+ghost use Rattle.vx_partition.specs.Views.{partition_view, shares_view};
 
-use crate::annotating::numbered_annotations;
+use crate::annotating::{is_touched, numbered_annotations};
 use crate::annotation::{Annotation, AnnotationFn};
 use crate::partitions::{Partition, partitions_of};
 use crate::shares::{Shares, text_name};
@@ -69,11 +71,27 @@ pub fn partition<F: AnnotationFn>(
         let told = split F.Annotation.eq text (F.annotated annotate_fn.now) (type_view scope.now) expr in
         AnswersBy split_view (and_then told (λ made. Ok (in_columns text made))) result }
 {
-    let (found, number) = numbered_annotations(alloc, &expr, annotate_fn)?;
-    let mut shares = Shares::new(alloc);
-    let made = take(alloc, &expr, number, &found, &mut shares)?;
+    let (root, shares) = taken_out(alloc, expr, annotate_fn)?;
     let partitions = partitions_of(alloc, &shares, scope)?;
-    with_root(alloc, made.unwrap_or(expr), partitions.as_slice())
+    with_root(alloc, root, partitions.as_slice())
+}
+
+/// An expression without the parts that the annotations of a rule make of it, and the parts. Where no node is annotated, none is numbered.
+fn taken_out<F: AnnotationFn>(
+    alloc: Global,
+    expr: ExprRef,
+    annotate: &F,
+) -> Mem<(ExprRef, Shares<F::Annotation>)>
+    ensures { let found = annotated F.Annotation.eq (F.annotated annotate.now) expr in
+        IfOk result (λ made. taken_from F.Annotation.eq F.Annotation.text found expr [] ≡ taken_as made.0 (shares_view made.1)) }
+{
+    let touched = is_touched(alloc, &expr, annotate)?;
+    if !touched {
+        return Ok((expr, Shares::new(alloc)));
+    }
+    let (found, number) = numbered_annotations(alloc, &expr, annotate)?;
+    let (made, shares) = take(alloc, &expr, number, &found)?;
+    Ok((made.unwrap_or(expr), shares))
 }
 
 /// The root over what the partitions give, and these.

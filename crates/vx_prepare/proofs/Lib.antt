@@ -12,3 +12,4 @@ mod Laws
 mod GivenLemmas
 mod PrepareLemmas
 mod EvaluateLemmas
+mod EmptyLemmas

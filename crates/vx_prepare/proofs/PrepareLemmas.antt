@@ -34,6 +34,15 @@ fits_by v (Ok u) false h = absurd (ok-err v type_mismatch (sym h))
 pub checked_fits : (t : Ty) (slots : Slots) (e : Tree) (v : Ty) → checked_type t slots e ≡ Ok v → slots_fit slots e ≡ true
 checked_fits t slots e v h = fits_by v (typed_of t e) (slots_fit slots e) h
 
+typed_by : (v : Ty) (r : Result Ty Refusal) (b : Bool) → and_then r (λ u. unless b type_mismatch (Ok u)) ≡ Ok v → r ≡ Ok v
+typed_by v (Err x) b h = absurd (ok-err v x (sym h))
+typed_by v (Ok u) true h = h
+typed_by v (Ok u) false h = absurd (ok-err v type_mismatch (sym h))
+
+-- and it is typed
+pub checked_typed : (t : Ty) (slots : Slots) (e : Tree) (v : Ty) → checked_type t slots e ≡ Ok v → typed_of t e ≡ Ok v
+checked_typed t slots e v h = typed_by v (typed_of t e) (slots_fit slots e) h
+
 -- where it is typed and they don't, that is the refusal
 pub unfit_refused : (t : Ty) (slots : Slots) (e : Tree) (u : Ty) → typed_of t e ≡ Ok u → slots_fit slots e ≡ false → checked_type t slots e ≡ Err type_mismatch
 unfit_refused t slots e u typed h = ap (λ r. and_then r (λ w. unless (slots_fit slots e) type_mismatch (Ok w))) typed ∙ ap (λ b. unless b type_mismatch (Ok u)) h

@@ -2,14 +2,16 @@
 ghost use Rattle.std.specs.Prelude.{◌≡◌, true, [], ◌∷◌, length, option_copied, None, IfOk};
 ghost use Rattle.std.specs.List.{All};
 ghost use Rattle.std.specs.Str.{bytes_eq};
+ghost use Rattle.vx_column.specs.Columns.{column};
 ghost use Rattle.vx_column.specs.StructColumns.{all_have_rows, made_struct};
-ghost use Rattle.vx_dtype.specs.TypeRules.{distinct_names};
+ghost use Rattle.vx_dtype.specs.TypeRules.{distinct_names, no_name_twice};
+ghost use Rattle.vx_dtype.specs.TypeViews.{type_view};
 ghost use Rattle.vx_partition.specs.Splits.{first_of, split_view};
 ghost use Rattle.vx_prepare.specs.Parts.{columns_fit, GivenBy, IsHeld, PartsGive, SplitGives};
 
 use std::alloc::Global;
-use vx_column::{ColumnError, ColumnRef};
-use vx_dtype::{FieldName, FieldNames, Mem, NoMemory, Scalar};
+use vx_column::{ColumnError, ColumnRef, made};
+use vx_dtype::{DType, FieldName, FieldNames, Mem, NoMemory, Scalar};
 use vx_eval::{EvalError, ExprEval, Scope};
 use vx_expr::ExprRef;
 use vx_partition::PartitionedExpr;
@@ -141,4 +143,14 @@ fn evaluate_over(
     }
     let scope = Scope::new(rows).with_slots(held);
     expr.evaluate(alloc, &scope)
+}
+
+/// The column without rows of a type in which no name stands twice.
+pub(crate) fn without_rows(alloc: Global, dtype: &DType) -> Mem<ColumnRef>
+    requires { no_name_twice (type_view dtype.now) ≡ true }
+    ensures { IfOk result (λ c. c ≡ column (type_view dtype.now) []) }
+{
+    let copy = dtype.clone()?;
+    let none = Vec::new(alloc);
+    made(ColumnRef::of_values(alloc, copy, none))
 }

@@ -11,7 +11,7 @@ ghost use Rattle.vx_semantics.specs.Tables.{row_type};
 ghost use Rattle.vx_prepare.specs.Preparing.{Prepares, IsPrepared, AreOf, HaveColumns, CanBeOver, EvaluatesAsked, HasCauseIn};
 
 use crate::counting::count_nodes;
-use crate::evaluating::{evaluate_split, hold_values};
+use crate::evaluating::{evaluate_split, hold_values, without_rows};
 use crate::splitting::{columns_among, simplified_over, split_over};
 use std::alloc::Global;
 use vx_column::ColumnRef;
@@ -128,6 +128,10 @@ impl PreparedExpr {
             AreOf fs len self.now.columns columns.now → HasCauseIn (asked_nodes (row_type fs) e) result }
     {
         hold_values(columns);
+        // A table may have hundreds of thousands of blocks without rows: none of them costs an evaluation.
+        if len == 0 {
+            return Ok(without_rows(alloc, &self.dtype)?);
+        }
         evaluate_split(alloc, &self.split, &self.columns, columns, len, slots)
     }
 }

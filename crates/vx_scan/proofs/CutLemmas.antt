@@ -158,13 +158,13 @@ cut_same cut lengths zones block at e = record {
 }
 
 -- what stands in the first items, and in the later ones
-in_first : {X : Type 0} (n i : ℕ) (xs : List X) → i < n → slice_get (take n xs) i ≡ slice_get xs i
+pub in_first : {X : Type 0} (n i : ℕ) (xs : List X) → i < n → slice_get (take n xs) i ≡ slice_get xs i
 in_first zero i xs h = absurd (omega (arith, h))
 in_first (suc n) i [] h = refl
 in_first (suc n) zero (x ∷ xs) h = refl
 in_first (suc n) (suc i) (x ∷ xs) h = in_first n i xs (omega (arith, h))
 
-in_later : {X : Type 0} (n i : ℕ) (xs : List X) → slice_get (drop n xs) i ≡ slice_get xs (n + i)
+pub in_later : {X : Type 0} (n i : ℕ) (xs : List X) → slice_get (drop n xs) i ≡ slice_get xs (n + i)
 in_later zero i xs = let start : i ≡ 0 + i = omega arith in ap (slice_get xs) start
 in_later (suc n) i [] = refl
 in_later (suc n) i (x ∷ xs) = let next : suc (n + i) ≡ suc n + i = omega arith in in_later n i xs ∙ ap (slice_get (x ∷ xs)) next

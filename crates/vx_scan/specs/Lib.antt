@@ -1,5 +1,6 @@
 pub mod Stores
 pub mod StoreViews
+pub mod StoreMoves
 pub mod StoreCodes
 pub mod StoreAnswers
 pub mod ErrorKinds

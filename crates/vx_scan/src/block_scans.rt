@@ -46,6 +46,7 @@ impl PreparedScan {
         requires block { block < length (S.seen store.old).zones.lengths }
         requires fit { values_fit (type_view self.now.projection.dtype) rows.old.items ≡ true }
         ensures same { IsSameStore (S.seen store.old) (S.seen store.new) }
+        ensures moves { S.moves store.old store.new }
         ensures runs { (f p : Tree) → IsPreparedScan (S.seen store.old).zones slots.now f p self.now →
             RunsBlock slots.now f p block (S.seen store.old) (S.seen store.new) (seen_rows (type_view self.now.projection.dtype) rows.old.items)
             (seen_rows (type_view self.now.projection.dtype) rows.new.items) result }
@@ -77,6 +78,7 @@ fn project_block<S: ColumnStore>(
     requires block { block < length (S.seen store.old).zones.lengths }
     requires fit { values_fit (type_view scan.now.projection.dtype) rows.old.items ≡ true }
     ensures same { IsSameStore (S.seen store.old) (S.seen store.new) }
+    ensures moves { S.moves store.old store.new }
     ensures runs { (f p : Tree) → IsPreparedScan (S.seen store.old).zones slots.now f p scan.now →
         IsFiltered slots.now f scan.now.filter.columns block (S.seen store.old) filtered.now →
         let t = row_type (S.seen store.old).zones.columns in

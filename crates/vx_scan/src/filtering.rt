@@ -46,6 +46,7 @@ pub(crate) fn filter_block<S: ColumnStore>(
     requires len { slice_get (S.seen store.old).zones.lengths block ≡ Some len }
     requires agrees { WhereTold (S.seen store.old).held (AgreesWith (S.seen store.old).zones) }
     ensures same { IsSameStore (S.seen store.old) (S.seen store.new) }
+    ensures moves { S.moves store.old store.new }
     ensures runs { (f p : Tree) → IsPreparedScan (S.seen store.old).zones slots.now f p scan.now →
         RunsPart slots.now f (reads_in block (asked_columns (row_type (S.seen store.old).zones.columns) f)) block (λ rows. rows)
         (S.seen store.old) (S.seen store.new) (ending result) }

@@ -52,6 +52,7 @@ pub(crate) fn scan_or_skip<S: ColumnStore>(
     requires block { block < length (S.seen store.old).zones.lengths }
     requires fit { values_fit (type_view scan.now.projection.dtype) found.old.rows.items ≡ true }
     ensures same { IsSameStore (S.seen store.old) (S.seen store.new) }
+    ensures moves { S.moves store.old store.new }
     ensures fit { IfOk result (λ _. values_fit (type_view scan.now.projection.dtype) found.new.rows.items ≡ true) }
     ensures turn { (f p : Tree) → IsPreparedScan (S.seen store.old).zones slots.now f p scan.now →
         let u = type_view scan.now.projection.dtype in

@@ -6,6 +6,7 @@ ghost use Rattle.vx_tables.specs.Blocks.{block_view, table_of_blocks, table_refu
 ghost use Rattle.vx_scan.specs.Stores.{AgreesWith, IsSameStore, Reads};
 ghost use Rattle.vx_scan.specs.StoreViews.{entry_view, store_seen};
 ghost use Rattle.vx_scan.specs.StoreAnswers.{MakesStore, new_store};
+ghost use Rattle.vx_scan.specs.StoreMoves.{IsSameTable, same_table, same_table_on};
 
 use crate::errors::StoreError;
 use crate::stores::{ColumnStore, ReadEntry};
@@ -124,6 +125,12 @@ impl MemoryStore {
 impl ColumnStore for MemoryStore {
     ghost seen = { store_seen };
 
+    ghost moves = { IsSameTable };
+
+    ghost stays = { same_table };
+
+    ghost goes_on = { same_table_on };
+
     fn zones(&self) -> &ZoneMap
         ensures zones { result.now ≡ self.now.zones }
         ensures agrees { AgreesWith self.now.zones (table_of_blocks self.now.zones self.now.blocks) }
@@ -136,6 +143,7 @@ impl ColumnStore for MemoryStore {
         requires column { has_name name.now (field_names self.old.zones.columns) ≡ true }
         ensures same { IsSameStore (store_seen self.old) (store_seen self.new) }
         ensures reads { Reads (store_seen self.old) (store_seen self.new) block name.now result }
+        ensures moves { IsSameTable self.old self.new }
         ensures listed { IfOk result (λ _. is_listed (one_more self.old.calls) self.old.listed ≡ false) }
         ensures failure { IsErrOf result StoreError.Failed → is_listed (one_more self.old.calls) self.old.listed ≡ true }
         ensures count { self.new.faults ≡ cond (is_listed (one_more self.old.calls) self.old.listed) (one_more self.old.faults) self.old.faults }

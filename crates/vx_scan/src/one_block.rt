@@ -39,6 +39,7 @@ pub fn scan_block<S: ColumnStore>(
 ) -> Result<ScanReport, ScanError>
     requires block { block < length (S.seen store.old).zones.lengths }
     ensures same { IsSameStore (S.seen store.old) (S.seen store.new) }
+    ensures moves { S.moves store.old store.new }
     ensures ends { IsBlockScanOf slots.now filter.now projection.now block (S.seen store.old) (S.seen store.new) result }
     ensures fit { IfOk result (λ report. raws_fit (type_view report.dtype) report.rows ≡ true) }
 {

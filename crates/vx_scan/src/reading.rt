@@ -34,6 +34,7 @@ pub(crate) fn read_columns<S: ColumnStore>(
     requires names { list_all (λ n. has_name n (field_names (S.seen store.old).zones.columns)) names.now ≡ true }
     requires lengths { length known_names.now ≡ length known.now }
     ensures same { IsSameStore (S.seen store.old) (S.seen store.new) }
+    ensures moves { S.moves store.old store.new }
     ensures reads { MakesReads (reads_in block (further_names known_names.now names.now)) (S.seen store.old) (S.seen store.new) (ending result) }
     ensures columns { AreColumnsOf (S.seen store.old) block known_names.now known.now →
         IfOk result (λ columns. AreColumnsOf (S.seen store.old) block names.now columns.items) }
@@ -58,6 +59,7 @@ fn read_unless_known<S: ColumnStore>(
     requires column { has_name name.now (field_names (S.seen store.old).zones.columns) ≡ true }
     requires lengths { length known_names.now ≡ length known.now }
     ensures same { IsSameStore (S.seen store.old) (S.seen store.new) }
+    ensures moves { S.moves store.old store.new }
     ensures reads { MakesReads (reads_in block (further_names known_names.now (name.now ∷ []))) (S.seen store.old) (S.seen store.new) (ending result) }
     ensures column { AreColumnsOf (S.seen store.old) block known_names.now known.now →
         IfOk result (λ column. IsColumnOf (S.seen store.old) block name.now column) }
@@ -77,6 +79,7 @@ fn read_column<S: ColumnStore>(
     requires block { block < length (S.seen store.old).zones.lengths }
     requires column { has_name name.now (field_names (S.seen store.old).zones.columns) ≡ true }
     ensures same { IsSameStore (S.seen store.old) (S.seen store.new) }
+    ensures moves { S.moves store.old store.new }
     ensures reads { MakesReads ((block, name.now) ∷ []) (S.seen store.old) (S.seen store.new) (ending result) }
     ensures column { IfOk result (λ column. IsColumnOf (S.seen store.old) block name.now column) }
 {

@@ -33,6 +33,7 @@ pub fn scan<S: ColumnStore>(
     store: &mut S,
 ) -> Result<ScanReport, ScanError>
     ensures same { IsSameStore (S.seen store.old) (S.seen store.new) }
+    ensures moves { S.moves store.old store.new }
     ensures ends { IsScan (registered registry.now) filter.now projection.now (S.seen store.old) (S.seen store.new) result }
     ensures fit { IfOk result (λ report. raws_fit (type_view report.dtype) report.rows ≡ true) }
 {
@@ -68,6 +69,7 @@ pub fn scan_exprs<S: ColumnStore>(
     store: &mut S,
 ) -> Result<ScanReport, ScanError>
     ensures same { IsSameStore (S.seen store.old) (S.seen store.new) }
+    ensures moves { S.moves store.old store.new }
     ensures ends { IsScanOf slots.now filter.now projection.now (S.seen store.old) (S.seen store.new) result }
     ensures fit { IfOk result (λ report. raws_fit (type_view report.dtype) report.rows ≡ true) }
 {
@@ -88,6 +90,7 @@ fn scan_blocks<S: ColumnStore>(
 ) -> Result<Found, ScanError>
     requires ruled { (f : Tree) × (p : Tree) × IsRuledScan (S.seen store.old).zones slots.now f p scan.now flags.now }
     ensures same { IsSameStore (S.seen store.old) (S.seen store.new) }
+    ensures moves { S.moves store.old store.new }
     ensures ends { (f p : Tree) → IsRuledScan (S.seen store.old).zones slots.now f p scan.now flags.now →
         EndsBlocks slots.now f p (type_view scan.now.projection.dtype) (S.seen store.old) (S.seen store.new) result }
     ensures fit { IfOk result (λ found. values_fit (type_view scan.now.projection.dtype) found.rows.items ≡ true) }

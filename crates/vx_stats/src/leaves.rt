@@ -15,8 +15,9 @@ ghost use Rattle.vx_stats.specs.Walks.{AddsStatistics, leaf};
 
 use crate::bounds::bounds_of;
 use std::alloc::Global;
-use vx_column::{ColumnRef, is_null};
+use vx_column::ColumnRef;
 use vx_dtype::{DType, FieldPath, Mem, Nullability, PType, Scalar, ScalarValue, Stat};
+use vx_kernels::is_null;
 use vx_zones::{Scalars, ZoneStat};
 
 /// The statistics of a plain field in each block so far.

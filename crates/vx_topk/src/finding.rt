@@ -40,6 +40,7 @@ pub(crate) fn find_rows<S: ColumnStore>(
     requires ready { (ask : TopAsk) × (v : Ty) × IsReady (S.seen store.old).zones ask v top.now × (ask.count ≡ count) × (ask.descending ≡ descending)
         × (nat_eq count 0 ≡ false) }
     ensures same { IsSameStore (S.seen store.old) (S.seen store.new) }
+    ensures moves { S.moves store.old store.new }
     ensures ends { (ask : TopAsk) (v : Ty) → IsReady (S.seen store.old).zones ask v top.now → ask.count ≡ count → ask.descending ≡ descending →
         nat_eq count 0 ≡ false → EndsFinding ask v (S.seen store.old) (S.seen store.new) result }
     ensures asked { IfOk result (λ finding. (finding.first.count ≡ count) × (finding.first.descending ≡ descending)) }
@@ -73,6 +74,7 @@ fn find_or_skip<S: ColumnStore>(
         × AreRuledBehind ask (S.seen store.old).zones found finding.old.ruled × (nat_eq ask.count 0 ≡ false) }
     requires block { block < length (S.seen store.old).zones.lengths }
     ensures same { IsSameStore (S.seen store.old) (S.seen store.new) }
+    ensures moves { S.moves store.old store.new }
     ensures asked { IfOk result (λ _. AsksTheSame finding.old.first finding.new.first) }
     ensures turn { (ask : TopAsk) (v : Ty) (found : List Keyed) → IsReady (S.seen store.old).zones ask v top.now →
         IsAskedBy ask ask.key_type finding.old.first → HoldFirst ask.key_type v found (start_of block) finding.old.first →
@@ -104,6 +106,7 @@ fn rows_of_block<S: ColumnStore>(
     requires prepared { (f : Tree) × (p : Tree) × IsPreparedScan (S.seen store.old).zones slots.now f p top.now.scan }
     requires block { block < length (S.seen store.old).zones.lengths }
     ensures same { IsSameStore (S.seen store.old) (S.seen store.new) }
+    ensures moves { S.moves store.old store.new }
     ensures runs { (f p : Tree) → IsPreparedScan (S.seen store.old).zones slots.now f p top.now.scan →
         GivesRows slots.now f p block (type_view top.now.scan.projection.dtype) (S.seen store.old) (S.seen store.new) result }
     ensures fit { IfOk result (λ rows. values_fit (type_view top.now.scan.projection.dtype) rows.items ≡ true) }

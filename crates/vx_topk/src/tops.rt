@@ -47,6 +47,7 @@ pub fn top_rows<S: ColumnStore>(
     requires filter { has_no_slot filter.now ≡ true }
     requires projection { has_no_slot projection.now ≡ true }
     ensures same { IsSameStore (S.seen store.old) (S.seen store.new) }
+    ensures moves { S.moves store.old store.new }
     ensures ends { IsTopOf filter.now projection.now key.now descending k (S.seen store.old) (S.seen store.new) result }
     ensures fit { IfOk result (λ report. raws_fit (type_view report.dtype) report.rows ≡ true) }
 {
@@ -104,6 +105,7 @@ fn typed_top_rows<S: ColumnStore>(
     requires both { AreTyped (S.seen store.old).zones filter.now projection.now (type_view dtype) }
     requires some { nat_eq k 0 ≡ false }
     ensures same { IsSameStore (S.seen store.old) (S.seen store.new) }
+    ensures moves { S.moves store.old store.new }
     ensures ends { EndsTop (top_ask filter.now projection.now key.now descending k (type_view key_dtype)) (type_view dtype)
         (S.seen store.old) (S.seen store.new) result }
     ensures fit { IfOk result (λ report. raws_fit (type_view report.dtype) report.rows ≡ true) }

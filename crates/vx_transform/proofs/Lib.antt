@@ -1,4 +1,3 @@
-pub mod LoopLemmas
 pub mod RebuildLemmas
 mod TypeLemmas
 mod PlaceLemmas

@@ -1,7 +1,7 @@
 -- The structs that go into a merge, child by child, and the pack of what they give together.
 use Rattle.std.proofs.Common.{◌≡◌, List, [], ◌∷◌, length, map, Ok, Result, refl, ap, sym, ◌∙◌}
 use Rattle.std.proofs.lemmas.List.{length-map}
-use Rattle.vx_dtype.specs.Types.{Bytes, Ty}
+use Rattle.vx_dtype.specs.Types.{Ty}
 use Rattle.vx_expr.specs.Trees.{Tree, pack, merge, trees_of, children_of}
 use Rattle.vx_expr.proofs.TreeLemmas.{listed_trees_of}
 use Rattle.vx_semantics.specs.Merging.{merged_names}

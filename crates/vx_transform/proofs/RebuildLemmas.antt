@@ -1,5 +1,5 @@
--- What is made of an expression goes by its children, and what a loop over these, or over all nodes, collects.
-use Rattle.std.proofs.Common.{◌≡◌, ℕ, zero, suc, ◌+◌, ◌≤◌, ◌==◌, true, List, [], ◌∷◌, ◌++◌, length, take, drop, Option, Some, None, Ok, Err, Result, refl, sym, ap, subst, ◌∙◌, append_assoc, append-nil, arith, true≢false}
+-- What is made of an expression goes by its children, and what a loop over these, or the walk, collects.
+use Rattle.std.proofs.Common.{◌≡◌, ℕ, zero, suc, ◌+◌, ◌≤◌, ◌==◌, true, List, [], ◌∷◌, ◌++◌, length, take, drop, Option, Some, None, Ok, Err, Result, inl, inr, refl, sym, ap, subst, ◌∙◌, append_assoc, append-nil, arith, true≢false}
 use Rattle.std.specs.Prelude.{unwrap_or, is_none}
 use Rattle.std.specs.List.{list_all, slice_get}
 use Rattle.std.specs.Cmp.{unsigned_Decides}
@@ -8,14 +8,17 @@ use Rattle.std.proofs.lemmas.List.{drop_all, drop_more, take_more, take_all}
 use Rattle.vx_expr.specs.Trees.{Tree, root, literal, get_item, binary, not_of, is_null_of, like, between, cast, list_contains, pack, merge, select, dynamic, Trees, no_trees, tree, trees_of, listed, children_of}
 use Rattle.vx_expr.specs.Children.{where_so}
 use Rattle.vx_expr.proofs.ChildrenLemmas.{with_own_children}
+use Rattle.vx_traversal.specs.declared.errors.WalkError.{WalkError}
+use Rattle.vx_traversal.specs.declared.errors.WalkError.TheVariants.{Visit}
+use Rattle.vx_traversal.specs.Expressions.{node_height, IsWithChildren}
+use Rattle.vx_traversal.specs.UpSteps.{in_place, OfAnswer, IsOver, MakesInTurn, MakesOver, MakesNode, MakesUp}
+use Rattle.vx_traversal.proofs.UpStepLemmas.{made-so}
 use Rattle.vx_semantics.specs.Typing.{Refusal, and_then}
 use Rattle.vx_passes.specs.Rebuilding.{rebuilt, all_rebuilt}
 use Rattle.vx_transform.specs.declared.errors.TransformError.{TransformError}
 use Rattle.vx_transform.specs.declared.errors.TransformError.TheVariants.{NoMemory, UnknownField, NotStruct, NullableSelect, TypeMismatch}
-use Rattle.vx_transform.specs.TransformAnswers.{Refuses}
-use Rattle.vx_transform.specs.Rebuilds.{each, or_same, all_or_same, with_these, children_rebuilt, IsRebuilt, OneByOne}
-use Rattle.vx_transform.proofs.LoopLemmas.{Midway}
-use Rattle.vx_expr.proofs.PostOrderLemmas.{Every, every_before, first_bad}
+use Rattle.vx_transform.specs.TransformAnswers.{Refuses, AnswersBy, AnswersTree}
+use Rattle.vx_transform.specs.Rebuilds.{each, or_same, all_or_same, with_these, children_rebuilt}
 
 -- a refusal is handed on by what comes after it
 pub handed_on : {A B : Type 0} (told : Result A Refusal) (next : A → Result B Refusal) (e : TransformError) → Refuses told e → Refuses (and_then told next) e
@@ -195,55 +198,57 @@ one_more_made es made i c m items more at given so_far is =
 pub all_made : (es : List Tree) (made : List (Option Tree)) (i : ℕ) (items : List Tree) → items ≡ take i (all_or_same es made) → length es ≤ i → items ≡ all_or_same es made
 all_made es made i items so_far past = so_far ∙ take_all i (all_or_same es made) (omega (arith, as_many_or_same es made, past))
 
--- ---- the nodes from the leaves up
+-- ---- the walk from the leaves up
+
+-- what stands in the place of a node is what the step gives
+pub made_in_place : (e : Tree) (told : Result Tree Refusal) (made : Result (Option Tree) TransformError) → AnswersBy (or_same e) told made → AnswersTree told (in_place e made)
+made_in_place e told (Ok m) h = h
+made_in_place e told (Err r) h = h
+
+pub is_with_these : (e : Tree) (ds : List Tree) (over : Tree) → IsOver children_of IsWithChildren e ds over → with_these e ds ≡ over
+is_with_these e ds over (inl own) = ap (with_these e) own.0 ∙ with_own e ∙ sym own.1
+is_with_these e ds over (inr is) = ap (λ o. unwrap_or o e) is
+
+and_then_same : {A B C : Type 0} (r : Result A Refusal) (first : A → B) (next : B → Result C Refusal) → and_then (and_then r (λ a. Ok (first a))) next ≡ and_then r (λ a. next (first a))
+and_then_same (Ok a) first next = refl
+and_then_same (Err r) first next = refl
 
 module _ (step : Tree → Result Tree Refusal) where
-  each_made : (es : List Tree) (made : List (Option Tree)) → OneByOne (IsRebuilt step) es made → each (rebuilt step) es ≡ Ok (all_or_same es made)
-  each_made [] [] h = refl
-  each_made [] (m ∷ made) h = absurd h
-  each_made (e ∷ es) [] h = absurd h
-  each_made (e ∷ es) (m ∷ made) h =
-      ap (λ r. and_then r (λ d. and_then (each (rebuilt step) es) (λ ds. Ok (d ∷ ds)))) h.0
-      ∙ ap (λ r. and_then r (λ ds. Ok (or_same e m ∷ ds))) (each_made es made h.1)
+  abbrev Gives : Tree → Result Tree TransformError → Type 0
+  Gives e made = AnswersTree (step e) made
 
-  -- the node over what its children became
-  pub children_made : (e : Tree) (made : List (Option Tree)) (d : Tree) → OneByOne (IsRebuilt step) (children_of e) made → d ≡ with_these e (all_or_same (children_of e) made)
-      → children_rebuilt step e ≡ Ok d
-  children_made e made d h is = ap (λ r. and_then r (λ cs. Ok (with_these e cs))) (each_made (children_of e) made h) ∙ ap Ok (sym is)
+  abbrev GivesRebuilt : Tree → Result Tree TransformError → Type 0
+  GivesRebuilt e made = AnswersTree (rebuilt step e) made
 
-  abbrev Fine : Tree → Type 0
-  Fine e = (d : Tree) × rebuilt step e ≡ Ok d
+  module _ (e : Tree) where
+    -- the step at the node over what was made of the children before, and what is made of these
+    abbrev over_these : List Tree → List Tree → Result Tree Refusal
+    over_these made cs = and_then (each (rebuilt step) cs) (λ ds. step (with_these e (made ++ ds)))
 
-  all_fine : (es : List Tree) (made : List (Option Tree)) → OneByOne (IsRebuilt step) es made → Every Fine es
-  all_fine [] [] h = tt
-  all_fine [] (m ∷ made) h = absurd h
-  all_fine (e ∷ es) [] h = absurd h
-  all_fine (e ∷ es) (m ∷ made) h = ((or_same e m, h.0), all_fine es made h.1)
+    first_refused : (c : Tree) (cs made : List Tree) (r : TransformError) → Refuses (rebuilt step c) r → Refuses (over_these made (c ∷ cs)) r
+    first_refused c cs made r h =
+        handed_on (each (rebuilt step) (c ∷ cs)) (λ ds. step (with_these e (made ++ ds))) r
+        (handed_on (rebuilt step c) (λ d. and_then (each (rebuilt step) cs) (λ ds. Ok (d ∷ ds))) r h)
 
-  each_refused : (before : List Tree) (x : Tree) (after : List Tree) (r : TransformError) → Every Fine before → Refuses (rebuilt step x) r → Refuses (each (rebuilt step) (before ++ x ∷ after)) r
-  each_refused [] x after r fine bad = handed_on (rebuilt step x) (λ d. and_then (each (rebuilt step) after) (λ ds. Ok (d ∷ ds))) r bad
-  each_refused (b ∷ before) x after r fine bad =
-      subst (λ told. Refuses (and_then told (λ d. and_then (each (rebuilt step) (before ++ x ∷ after)) (λ ds. Ok (d ∷ ds)))) r) (sym fine.0.1)
-      (handed_on (each (rebuilt step) (before ++ x ∷ after)) (λ ds. Ok (fine.0.0 ∷ ds)) r (each_refused before x after r fine.1 bad))
+    first_made : (c d : Tree) (cs made : List Tree) → rebuilt step c ≡ Ok d → over_these made (c ∷ cs) ≡ over_these (made ++ d ∷ []) cs
+    first_made c d cs made h =
+        ap (λ r. and_then (and_then r (λ z. and_then (each (rebuilt step) cs) (λ ds. Ok (z ∷ ds)))) (λ ds. step (with_these e (made ++ ds)))) h
+        ∙ and_then_same (each (rebuilt step) cs) (λ ds. d ∷ ds) (λ ds. step (with_these e (made ++ ds)))
+        ∙ ap (λ next. and_then (each (rebuilt step) cs) next) (λ i ds. step (with_these e (sym (append_assoc made (d ∷ []) ds) i)))
 
--- ---- the step after the children
+    in_turn : (cs made : List Tree) (r : Result Tree TransformError) → MakesInTurn GivesRebuilt (MakesOver children_of IsWithChildren Gives e) made cs r → AnswersTree (over_these made cs) r
+    in_turn [] made r (over, is, gives) = subst (λ d. AnswersTree (step d) r) (sym (ap (with_these e) (append-nil made) ∙ is_with_these e made over is)) gives
+    in_turn (c ∷ cs) made r (Err t, h, is) = subst (AnswersTree (over_these made (c ∷ cs))) (sym is) (first_refused c cs made t h)
+    in_turn (c ∷ cs) made r (Ok d, h, rest) = subst (λ told. AnswersTree told r) (sym (first_made c d cs made h)) (in_turn cs (made ++ d ∷ []) r rest)
 
-module _ (step : Tree → Result Tree Refusal) (e : Tree) where
-  pub refused_below : (r : TransformError) → Refuses (children_rebuilt step e) r → Refuses (rebuilt step e) r
-  refused_below r h = subst (λ told. Refuses told r) (sym (by_children step e)) (handed_on (children_rebuilt step e) step r h)
+    node_made : (r : Result Tree TransformError) → MakesNode children_of IsWithChildren Gives GivesRebuilt e r → GivesRebuilt e r
+    node_made r w =
+        subst (λ told. AnswersTree told r) (sym (by_children step e ∙ and_then_same (each (rebuilt step) (children_of e)) (with_these e) step)) (in_turn (children_of e) [] r w)
 
-  pub step_at : (d : Tree) → children_rebuilt step e ≡ Ok d → rebuilt step e ≡ step d
-  step_at d h = by_children step e ∙ ap (λ told. and_then told step) h
+  -- what the walk makes of an expression is the expression rebuilt
+  pub made_up : (e : Tree) (made : Result Tree TransformError) → MakesUp children_of IsWithChildren Gives node_height e made → AnswersTree (rebuilt step e) made
+  made_up e made w = made-so children_of IsWithChildren Gives GivesRebuilt node_made node_height e made w
 
-module _ (step : Tree → Result Tree Refusal) (r : TransformError) where
-  refused_up : (e : Tree) (before : List Tree) (x : Tree) (after : List Tree) → children_of e ≡ before ++ x ∷ after → Every (Fine step) before → Refuses (rebuilt step x) r → Refuses (rebuilt step e) r
-  refused_up e before x after are fine bad =
-      refused_below step e r
-      (handed_on (each (rebuilt step) (children_of e)) (λ cs. Ok (with_these e cs)) r
-      (subst (λ cs. Refuses (each (rebuilt step) cs) r) (sym are) (each_refused step before x after r fine bad)))
-
-  -- where the next node is refused the whole is
-  pub refused_at : (n : Tree) (ns : List Tree) (made : List (Option Tree)) (whole : Tree) → Midway (IsRebuilt step) (n ∷ ns) made whole → Refuses (rebuilt step n) r → Refuses (rebuilt step whole) r
-  refused_at n ns made whole h bad =
-      first_bad (Fine step) (λ e. Refuses (rebuilt step e) r) refused_up ns h.2.0 n [] whole h.2.2
-      (every_before (Fine step) h.2.0 (children_of n) (subst (Every (Fine step)) h.2.1 (all_fine step h.0 made h.1))) bad
+  -- what it refuses is refused
+  pub refused_up : (e : Tree) (w : WalkError TransformError) (r : TransformError) → w ≡ Visit r → OfAnswer (MakesUp children_of IsWithChildren Gives node_height e) (Err w) → Refuses (rebuilt step e) r
+  refused_up e w r is h = made_up e (Err r) (subst (λ (v : WalkError TransformError). OfAnswer (MakesUp children_of IsWithChildren Gives node_height e) (Err v)) is h)

@@ -1,5 +1,5 @@
 -- A pass from the leaves up, node by node: first the children, then the node with these.
-use Rattle.std.specs.Prelude.{◌≡◌, List, [], ◌∷◌, Option, unwrap_or, Result, Ok, Err}
+use Rattle.std.specs.Prelude.{List, [], ◌∷◌, Option, unwrap_or, Result, Ok, Err}
 use Rattle.vx_expr.specs.Children.{with_children_of}
 use Rattle.vx_expr.specs.Trees.{Tree, children_of}
 use Rattle.vx_semantics.specs.Typing.{Refusal, and_then}
@@ -26,16 +26,6 @@ all_or_same (e ∷ es) (m ∷ made) = or_same e m ∷ all_or_same es made
 -- the node with these children, as many as its own
 abbrev pub with_these : Tree → List Tree → Tree
 with_these e cs = unwrap_or (with_children_of e cs) e
-
--- the values stand so to the expressions of a list, one by one
-abbrev pub OneByOne : {V : Type 0} → (Tree → V → Type 0) → List Tree → List V → Type 0
-OneByOne R [] [] = Unit {0}
-OneByOne R (e ∷ es) (v ∷ vs) = R e v × OneByOne R es vs
-OneByOne R _ _ = ⊥
-
--- what was made of an expression is the expression rebuilt
-abbrev pub IsRebuilt : (Tree → Result Tree Refusal) → Tree → Option Tree → Type 0
-IsRebuilt step e made = rebuilt step e ≡ Ok (or_same e made)
 
 -- the node with its children rebuilt
 abbrev pub children_rebuilt : (Tree → Result Tree Refusal) → Tree → Result Tree Refusal

@@ -43,19 +43,21 @@ pub(crate) fn givings_pack(
 ) -> Mem<ExprRef>
     ensures { IfOk result (λ made. made ≡ givings_pack nullability (map giving_view given.now)) }
 {
-    let fields = fields_together(alloc, given)?;
+    let (fields, names) = fields_together(alloc, given)?;
     let values = given_fields(alloc, fields.as_slice(), given)?;
-    let names = merged_field_names(alloc, fields.as_slice())?;
     Ok(pack_of(alloc, names, values, nullability)?)
 }
 
-/// The fields that structs give together.
-fn fields_together(alloc: Global, given: &[Giving]) -> Mem<Vec<MergedField>>
-    ensures names { IfOk result (λ fields. map name_of fields.items ≡ merged_names giving_names (map giving_view given.now)) }
-    ensures places { IfOk result (λ fields. All (IsGivenBy (map giving_names (map giving_view given.now))) fields.items) }
+/// The fields that structs give together, and the list of their names.
+fn fields_together(alloc: Global, given: &[Giving]) -> Mem<(Vec<MergedField>, FieldNames)>
+    ensures names { IfOk result (λ made. map name_of made.0.items ≡ merged_names giving_names (map giving_view given.now)) }
+    ensures places { IfOk result (λ made. All (IsGivenBy (map giving_names (map giving_view given.now))) made.0.items) }
+    ensures list { IfOk result (λ made. made.1 ≡ map name_of made.0.items) }
 {
-    let names = names_in_each(alloc, given)?;
-    Ok(merged_fields(alloc, names.as_slice())?)
+    let structs = names_in_each(alloc, given)?;
+    let fields = merged_fields(alloc, structs.as_slice())?;
+    let names = merged_field_names(alloc, fields.as_slice(), structs.as_slice())?;
+    Ok((fields, names))
 }
 
 /// The names of each struct's fields.

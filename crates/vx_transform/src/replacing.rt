@@ -1,13 +1,14 @@
 // Replacing expressions in an expression.
-ghost use Rattle.std.specs.Prelude.{◌≡◌, Ok, IfOk};
-ghost use Rattle.vx_passes.specs.Replacing.{replaced_where_equal, replaced, packed_where_root, root_replaced};
+ghost use Rattle.std.specs.Prelude.{◌≡◌, cond, Ok, IfOk};
+ghost use Rattle.vx_expr.specs.Children.{is_root_tree};
+ghost use Rattle.vx_passes.specs.Replacing.{replaced_where_equal, replaced, root_replaced};
 ghost use Rattle.vx_transform.specs.Rebuilds.{OkOrNoMemory};
 
 use crate::errors::TransformError;
 use crate::packs::fields_pack;
 use crate::rebuilding::{Step, rebuild};
 use std::alloc::Global;
-use vx_build::is_root;
+use vx_build::{is_root, root};
 use vx_dtype::{Mem, NoMemory, StructFields};
 use vx_expr::ExprRef;
 
@@ -38,7 +39,10 @@ pub fn replace(alloc: Global, expr: ExprRef, needle: &ExprRef, replacement: Expr
 pub fn replace_root_fields(alloc: Global, expr: ExprRef, fields: &StructFields) -> Mem<ExprRef>
     ensures { IfOk result (λ made. made ≡ root_replaced fields.now expr) }
 {
-    unrefused(rebuild(alloc, expr, &PackedRoot { fields }))
+    let row = root(alloc)?;
+    let names = fields.names().clone()?;
+    let pack = fields_pack(alloc, names, &row)?;
+    unrefused(rebuild(alloc, expr, &PackedRoot { pack: &pack }))
 }
 
 /// The answer of a pass that never refuses.
@@ -71,20 +75,19 @@ impl Step for Replacing<'_> {
     }
 }
 
-/// The pack of the row's fields in the place of the row.
+/// The pack of the row's fields in the place of the row, shared by all its places.
 #[derive(Drop)]
 struct PackedRoot<'a> {
-    fields: &'a StructFields,
+    pack: &'a ExprRef,
 }
 
 impl Step for PackedRoot<'_> {
-    ghost step = { λ s e. Ok (packed_where_root s.fields.now e) };
+    ghost step = { λ s e. Ok (cond (is_root_tree e) s.pack.now e) };
 
-    fn at(&self, alloc: Global, node: &ExprRef) -> Result<Option<ExprRef>, TransformError> {
-        if !is_root(node) {
-            return Ok(None);
+    fn at(&self, _alloc: Global, node: &ExprRef) -> Result<Option<ExprRef>, TransformError> {
+        if is_root(node) {
+            return Ok(Some(self.pack.clone()?));
         }
-        let names = self.fields.names().clone()?;
-        Ok(Some(fields_pack(alloc, names, node)?))
+        Ok(None)
     }
 }

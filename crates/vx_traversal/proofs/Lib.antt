@@ -5,8 +5,10 @@ pub mod PathLemmas
 pub mod DepthLemmas
 pub mod RewriteLemmas
 pub mod RewriteFrameLemmas
+pub mod UpStepLemmas
 pub mod FoldLemmas
 pub mod FoldFrameLemmas
+pub mod FoldTurnLemmas
 pub mod ContainerLemmas
 pub mod ReferenceLemmas
 pub mod ReferenceOrderLemmas

@@ -4,8 +4,12 @@ pub mod FirstVisits
 pub mod Paths
 pub mod Rewrites
 pub mod RewriteFrames
+pub mod UpSteps
+pub mod UpAnswers
 pub mod Folds
 pub mod FoldFrames
+pub mod FoldTurns
+pub mod FoldPending
 pub mod ContainerShapes
 pub mod ContainerShapeLaws
 pub mod Containers

@@ -1,19 +1,24 @@
 //! The walks of every node.
+ghost use Rattle.std.specs.Prelude.{IfOk};
 ghost use Rattle.vx_traversal.specs.Folds.{Folds, FoldsUnder};
 ghost use Rattle.vx_traversal.specs.Rewrites.{CalledWith, KeepsHeight, KeepsValue, Rewrites, UnlessNoMemory};
+ghost use Rattle.vx_traversal.specs.UpSteps.{MakesUp, OfAnswer};
 ghost use Rattle.vx_traversal.specs.Visits.{Visits};
 
 use crate::errors::Walk;
 use crate::fold::{FoldUp, NodeFolder, NodeFolderContext};
+use crate::fold_steps::{FoldSteps, fold_tree};
 use crate::folding::{Alone, InContext, fold_node};
 use crate::nodes::Node;
 use crate::order::TraversalOrder;
 use crate::rewriter::NodeRewriter;
 use crate::rewriting::{ByClosureDown, ByClosureUp, ByRewriter, rewrite_node};
 use crate::transform::Transformed;
+use crate::up_step::{ByUpStep, UpStep, UpSteps};
 use crate::visitor::NodeVisitor;
 use crate::walking::{ByVisitor, walk_node};
 use std::alloc::Global;
+use vx_dtype::Mem;
 
 /// The walks of every [`Node`].
 pub trait NodeExt: Node {
@@ -83,6 +88,21 @@ pub trait NodeExt: Node {
         rewrite_node::<ByClosureUp, Self, F>(self, alloc, &mut f)
     }
 
+    /// What `step` makes of the tree from the leaves up, each node once its children are made; or what
+    /// it refuses the first node with, in that order, that it can't make. A node is shared with the
+    /// tree where nothing is made of it or of what stands below it.
+    final fn transform_up_by<S: UpStep<NodeTy = Self>>(
+        self,
+        alloc: Global,
+        step: &S,
+    ) -> Walk<Self, S::Error>
+        ensures { OfAnswer (MakesUp Self.children Self.is_with (S.makes step.now) Self.height self) result }
+    {
+        let mut steps = UpSteps { alloc, step };
+        let made = rewrite_node::<ByUpStep, Self, UpSteps<'_, S>>(self, alloc, &mut steps)?;
+        Ok(made.value)
+    }
+
     /// Folds the tree under a context: down on the node first. Skip gives the node's result, with no
     /// children and no up; Stop ends the whole fold, also from within a child; after Continue the
     /// children are folded in order under the context that it holds, and up gets their results in
@@ -107,6 +127,20 @@ pub trait NodeExt: Node {
         ensures { UnlessNoMemory result (Folds Self.children F.down F.up Self.height folder.old self result folder.new) }
     {
         fold_node::<Alone, F>(self, alloc, &(), folder)
+    }
+
+    /// Folds the tree by steps that say what the fold does to a whole tree: down on the node first.
+    /// Where it gives no result, the children are folded in order, and up gets their results. Refuses
+    /// only where memory runs out.
+    final fn fold_by<F: FoldSteps<NodeTy = Self>>(
+        &self,
+        alloc: Global,
+        steps: &mut F,
+    ) -> Mem<F::Result>
+        requires { F.ready steps.old self.now }
+        ensures { IfOk result (λ given. F.folds steps.old self.now given steps.new) }
+    {
+        fold_tree(self, alloc, steps)
     }
 }
 

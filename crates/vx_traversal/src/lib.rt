@@ -7,6 +7,7 @@ mod errors;
 mod expressions;
 mod ext;
 mod fold;
+mod fold_steps;
 mod folding;
 mod node_refs;
 mod nodes;
@@ -16,6 +17,7 @@ mod references;
 mod rewriter;
 mod rewriting;
 mod transform;
+mod up_step;
 mod visitor;
 mod walking;
 
@@ -26,9 +28,11 @@ pub use containers::{
 pub use errors::{Walk, WalkError};
 pub use ext::NodeExt;
 pub use fold::{FoldDown, FoldDownContext, FoldUp, NodeFolder, NodeFolderContext};
+pub use fold_steps::FoldSteps;
 pub use nodes::Node;
 pub use order::TraversalOrder;
 pub use references::{ReferenceCollector, VortexExprExt};
 pub use rewriter::NodeRewriter;
 pub use transform::Transformed;
+pub use up_step::UpStep;
 pub use visitor::{NodeVisitor, pre_order_visit_down, pre_order_visit_up};

@@ -1,12 +1,14 @@
 -- Names in order of first appearance, as a loop collects them beside a set of those that it has.
 use Rattle.std.proofs.Common.{subst, ◌≡◌, ℕ, ◌+◌, ◌<◌, Bool, true, false, ◌&&◌, ◌||◌, not, cond, List, [], ◌∷◌, ◌++◌, length, drop, refl, ap, sym, ◌∙◌, append_assoc}
-use Rattle.std.specs.List.{filter}
+use Rattle.std.specs.List.{filter, list_all}
 use Rattle.std.specs.Str.{bytes_eq}
 use Rattle.std.proofs.lemmas.Slice.Eq.{bytes_eq-Decides}
 use Rattle.std.specs.Ordering.{nat_cmp, is_eq}
 use Rattle.std.specs.Cmp.Lexicographic.{slice_cmp}
 use Rattle.std.proofs.lemmas.Map.Text.{is_eq-slice_cmp}
 use Rattle.std.proofs.Math.ListN.{get_or}
+use Rattle.std.proofs.lemmas.Bool.{and_parts, and_from, or_left, or_right}
+use Rattle.std.proofs.lemmas.List.Elements.{filter-append}
 use Rattle.std.proofs.lemmas.List.Folds.{list_any-append}
 use Rattle.vx_dtype.specs.EqualLaws.{bytes_eq_equiv}
 use Rattle.vx_dtype.specs.Types.{Bytes}
@@ -99,3 +101,42 @@ set_has_again q f kept was now there h e =
 pub all_new : (names : List Bytes) → filter (is_new []) names ≡ names
 all_new [] = refl
 all_new (f ∷ fs) = ap (λ gs. f ∷ gs) (all_new fs)
+
+both_not : (a b : Bool) → (not a && not b) ≡ not (b || a)
+both_not true true = refl
+both_not true false = refl
+both_not false true = refl
+both_not false false = refl
+
+-- the names of two lists in order of first appearance: those of the first, and of the second those that the first doesn't have
+pub first_names-append : (xs ys : List Bytes) → first_names (xs ++ ys) ≡ first_names xs ++ filter (is_new xs) (first_names ys)
+first_names-append [] ys = sym (all_new (first_names ys))
+first_names-append (f ∷ xs) ys =
+    let other : Bytes → Bool = λ g. not (bytes_eq f g) in
+    let both : (g : Bytes) → (is_new xs g && other g) ≡ is_new (f ∷ xs) g =
+    λ g. ap (λ b. is_new xs g && not b) (bytes_eq_equiv.symm f g) ∙ both_not (has_name g xs) (bytes_eq g f) in
+    let new = filter (is_new xs) (first_names ys) in
+    ap (λ zs. f ∷ filter other zs) (first_names-append xs ys)
+    ∙ ap (λ zs. f ∷ zs) (filter-append other (first_names xs) new)
+    ∙ ap (λ zs. f ∷ (filter other (first_names xs) ++ zs)) (filter_twice other (is_new xs) (is_new (f ∷ xs)) both (first_names ys))
+
+-- of names that are all among others none is new
+pub none_new : (xs ys : List Bytes) → list_all (λ g. has_name g xs) ys ≡ true → filter (is_new xs) ys ≡ []
+none_new xs [] h = refl
+none_new xs (g ∷ ys) h =
+    let parts = and_parts (has_name g xs) (list_all (λ k. has_name k xs) ys) h in
+    let left = filter (is_new xs) ys in
+    ap (λ b. cond (not b) (g ∷ left) left) parts.0 ∙ none_new xs ys parts.1
+
+all_weaker : (p q : Bytes → Bool) → ((g : Bytes) → p g ≡ true → q g ≡ true) → (ys : List Bytes) → list_all p ys ≡ true → list_all q ys ≡ true
+all_weaker p q so [] h = refl
+all_weaker p q so (g ∷ ys) h =
+    let parts = and_parts (p g) (list_all p ys) h in
+    and_from (q g) (list_all q ys) (so g parts.0) (all_weaker p q so ys parts.1)
+
+-- names are all among themselves
+pub all_among : (fs : List Bytes) → list_all (λ g. has_name g fs) fs ≡ true
+all_among [] = refl
+all_among (f ∷ fs) =
+    let behind = all_weaker (λ g. has_name g fs) (λ g. has_name g (f ∷ fs)) (λ g h. or_right (bytes_eq g f) (has_name g fs) h) fs (all_among fs) in
+    and_from (has_name f (f ∷ fs)) (list_all (λ g. has_name g (f ∷ fs)) fs) (or_left (bytes_eq f f) (has_name f fs) ((bytes_eq-Decides f f).1 refl)) behind

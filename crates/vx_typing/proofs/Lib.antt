@@ -2,6 +2,8 @@ pub mod JoinedFields
 pub mod NameLemmas
 pub mod FirstNames
 pub mod FieldPlaces
+pub mod AlikeStructs
+pub mod FewStructs
 pub mod MergedTypes
 pub mod TypeLists
 pub mod SlotLemmas

@@ -1,5 +1,5 @@
 -- Names that a test keeps of others, and names in order of first appearance.
-use Rattle.std.proofs.Common.{◌≡◌, refl, ap, ℕ, zero, suc, ◌<◌, Bool, true, false, ◌||◌, not, cond, List, [], ◌∷◌, length, arith}
+use Rattle.std.proofs.Common.{◌≡◌, refl, ap, ◌∙◌, ℕ, zero, suc, ◌<◌, Bool, true, false, ◌||◌, not, cond, List, [], ◌∷◌, length, arith}
 use Rattle.std.specs.List.{All, filter}
 use Rattle.std.specs.Str.{bytes_eq}
 use Rattle.std.proofs.Math.ListN.{get_or}
@@ -64,6 +64,21 @@ first_names_distinct (f ∷ fs) =
     and_from (not (has_name f (filter other (first_names fs)))) (distinct_names (filter other (first_names fs)))
     (ap not (none_equal f (first_names fs))) (distinct_kept other (first_names fs) (first_names_distinct fs))
 
+all_other : (f : Bytes) (fs : List Bytes) → has_name f fs ≡ false → filter (λ g. not (bytes_eq f g)) fs ≡ fs
+all_other f [] h = refl
+all_other f (g ∷ fs) h =
+    let left = filter (λ k. not (bytes_eq f k)) fs in
+    ap (λ b. cond (not b) (g ∷ left) left) (left_false (bytes_eq f g) (has_name f fs) h)
+    ∙ ap (λ gs. g ∷ gs) (all_other f fs (right_false (bytes_eq f g) (has_name f fs) h))
+
+-- names that stand once are in order of first appearance
+pub first_names_own : (fs : List Bytes) → distinct_names fs ≡ true → first_names fs ≡ fs
+first_names_own [] h = refl
+first_names_own (f ∷ fs) h =
+    let parts = and_parts (not (has_name f fs)) (distinct_names fs) h in
+    ap (λ gs. f ∷ filter (λ g. not (bytes_eq f g)) gs) (first_names_own fs parts.1)
+    ∙ ap (λ gs. f ∷ gs) (all_other f fs (not_found (has_name f fs) parts.0))
+
 none_first : (f : Bytes) (fs : List Bytes) → has_name f fs ≡ false → has_name f (first_names fs) ≡ false
 none_first f [] h = refl
 none_first f (g ∷ fs) h =
@@ -75,7 +90,7 @@ either : (a b : Bool) → b ≡ true → (a || b) ≡ true
 either true b h = refl
 either false b h = h
 
-name_at : (fs : List Bytes) (i : ℕ) (d : Bytes) → i < length fs → has_name (get_or fs i d) fs ≡ true
+pub name_at : (fs : List Bytes) (i : ℕ) (d : Bytes) → i < length fs → has_name (get_or fs i d) fs ≡ true
 name_at [] i d h = absurd (omega (arith, h))
 name_at (f ∷ fs) zero d h = ap (λ b. b || has_name f fs) (has_name_itself f)
 name_at (f ∷ fs) (suc i) d h = either (bytes_eq (get_or fs i d) f) (has_name (get_or fs i d) fs) (name_at fs i d (omega (arith, h)))

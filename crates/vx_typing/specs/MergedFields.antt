@@ -1,8 +1,11 @@
 -- The fields that structs give together, and where each stands. A struct is given by the names of its fields.
-use Rattle.std.specs.Prelude.{◌≡◌, ℕ, ◌+◌, List, [], ◌∷◌, Option, None, Some, option_map, position}
+use Rattle.std.specs.Prelude.{◌≡◌, ℕ, ◌+◌, Bool, true, ◌&&◌, List, [], ◌∷◌, Option, None, Some, option_map, position}
+use Rattle.std.specs.List.{list_all}
 use Rattle.std.specs.Option.{option_or}
 use Rattle.std.specs.Str.{bytes_eq}
+use Rattle.vx_dtype.specs.Equal.{names_eq}
 use Rattle.vx_dtype.specs.Types.{Bytes}
+use Rattle.vx_dtype.specs.TypeRules.{distinct_names}
 use Rattle.vx_typing.specs.declared.field_places.FieldPlace.{FieldPlace}
 use Rattle.vx_typing.specs.declared.field_places.MergedField.{MergedField}
 
@@ -26,3 +29,8 @@ name_of m = m.name
 -- the merged field stands where the last of the structs that has its name has it first
 abbrev pub IsGivenBy : List (List Bytes) → MergedField → Type 0
 IsGivenBy structs m = last_place 0 m.name structs ≡ Some m.place
+
+-- whether structs all have the same names, of which none stands twice
+abbrev pub are_alike : List (List Bytes) → Bool
+are_alike [] = true
+are_alike (names ∷ structs) = distinct_names names && list_all (names_eq names) structs

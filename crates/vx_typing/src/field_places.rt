@@ -1,4 +1,4 @@
-// Fields that structs give together, and where each stands.
+// Fields that structs give together, and where each stands: by a map of all places.
 ghost use Rattle.std.specs.Prelude.{◌≡◌, ◌++◌, Some, IsSome, map, IfOk, OnOk};
 ghost use Rattle.std.specs.Option.{option_or};
 ghost use Rattle.std.specs.List.{All, flat_map};
@@ -32,26 +32,14 @@ pub struct MergedField {
     pub place: FieldPlace,
 }
 
-/// The fields that structs with these names give together, each name once and in order of first appearance: the first field of the name in the
-/// last of the structs that has one. Takes the time of a sort of all names, so that structs of many fields do not hold up the caller.
-pub fn merged_fields(alloc: Global, structs: &[FieldNames]) -> Mem<Vec<MergedField>>
+/// The fields that structs give together, whatever names they have: by a map of all places, and a set of the names that were met.
+pub(crate) fn fields_by_name(alloc: Global, structs: &[FieldNames]) -> Mem<Vec<MergedField>>
     ensures names { IfOk result (λ fields. map name_of fields.items ≡ merged_names (λ own. own) structs.now) }
     ensures places { IfOk result (λ fields. All (IsGivenBy structs.now) fields.items) }
 {
     let places = last_places(alloc, structs)?;
     let names = first_names(alloc, all_names(alloc, structs)?.as_slice())?;
     Ok(placed_fields(alloc, names.as_slice(), &places)?)
-}
-
-/// The names of merged fields, in order.
-pub fn merged_field_names(alloc: Global, fields: &[MergedField]) -> Mem<FieldNames>
-    ensures { IfOk result (λ names. names ≡ map name_of fields.now) }
-{
-    let mut names = Vec::with_capacity(alloc, fields.len())?;
-    for field in fields {
-        names.push(field.name.clone()?)?;
-    }
-    Ok(FieldNames::new(alloc, names)?)
 }
 
 /// Where the first field of each name stands in the last of the structs that has one.
@@ -96,7 +84,7 @@ fn all_names(alloc: Global, structs: &[FieldNames]) -> Mem<Vec<FieldName>>
 }
 
 /// Names, and more of them behind.
-fn followed_by(mut names: Vec<FieldName>, more: &[FieldName]) -> Mem<Vec<FieldName>>
+pub(crate) fn followed_by(mut names: Vec<FieldName>, more: &[FieldName]) -> Mem<Vec<FieldName>>
     ensures { IfOk result (λ all. all.items ≡ names.items ++ more.now) }
 {
     for name in more {

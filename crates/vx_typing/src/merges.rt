@@ -9,7 +9,8 @@ ghost use Rattle.vx_typing.specs.MergedFields.{name_of, IsGivenBy};
 ghost use Rattle.vx_typing.specs.TypingAnswers.{AnswersType};
 
 use crate::errors::TypeError;
-use crate::field_places::{MergedField, merged_field_names, merged_fields};
+use crate::field_places::MergedField;
+use crate::merging::{merged_field_names, merged_fields};
 use std::alloc::Global;
 use vx_dtype::{DType, FieldNames, Mem, Nullability, StructFields};
 
@@ -46,13 +47,16 @@ fn names_in_each(alloc: Global, types: &[DType]) -> Mem<Vec<FieldNames>>
     Ok(names)
 }
 
-/// The fields that structs of these types give together.
-fn fields_together(alloc: Global, types: &[DType]) -> Mem<Vec<MergedField>>
-    ensures names { IfOk result (λ fields. map name_of fields.items ≡ merged_names names_in (map type_view types.now)) }
-    ensures places { IfOk result (λ fields. All (IsGivenBy (map names_in (map type_view types.now))) fields.items) }
+/// The fields that structs of these types give together, and the list of their names.
+fn fields_together(alloc: Global, types: &[DType]) -> Mem<(Vec<MergedField>, FieldNames)>
+    ensures names { IfOk result (λ made. map name_of made.0.items ≡ merged_names names_in (map type_view types.now)) }
+    ensures places { IfOk result (λ made. All (IsGivenBy (map names_in (map type_view types.now))) made.0.items) }
+    ensures list { IfOk result (λ made. made.1 ≡ map name_of made.0.items) }
 {
-    let names = names_in_each(alloc, types)?;
-    Ok(merged_fields(alloc, names.as_slice())?)
+    let structs = names_in_each(alloc, types)?;
+    let fields = merged_fields(alloc, structs.as_slice())?;
+    let names = merged_field_names(alloc, fields.as_slice(), structs.as_slice())?;
+    Ok((fields, names))
 }
 
 /// The type of a merged field: that of the field at its place, nullable also where the struct there is.
@@ -82,13 +86,18 @@ fn merged_types(alloc: Global, fields: &[MergedField], types: &[DType]) -> Mem<V
     Ok(merged)
 }
 
-/// Merged fields with their types.
-fn typed_fields(alloc: Global, fields: &[MergedField], types: &[DType]) -> Mem<StructFields>
-    requires { All (IsGivenBy (map names_in (map type_view types.now))) fields.now }
+/// Merged fields with their types, under the list of their names.
+fn typed_fields(
+    alloc: Global,
+    names: FieldNames,
+    fields: &[MergedField],
+    types: &[DType],
+) -> Mem<StructFields>
+    requires names { names ≡ map name_of fields.now }
+    requires given { All (IsGivenBy (map names_in (map type_view types.now))) fields.now }
     ensures { IfOk result (λ made. made ≡ merged_fields_at (map name_of fields.now) (map type_view types.now)) }
 {
     let merged = merged_types(alloc, fields, types)?;
-    let names = merged_field_names(alloc, fields)?;
     Ok(StructFields::new(alloc, names, merged)?)
 }
 
@@ -103,7 +112,7 @@ pub(crate) fn merge_type(
     if !all_structs(types) {
         return Err(TypeError::NotStruct);
     }
-    let fields = fields_together(alloc, types)?;
-    let merged = typed_fields(alloc, fields.as_slice(), types)?;
+    let (fields, names) = fields_together(alloc, types)?;
+    let merged = typed_fields(alloc, names, fields.as_slice(), types)?;
     Ok(DType::Struct(merged, nullability))
 }

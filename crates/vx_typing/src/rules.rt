@@ -14,21 +14,21 @@ use vx_dtype::{DType, FieldName, FieldNames, Nullability, Scalar, StructFields};
 use vx_expr::Operator;
 
 /// A type whose structs, at any depth, have no name twice.
-fn distinct_type(alloc: Global, dtype: &DType) -> Result<DType, TypeError>
+fn distinct_type(dtype: &DType) -> Result<DType, TypeError>
     ensures { AnswersType (distinct_type (type_view dtype.now)) result }
 {
-    if !dtype.has_distinct_names(alloc)? {
+    if !dtype.has_distinct_names() {
         return Err(TypeError::DuplicateField);
     }
     Ok(dtype.clone()?)
 }
 
 /// A constant's type. Its value is one of the type, so nothing else is refused.
-pub(crate) fn literal_type(alloc: Global, scalar: &Scalar) -> Result<DType, TypeError>
+pub(crate) fn literal_type(scalar: &Scalar) -> Result<DType, TypeError>
     ensures { AnswersType (literal_type scalar.now) result }
 {
     let _value = scalar.value();
-    distinct_type(alloc, scalar.dtype())
+    distinct_type(scalar.dtype())
 }
 
 /// The type of a field that the struct has to have.
@@ -53,7 +53,7 @@ pub(crate) fn pack_type(
 ) -> Result<DType, TypeError>
     ensures { AnswersType (pack_type names.now nullability (map type_view types.items)) result }
 {
-    if !FieldName::are_distinct(alloc, names.as_slice())? {
+    if !names.are_distinct() {
         return Err(TypeError::DuplicateField);
     }
     if names.len() != types.len() {

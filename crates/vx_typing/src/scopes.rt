@@ -1,13 +1,12 @@
 // A scope whose names are looked at once, for all the places where an expression reads the row.
-ghost use Rattle.std.specs.Prelude.{◌≡◌, IfOk};
+ghost use Rattle.std.specs.Prelude.{◌≡◌};
 ghost use Rattle.vx_dtype.specs.TypeViews.{type_view};
 ghost use Rattle.vx_semantics.specs.Typing.{distinct_type};
 ghost use Rattle.vx_typing.specs.TypingAnswers.{AnswersType};
 
 use crate::errors::TypeError;
-use std::alloc::Global;
 use std::marker::Model;
-use vx_dtype::{DType, Mem};
+use vx_dtype::DType;
 
 /// A scope's type, and whether it has no name twice. It is seen as the type.
 #[derive(Drop)]
@@ -34,11 +33,11 @@ impl<'a> Model for CheckedScope<'a> {
 
 impl<'a> CheckedScope<'a> {
     /// The scope of this type.
-    pub(crate) fn new(alloc: Global, dtype: &'a DType) -> Mem<CheckedScope<'a>>
-        ensures { IfOk result (λ scope. scope ≡ type_view dtype.now) }
+    pub(crate) fn new(dtype: &'a DType) -> CheckedScope<'a>
+        ensures { result ≡ type_view dtype.now }
     {
-        let is_distinct = dtype.has_distinct_names(alloc)?;
-        Ok(CheckedScope { dtype, is_distinct })
+        let is_distinct = dtype.has_distinct_names();
+        CheckedScope { dtype, is_distinct }
     }
 
     /// The type of the row, which has no name twice.

@@ -8,7 +8,7 @@ ghost use Rattle.vx_typing.specs.TypingAnswers.{AnswersBy, AnswersType};
 
 use crate::errors::TypeError;
 use std::alloc::Global;
-use vx_dtype::{DType, FieldName, FieldNames, FieldsError, Mem, Nullability, StructFields};
+use vx_dtype::{DType, FieldNames, FieldsError, Mem, Nullability, StructFields};
 use vx_expr::FieldSelection;
 
 /// Whether each name is one of the fields'.
@@ -23,11 +23,11 @@ fn all_known(names: &FieldNames, fields: &StructFields) -> bool
 fn included_fields(
     alloc: Global,
     fields: &StructFields,
-    names: &[FieldName],
+    names: &FieldNames,
 ) -> Result<StructFields, TypeError>
     ensures { AnswersBy (λ taken. taken) (unless (all_known names.now fields.now) unknown_field (Ok (fields_at names.now fields.now))) result }
 {
-    match fields.project(alloc, names) {
+    match fields.project_list(alloc, names) {
         Ok(taken) => Ok(taken),
         Err(FieldsError::NoMemory) => Err(TypeError::NoMemory),
         Err(FieldsError::UnknownField) => Err(TypeError::UnknownField),
@@ -68,18 +68,18 @@ fn selected_fields(
         (unless (included_known selection.now fields.now) unknown_field (Ok (selected_fields selection.now fields.now))) result }
 {
     match selection {
-        FieldSelection::Include(names) => included_fields(alloc, fields, names.as_slice()),
+        FieldSelection::Include(names) => included_fields(alloc, fields, names),
         FieldSelection::Exclude(names) => Ok(fields_without(alloc, fields, names)?),
     }
 }
 
 /// Whether no included name stands twice.
-fn included_once(alloc: Global, selection: &FieldSelection) -> Mem<bool>
-    ensures { IfOk result (λ once. once ≡ included_once selection.now) }
+fn included_once(selection: &FieldSelection) -> bool
+    ensures { result ≡ included_once selection.now }
 {
     match selection {
-        FieldSelection::Include(names) => FieldName::are_distinct(alloc, names.as_slice()),
-        FieldSelection::Exclude(_) => Ok(true),
+        FieldSelection::Include(names) => names.are_distinct(),
+        FieldSelection::Exclude(_) => true,
     }
 }
 
@@ -100,7 +100,7 @@ pub(crate) fn select_type(
     if !all_known(selection.field_names(), fields) {
         return Err(TypeError::UnknownField);
     }
-    if !included_once(alloc, selection)? {
+    if !included_once(selection) {
         return Err(TypeError::DuplicateField);
     }
     let taken = selected_fields(alloc, selection, fields)?;

@@ -23,7 +23,7 @@ use vx_expr::{Expr, ExprRef, VortexExpr};
 pub fn typed(alloc: Global, expr: &ExprRef, scope: &DType) -> Result<DType, TypeError>
     ensures { AnswersType (typed_of (type_view scope.now) expr.now) result }
 {
-    let scope = CheckedScope::new(alloc, scope)?;
+    let scope = CheckedScope::new(scope);
     typed_over(alloc, expr, &scope)
 }
 
@@ -58,7 +58,7 @@ fn node_type(
 {
     match node {
         Expr::Root(_) => scope.row_type(),
-        Expr::Literal(node) => literal_type(alloc, node.value()),
+        Expr::Literal(node) => literal_type(node.value()),
         Expr::GetItem(node) => item_type(node.field(), &operands[0]),
         Expr::Binary(node) => binary_type(node.op(), &operands[0], &operands[1]),
         Expr::Not(_) => not_type(&operands[0]),

@@ -30,7 +30,7 @@ pub(crate) fn broken_rule(
     ensures rule { IfOk result (λ rule. rule ≡ broken_rule (record { columns = columns.now; lengths = lengths.now; stats = map stat_view stats.now })) }
     ensures fit { IfOk result (λ rule. rule ≡ None → list_all (λ z. scalars_fit z.values) (map stat_view stats.now) ≡ true) }
 {
-    if !columns.has_distinct_names(alloc)? {
+    if !columns.has_distinct_names() {
         return Ok(Some(ZoneError::DuplicateName));
     }
     if !are_shallow(columns) {

@@ -59,6 +59,19 @@ impl StructFields {
         Ok(StructFields::new(alloc, names, dtypes)?)
     }
 
+    /// The same of names in a list, which the fields then share: so that its places aren't noted again.
+    pub fn project_list(
+        &self,
+        alloc: Global,
+        names: &FieldNames,
+    ) -> Result<StructFields, FieldsError>
+        ensures ok { IfOk result (λ fields. projected names.now self.now ≡ Some fields) }
+        ensures unknown { IsErrOf result FieldsError.UnknownField → IsNone (projected names.now self.now) }
+    {
+        let dtypes = self.dtypes_named(alloc, names.as_slice())?;
+        Ok(StructFields::new(alloc, names.clone()?, dtypes)?)
+    }
+
     /// The types of the first fields of these names. UnknownField exactly where a name is missing.
     #[tactic(auto, using(crate::proofs::ProjectionLemmas::joined_before))]
     fn dtypes_named(&self, alloc: Global, names: &[FieldName]) -> Result<Vec<DType>, FieldsError>

@@ -1,5 +1,5 @@
 use Rattle.std.proofs.Common.{◌≡◌, drop}
-use Rattle.vx_column.specs.Cells.{truths_fit}
+use Rattle.vx_column.specs.ColumnParts.{truths_fit}
 use Rattle.vx_column.proofs.constructors.all_fit.Given as goal
 
 -- what is left to test

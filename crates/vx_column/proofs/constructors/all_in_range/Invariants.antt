@@ -1,5 +1,5 @@
 use Rattle.std.proofs.Common.{◌≡◌, drop}
-use Rattle.vx_column.specs.Cells.{numbers_fit}
+use Rattle.vx_column.specs.ColumnParts.{numbers_fit}
 use Rattle.vx_column.proofs.constructors.all_in_range.Given as goal
 
 -- what is left to test

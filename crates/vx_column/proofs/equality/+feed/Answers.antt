@@ -8,14 +8,15 @@ use Rattle.vx_dtype.specs.Fits.{fits}
 use Rattle.vx_dtype.specs.RawViews.{raw_view}
 use Rattle.vx_column.specs.Columns.{Column, masked, row_at, seen, seen_rows, values_fit, zip_rows}
 use Rattle.vx_column.specs.ColumnEqual.{val_feed}
-use Rattle.vx_column.specs.Cells.{cell_rows, structs_of, AreFieldsOf, AreMaskedOf, ArePartsOf, AreTruthsOf}
+use Rattle.vx_column.specs.Cells.{cell_rows, structs_of, AreFieldsOf, AreMaskedOf, ArePartsOf}
+use Rattle.vx_column.specs.ColumnParts.{AreTruthsOf}
 use Rattle.vx_column.proofs.StructLemmas.{all_rows_at}
 use Rattle.vx_column.proofs.CellLemmas.{deepest, deepest_lt, size_le-deepest, structs_length, constant_row, values_row, values_fit_at}
 use Rattle.vx_column.proofs.SameLemmas.{kept_fed, struct_fed, fields_fed_more, fields_fed_all}
 use Rattle.vx_words.specs.Truths.{is_true, vals_of}
 use Rattle.vx_column.proofs.TruthLemmas.{truth_stands}
 use Rattle.vx_numbers.specs.Numbers.{NumberList}
-use Rattle.vx_column.specs.Cells.{AreNumbersOf}
+use Rattle.vx_column.specs.ColumnParts.{AreNumbersOf}
 use Rattle.vx_column.specs.PlainValues.{numbers_vals}
 use Rattle.vx_column.proofs.NumberLemmas.{number_stands}
 use Rattle.vx_column.proofs.MaskedLemmas.{masked_length, masked_truths, masked_nullable, masked_null, masked_own}

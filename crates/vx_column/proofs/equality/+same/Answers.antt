@@ -14,7 +14,8 @@ use Rattle.vx_column.specs.Columns.{rows_fit, Column, masked, seen, seen_rows, v
 use Rattle.vx_column.specs.StructColumns.{column_types}
 use Rattle.vx_column.specs.TypeSizes.{size_of}
 use Rattle.vx_column.specs.Sizes.{size_masked}
-use Rattle.vx_column.specs.Cells.{cell_rows, masks_apart, structs_of, AreFieldsOf, AreMaskedOf, AreNumbersOf, ArePartsOf, AreStructsOf, AreTruthsOf, SameAt}
+use Rattle.vx_column.specs.Cells.{cell_rows, masks_apart, structs_of, AreFieldsOf, AreMaskedOf, ArePartsOf, AreStructsOf, SameAt}
+use Rattle.vx_column.specs.ColumnParts.{AreNumbersOf, AreTruthsOf}
 use Rattle.vx_column.specs.PlainValues.{numbers_vals}
 use Rattle.vx_column.proofs.StructLemmas.{all_rows_at}
 use Rattle.vx_column.proofs.CellLemmas.{deepest, deepest_lt, size_le-deepest, structs_length, constant_row, values_length, values_row, values_fit_at}

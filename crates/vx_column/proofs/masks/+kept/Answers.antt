@@ -9,7 +9,8 @@ use Rattle.vx_column.specs.Sizes.{size_masked}
 use Rattle.vx_dtype.specs.TypeViews.{type_view}
 use Rattle.vx_words.specs.Truths.{vals_of, kept_items}
 use Rattle.vx_column.specs.Columns.{Column, column, masked, seen, seen_rows, zip_rows}
-use Rattle.vx_column.specs.Cells.{cell_rows, structs_of, AreFieldsOf, AreMaskedOf, ArePartsOf, AreTruthsOf, kept_column}
+use Rattle.vx_column.specs.Cells.{cell_rows, structs_of, AreFieldsOf, AreMaskedOf, ArePartsOf, kept_column}
+use Rattle.vx_column.specs.ColumnParts.{AreTruthsOf}
 use Rattle.vx_column.proofs.StructLemmas.{if_ok_map}
 use Rattle.vx_column.proofs.CellLemmas.{deepest, deepest_lt, size_le-deepest, structs_length, fields_have_rows}
 use Rattle.vx_column.proofs.KeptLemmas.{kept_constant, kept_values, kept_structure}
@@ -17,7 +18,7 @@ use Rattle.vx_column.proofs.TruthLemmas.{true_count_of, kept_truths_of, kept_tru
 use Rattle.vx_column.proofs.MaskedLemmas.{masked_length, masked_truths}
 use Rattle.vx_column.proofs.MaskedParts.{kept_number, kept_masked_column}
 use Rattle.vx_numbers.specs.Numbers.{NumberList, number_list}
-use Rattle.vx_column.specs.Cells.{AreNumbersOf}
+use Rattle.vx_column.specs.ColumnParts.{AreNumbersOf}
 use Rattle.vx_column.specs.PlainValues.{numbers_vals}
 use Rattle.vx_column.proofs.NumberLemmas.{kept_numbers_of, kept_numbers_column}
 use Rattle.vx_column.proofs.masks.+kept.Goals as goal

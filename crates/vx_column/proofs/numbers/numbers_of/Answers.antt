@@ -4,7 +4,8 @@ use Rattle.vx_dtype.specs.Fits.{fits}
 use Rattle.vx_dtype.specs.RawViews.{raw_view}
 use Rattle.vx_numbers.specs.Numbers.{NumberList}
 use Rattle.vx_column.specs.Columns.{seen}
-use Rattle.vx_column.specs.Cells.{cell_rows, AreNumbersOf, ArePartsOf}
+use Rattle.vx_column.specs.Cells.{cell_rows, ArePartsOf}
+use Rattle.vx_column.specs.ColumnParts.{AreNumbersOf}
 use Rattle.vx_column.specs.PlainValues.{numbers_vals}
 use Rattle.vx_column.proofs.NumberLemmas.{in_range_fit, repeated_numbers, repeated_numbers_fit}
 use Rattle.vx_column.proofs.numbers.numbers_of.Goals as goal

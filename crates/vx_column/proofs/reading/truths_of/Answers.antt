@@ -5,7 +5,8 @@ use Rattle.vx_dtype.specs.Fits.{fits}
 use Rattle.vx_dtype.specs.RawViews.{raw_view}
 use Rattle.vx_words.specs.Truths.{vals_of}
 use Rattle.vx_column.specs.Columns.{seen}
-use Rattle.vx_column.specs.Cells.{cell_rows, truths_fit, ArePartsOf}
+use Rattle.vx_column.specs.Cells.{cell_rows, ArePartsOf}
+use Rattle.vx_column.specs.ColumnParts.{truths_fit}
 use Rattle.vx_column.proofs.TruthLemmas.{repeated_rows, repeated_fit}
 use Rattle.vx_column.proofs.reading.truths_of.Goals as goal
 

@@ -10,7 +10,8 @@ use Rattle.vx_column.specs.Columns.{Column, column, values_fit, raws_fit, masked
 use Rattle.vx_column.specs.Splits.{field_columns, row_parts}
 use Rattle.vx_dtype.specs.RawViews.{raw_view}
 use Rattle.vx_column.specs.RawParts.{raw_number, raw_truth}
-use Rattle.vx_column.specs.Cells.{AreFieldsOf, AreTruthsOf, masks_apart, structs_of}
+use Rattle.vx_column.specs.Cells.{AreFieldsOf, masks_apart, structs_of}
+use Rattle.vx_column.specs.ColumnParts.{AreTruthsOf}
 use Rattle.vx_column.specs.PlainValues.{numbers_vals}
 use Rattle.vx_column.proofs.StructLemmas.{if_ok_map}
 use Rattle.vx_column.proofs.CellLemmas.{values_fit_nullable}

@@ -23,7 +23,7 @@ returns-in_err-whole_structs c t slots rows es len meant =
     let cs = a.structs.items in
     let ms = c.in_ok-fields.fields.items in
     let ds = c.in_ok-columns.columns.items in
-    let own : c.in_ok-names.names ≡ map name_of ms = c.in_ok-names.ensures ∙ ap (map name_of) c.as_slice-5.ensures.value in
+    let own : c.in_ok-fields.names ≡ map name_of ms = c.in_ok-fields.ensures.list in
     let names : map name_of ms ≡ merged_names column_names cs = c.in_ok-fields.ensures.names ∙ ap (merged_names column_names) c.as_slice-2.ensures.value in
     let found : map (λ f. merged_column f cs) (map name_of ms) ≡ map Some ds =
     found_by_name cs ms ds ((λ i. map (λ m. merged_column (name_of m) (sym c.as_slice-4.ensures.value i)) (sym c.as_slice-3.ensures.value i)) ∙ c.in_ok-columns.ensures) in
@@ -39,7 +39,7 @@ returns c t slots rows es len meant =
     let cs = a.structs.items in
     let ms = c.in_ok-fields.fields.items in
     let ds = c.in_ok-columns.columns.items in
-    let own : c.in_ok-names.names ≡ map name_of ms = c.in_ok-names.ensures ∙ ap (map name_of) c.as_slice-5.ensures.value in
+    let own : c.in_ok-fields.names ≡ map name_of ms = c.in_ok-fields.ensures.list in
     let names : map name_of ms ≡ merged_names column_names cs = c.in_ok-fields.ensures.names ∙ ap (merged_names column_names) c.as_slice-2.ensures.value in
     let found : map (λ f. merged_column f cs) (map name_of ms) ≡ map Some ds =
     found_by_name cs ms ds ((λ i. map (λ m. merged_column (name_of m) (sym c.as_slice-4.ensures.value i)) (sym c.as_slice-3.ensures.value i)) ∙ c.in_ok-columns.ensures) in

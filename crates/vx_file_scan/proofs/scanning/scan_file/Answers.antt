@@ -15,4 +15,4 @@ returns-clause-scanned g c =
     subst (λ (s : FileState). IsFileScan holds c.args.filter.now c.args.projection.now s c.into_file.result answer) c.new-store.ensures
     (subst (λ (t : FileState). IsFileScan holds c.args.filter.now c.args.projection.now first t answer) (sym c.into_file.ensures.file)
     (file_scanned holds c.args.filter.now c.args.projection.now first last answer (subst IsUnread (sym c.new-store.ensures) c.requires)
-    c.scan-answer.ensures.same c.scan-answer.ensures.ends c.into_file.ensures.once c.into_file.ensures.kept))
+    c.scan-answer.ensures.moves c.scan-answer.ensures.same c.scan-answer.ensures.ends c.into_file.ensures.kept))

@@ -27,6 +27,14 @@ returns-in_err-push-clause-reads g c =
     (loop_cut c.args.block c.args.known_names.now c.args.names.now c.loop-i.i c.index-names-i.result first middle last
     c.loop-i-test.true c.index-names-i.is c.loop-i.invariant.0 c.loop-i.invariant.1 c.in_ok-column.ensures.reads)
 
+pub returns-in_err-column-clause-moves : goal.returns-in_err-column-clause-moves
+returns-in_err-column-clause-moves g c =
+    g.met.S.ColumnStore.goes_on c.args.store.now c.loop-i.store c.read_unless_known.new.store c.loop-i.invariant.3 c.in_err-column.ensures.moves
+
+pub returns-in_err-push-clause-moves : goal.returns-in_err-push-clause-moves
+returns-in_err-push-clause-moves g c =
+    g.met.S.ColumnStore.goes_on c.args.store.now c.loop-i.store c.read_unless_known.new.store c.loop-i.invariant.3 c.in_ok-column.ensures.moves
+
 pub loop-i-preserved : goal.loop-i-preserved
 loop-i-preserved g c =
     let first = g.S.ColumnStore.seen c.args.store.now in
@@ -37,4 +45,5 @@ loop-i-preserved g c =
           c.loop-i-test.true c.index-names-i.is c.loop-i.invariant.0 c.loop-i.invariant.1 c.in_ok-column.ensures.reads,
       columns_grow first middle c.args.block c.args.names.now c.args.known_names.now c.args.known.now c.loop-i.columns.items c.push.new.self.items c.loop-i.i c.index-names-i.result c.in_ok-column.column
           c.loop-i-test.true c.index-names-i.is c.loop-i.invariant.0 c.in_ok-push.ensures.items c.loop-i.invariant.2 c.in_ok-column.ensures.column,
+      g.met.S.ColumnStore.goes_on c.args.store.now c.loop-i.store c.read_unless_known.new.store c.loop-i.invariant.3 c.in_ok-column.ensures.moves,
     )

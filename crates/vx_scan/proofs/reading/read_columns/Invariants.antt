@@ -12,3 +12,4 @@ invariant-loop-i l m =
     IsSameStore first now
     × MakesReads (reads_in m.fn.block (further_names m.fn.known_names (take m.i m.fn.names))) first now (Ok tt)
     × (AreColumnsOf first m.fn.block m.fn.known_names m.fn.known → AreColumnsOf first m.fn.block (take m.i m.fn.names) m.columns.items)
+    × l.S.ColumnStore.moves m.fn.store m.store

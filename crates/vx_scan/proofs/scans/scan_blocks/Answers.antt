@@ -36,7 +36,12 @@ loop-block-preserved g c =
           turn_stands flag slots f p scan block first middle last (found_view u c.loop-block.found) (found_view u c.scan_or_skip.new.found) (Ok c.in_ok-scan_or_skip.field-0) h.prepared c.zones.ensures.agrees there
           (flag_is first.zones slots f p scan c.args.flags.now block flag false h there refl)
           (c.in_ok-scan_or_skip.ensures.turn f p (prepared_moved first middle slots f p scan so_far.0.zones h.prepared)) (so_far.2 f p h),
+      g.met.S.ColumnStore.goes_on c.args.store.now c.loop-block.store c.scan_or_skip.new.store so_far.3 c.in_ok-scan_or_skip.ensures.moves,
     )
+
+pub returns-in_err-scan_or_skip-clause-moves : goal.returns-in_err-scan_or_skip-clause-moves
+returns-in_err-scan_or_skip-clause-moves g c =
+    g.met.S.ColumnStore.goes_on c.args.store.now c.loop-block.store c.scan_or_skip.new.store c.loop-block.invariant.3 c.in_err-scan_or_skip.ensures.moves
 
 pub returns-in_err-scan_or_skip-clause-ends : goal.returns-in_err-scan_or_skip-clause-ends
 returns-in_err-scan_or_skip-clause-ends g c = λ f p h.

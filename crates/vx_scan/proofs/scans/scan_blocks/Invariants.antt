@@ -16,3 +16,4 @@ invariant-loop-block l m =
     × (values_fit u m.found.rows.items ≡ true)
     × ((f p : Tree) → IsRuledScan first.zones m.fn.slots f p m.fn.scan m.fn.flags →
     IsScannedTo m.fn.slots f p m.block first (l.S.ColumnStore.seen m.store) (seen_rows u m.found.rows.items) m.found.kept.items m.found.skipped.items)
+    × l.S.ColumnStore.moves m.fn.store m.store

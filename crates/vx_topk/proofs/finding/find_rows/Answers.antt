@@ -25,6 +25,7 @@ loop-block-init g c =
             (find-start ask v seen first (c.new-first.ensures.holds ask.key_type v ready.can.typed.plain)),
         c.none-ruled.ensures (λ n. rules_out seen.zones (bound_slots ask (bound_before ask [])) n (bounded_filter ask)),
       ),
+      g.met.S.ColumnStore.stays c.args.store.now,
     )
 
 pub find_or_skip-requires-clause-ready : goal.find_or_skip-requires-clause-ready
@@ -60,7 +61,12 @@ loop-block-preserved g c =
           (c.in_ok-find_or_skip.ensures.turn ask v f.0 (subst (λ (z : Zones). IsReady z ask v c.args.top.now) (sym so_far.0.zones) ready)
           (record { ty = refl; count = ec ∙ sym so_far.1; descending = ed ∙ sym so_far.2 }) f.1.holds
           (subst (λ (z : Zones). AreRuledBehind ask z f.0 c.loop-block.finding.ruled) (sym so_far.0.zones) f.2) (ap (λ (n : ℕ). nat_eq n 0) ec ∙ c.requires.ready.5)),
+      g.met.S.ColumnStore.goes_on c.args.store.now c.loop-block.store c.find_or_skip.new.store so_far.4 c.in_ok-find_or_skip.ensures.moves,
     )
+
+pub returns-in_err-find_or_skip-clause-moves : goal.returns-in_err-find_or_skip-clause-moves
+returns-in_err-find_or_skip-clause-moves g c =
+    g.met.S.ColumnStore.goes_on c.args.store.now c.loop-block.store c.find_or_skip.new.store c.loop-block.invariant.4 c.in_err-find_or_skip.ensures.moves
 
 pub returns-in_err-find_or_skip-clause-ends : goal.returns-in_err-find_or_skip-clause-ends
 returns-in_err-find_or_skip-clause-ends g c = λ ask v ready ec ed some.

@@ -15,3 +15,4 @@ invariant-loop-block l m =
     × (m.finding.first.descending ≡ m.fn.descending)
     × ((ask : TopAsk) (v : Ty) → IsReady first.zones ask v m.fn.top → ask.count ≡ m.fn.count → ask.descending ≡ m.fn.descending →
     FindsTo ask v m.block first (l.S.ColumnStore.seen m.store) m.finding)
+    × l.S.ColumnStore.moves m.fn.store m.store

@@ -1,6 +1,6 @@
-use Rattle.std.proofs.Common.{rules, ◌≡◌, ◌<◌, ◌∙◌, ap, sym, length, map, option_map, unwrap_or}
+use Rattle.std.proofs.Common.{rules, ◌∙◌, ap, sym, option_map, unwrap_or}
 use Rattle.vx_expr.specs.Trees.{root, get_item}
-use Rattle.vx_passes.specs.Merging.{Giving, giving_names, given_field}
+use Rattle.vx_passes.specs.Merging.{Giving, giving_names}
 use Rattle.vx_transform.specs.CodeViews.{giving_view}
 use Rattle.vx_typing.proofs.FieldPlaces.{seen_within, seen_giver}
 use Rattle.vx_transform.proofs.merges.given_field.Goals as goal

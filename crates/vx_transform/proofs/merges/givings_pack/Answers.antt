@@ -13,7 +13,7 @@ given_fields-requires c = rw c.as_slice.ensures.value c.in_ok-fields.ensures.pla
 pub pack_of-requires : goal.pack_of-requires
 pack_of-requires c =
     let gs = map giving_view c.args.given.now in
-    ap length (c.in_ok-names.ensures ∙ ap (map name_of) c.as_slice-2.ensures.value) ∙ as_many_fields gs c.in_ok-fields.fields.items
+    ap length c.in_ok-fields.ensures.list ∙ as_many_fields gs c.in_ok-fields.fields.items
     ∙ ap length (ap (map (λ (m : MergedField). given_field gs m.name)) (sym c.as_slice.ensures.value) ∙ sym c.in_ok-values.ensures)
 
 pub returns : goal.returns
@@ -21,6 +21,6 @@ returns c =
     let gs = map giving_view c.args.given.now in
     let ms = c.in_ok-fields.fields.items in
     c.in_ok-pack_of.ensures
-    ∙ ap (λ names. pack names (trees_of c.in_ok-values.values.items) c.args.nullability) (c.in_ok-names.ensures ∙ ap (map name_of) c.as_slice-2.ensures.value)
+    ∙ ap (λ names. pack names (trees_of c.in_ok-values.values.items) c.args.nullability) c.in_ok-fields.ensures.list
     ∙ ap (λ values. pack (map name_of ms) (trees_of values) c.args.nullability) (c.in_ok-values.ensures ∙ ap (map (λ (m : MergedField). given_field gs m.name)) c.as_slice.ensures.value)
     ∙ pack_by_fields c.args.nullability gs ms c.in_ok-fields.ensures.names

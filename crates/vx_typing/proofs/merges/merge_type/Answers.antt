@@ -8,8 +8,11 @@ use Rattle.vx_semantics.specs.Typing.{not_struct, unless, names_in, merged_field
 use Rattle.vx_typing.specs.MergedFields.{name_of}
 use Rattle.vx_typing.proofs.merges.merge_type.Goals as goal
 
-pub typed_fields-requires : goal.typed_fields-requires
-typed_fields-requires c = rw c.as_slice.ensures.value c.in_ok-fields.ensures.places
+pub typed_fields-requires-clause-names : goal.typed_fields-requires-clause-names
+typed_fields-requires-clause-names c = c.in_ok-fields.ensures.list ∙ ap (map name_of) (sym c.as_slice.ensures.value)
+
+pub typed_fields-requires-clause-given : goal.typed_fields-requires-clause-given
+typed_fields-requires-clause-given c = rw c.as_slice.ensures.value c.in_ok-fields.ensures.places
 
 pub returns : goal.returns
 returns c =

@@ -5,7 +5,7 @@ use Rattle.vx_dtype.specs.Values.{raw_bool}
 use Rattle.vx_words.specs.Truths.{vals_of}
 use Rattle.vx_column.specs.Columns.{column, raws_fit}
 use Rattle.vx_column.specs.Answers.{optional_raw}
-use Rattle.vx_column.specs.Cells.{truths_fit}
+use Rattle.vx_column.specs.ColumnParts.{truths_fit}
 use Rattle.vx_column.proofs.TruthLemmas.{bool_names, bool_raws_fit, bool_raw_rows}
 use Rattle.vx_column.proofs.columns.ColumnRef.bool.Goals as goal
 

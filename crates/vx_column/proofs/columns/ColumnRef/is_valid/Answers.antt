@@ -11,8 +11,8 @@ use Rattle.vx_column.proofs.CellLemmas.{constant_row, structs_row, valid_kept}
 use Rattle.vx_numbers.specs.Numbers.{NumberList}
 use Rattle.vx_column.specs.PlainValues.{numbers_vals}
 use Rattle.vx_column.proofs.NumberLemmas.{number_valid}
-use Rattle.vx_column.proofs.MaskedLemmas.{masked_truths, masked_valid, never_null, row_fits}
-use Rattle.vx_column.proofs.FitLemmas.{rows_fit_seen}
+use Rattle.vx_column.proofs.MaskedLemmas.{masked_truths, masked_valid, row_fits}
+use Rattle.vx_column.proofs.FitLemmas.{rows_fit_seen, never_null}
 use Rattle.vx_column.proofs.columns.ColumnRef.is_valid.Goals as goal
 
 pub returns-in-Constant : goal.returns-in-Constant

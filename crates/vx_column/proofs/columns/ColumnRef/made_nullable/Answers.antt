@@ -6,11 +6,12 @@ use Rattle.vx_dtype.specs.TypeViews.{type_view}
 use Rattle.vx_dtype.specs.Fits.{fits}
 use Rattle.vx_dtype.specs.RawViews.{raw_view}
 use Rattle.vx_column.specs.Columns.{column, seen}
-use Rattle.vx_column.specs.Cells.{cell_rows, ArePartsOf, AreTruthsOf, AreValuesOf}
+use Rattle.vx_column.specs.Cells.{cell_rows, ArePartsOf, AreValuesOf}
+use Rattle.vx_column.specs.ColumnParts.{AreTruthsOf}
 use Rattle.vx_column.proofs.FitLemmas.{names_with_nullability, fits_nullable}
 use Rattle.vx_column.proofs.CellLemmas.{nullable_constant}
 use Rattle.vx_column.proofs.TruthLemmas.{truths_made_nullable}
-use Rattle.vx_column.specs.Cells.{AreNumbersOf}
+use Rattle.vx_column.specs.ColumnParts.{AreNumbersOf}
 use Rattle.vx_column.specs.PlainValues.{numbers_vals}
 use Rattle.vx_numbers.specs.Numbers.{NumberList}
 use Rattle.vx_column.proofs.NumberLemmas.{numbers_made_nullable}

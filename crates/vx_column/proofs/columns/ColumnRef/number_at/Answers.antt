@@ -4,7 +4,8 @@ use Rattle.vx_dtype.specs.Fits.{fits}
 use Rattle.vx_dtype.specs.RawViews.{raw_view}
 use Rattle.vx_numbers.specs.Numbers.{NumberList}
 use Rattle.vx_column.specs.Columns.{seen}
-use Rattle.vx_column.specs.Cells.{cell_rows, AreNumbersOf, ArePartsOf}
+use Rattle.vx_column.specs.Cells.{cell_rows, ArePartsOf}
+use Rattle.vx_column.specs.ColumnParts.{AreNumbersOf}
 use Rattle.vx_column.specs.PlainValues.{number_val, numbers_vals}
 use Rattle.vx_column.proofs.CellLemmas.{constant_row}
 use Rattle.vx_column.proofs.NumberLemmas.{number_row, same_int_ty}

@@ -1,4 +1,4 @@
-use Rattle.std.proofs.Common.{rules, ◌≡◌, ◌<◌, true, refl, ap, sym, ◌∙◌, subst, map, length, get_or, arith, Some, Ok}
+use Rattle.std.proofs.Common.{rules, ◌≡◌, ◌<◌, true, ap, sym, ◌∙◌, subst, map, length, get_or, arith, Some, Ok}
 use Rattle.std.proofs.lemmas.Option.{same_Some}
 use Rattle.std.specs.Str.{bytes_eq}
 use Rattle.std.specs.List.{position}

@@ -5,7 +5,7 @@ use Rattle.vx_dtype.specs.Values.{raw_int}
 use Rattle.vx_numbers.specs.Numbers.{all_in_range, number_list}
 use Rattle.vx_column.specs.Columns.{column, raws_fit}
 use Rattle.vx_column.specs.Answers.{optional_raw}
-use Rattle.vx_column.specs.Cells.{numbers_fit}
+use Rattle.vx_column.specs.ColumnParts.{numbers_fit}
 use Rattle.vx_column.specs.PlainValues.{numbers_vals}
 use Rattle.vx_column.proofs.NumberLemmas.{int_names, int_raws_fit, int_raw_rows, numbers_are, numbers_in_range}
 use Rattle.vx_column.proofs.columns.ColumnRef.primitive.Goals as goal

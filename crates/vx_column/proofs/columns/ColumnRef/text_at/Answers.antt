@@ -6,7 +6,7 @@ use Rattle.vx_column.specs.Columns.{Column, row_at, seen, seen_rows, values_fit,
 use Rattle.vx_column.specs.Cells.{cell_rows, AreMaskedOf, ArePartsOf}
 use Rattle.vx_words.specs.Truths.{vals_of}
 use Rattle.vx_column.proofs.CellLemmas.{values_row, values_fit_at}
-use Rattle.vx_column.proofs.PatternLemmas.{text_is}
+use Rattle.vx_column.proofs.FitLemmas.{text_is}
 use Rattle.vx_column.proofs.MaskedLemmas.{masked_truths, masked_length, masked_null, masked_own, inner_fits, inner_seen}
 use Rattle.vx_column.proofs.columns.ColumnRef.text_at.Goals as goal
 

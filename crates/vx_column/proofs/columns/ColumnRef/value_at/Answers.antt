@@ -2,11 +2,12 @@ use Rattle.std.proofs.Common.{None, ◌≡◌, true, ap, sym, ◌∙◌, subst, 
 use Rattle.vx_dtype.specs.Fits.{fits}
 use Rattle.vx_dtype.specs.RawViews.{raw_view}
 use Rattle.vx_column.specs.Columns.{Column, row_at, seen, seen_rows, values_fit, masked, zip_rows}
-use Rattle.vx_column.specs.Cells.{cell_rows, AreMaskedOf, ArePartsOf, AreTruthsOf}
+use Rattle.vx_column.specs.Cells.{cell_rows, AreMaskedOf, ArePartsOf}
+use Rattle.vx_column.specs.ColumnParts.{AreTruthsOf}
 use Rattle.vx_column.proofs.CellLemmas.{values_row, values_fit_at}
 use Rattle.vx_words.specs.Truths.{vals_of}
 use Rattle.vx_column.proofs.TruthLemmas.{truth_stands}
-use Rattle.vx_column.specs.Cells.{AreNumbersOf}
+use Rattle.vx_column.specs.ColumnParts.{AreNumbersOf}
 use Rattle.vx_column.specs.PlainValues.{numbers_vals}
 use Rattle.vx_column.proofs.NumberLemmas.{number_stands}
 use Rattle.vx_numbers.specs.Numbers.{NumberList}

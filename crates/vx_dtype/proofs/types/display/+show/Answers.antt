@@ -22,7 +22,7 @@ show_fields-loop-i-preserved g t c = λ p.
     let named : name ≡ get_or names c.loop-i.i name = search rules in
     let piece = field_text (separator_at c.loop-i.i) name (type_view x) in
     let rest = fields_text (separator_at (c.loop-i.i + 1)) (fields_from type_view (c.loop-i.i + 1) names items) in
-    let step = fields_text_step type_view names items c.loop-i.i name x c.fields.invariant within_items in
+    let step = fields_text_step type_view names items c.loop-i.i name x c.fields.invariant.0 within_items in
     let same : field_text (separator_at c.loop-i.i) (get_or names c.loop-i.i name) (type_view (get_or items c.loop-i.i x)) ++ rest ≡ piece ++ rest =
     λ i. field_text (separator_at c.loop-i.i) (sym named i) (type_view (sym at i)) ++ rest in
     (w.0 ++ piece, (has_written_append _ _ w.0 _ piece _ w.1.0 (search rules), w.1.1 ∙ ap (λ bs. w.0 ++ bs) (step ∙ same) ∙ sym (append_assoc w.0 piece rest)))

@@ -42,7 +42,7 @@ write_members-loop-i-preserved g t c =
     let dtype = c.index.result.now in
     let within : i < length vs = search rules in
     let typed : i < length dtypes = search rules in
-    let named : i < length names = omega (arith, typed, c.fields.invariant) in
+    let named : i < length names = omega (arith, typed, c.fields.invariant.0) in
     let value_there : get_or vs i v ≡ v = search rules in
     let name_there : get_or names i name ≡ name = search rules in
     let type_there : get_or dtypes i dtype ≡ dtype = search rules in
@@ -66,7 +66,7 @@ write_members-returns g t c = λ plain _.
     elim (cases_lt i (length vs)) [
       | inl more ↦
           let no_type : length dtypes ≤ i = search rules in
-          let no_name : length names ≤ i = omega (arith, no_type, c.fields.invariant) in
+          let no_name : length names ≤ i = omega (arith, no_type, c.fields.invariant.0) in
           has_written_begun _ _ _ _ _ (members_text_no_field raw_view type_view c.loop-i.separator.now vs names dtypes i no_name no_type) begun
       | inr none ↦
           has_written_begun _ _ _ _ _ (members_text_no_value raw_view type_view c.loop-i.separator.now vs names dtypes i none) begun

@@ -59,3 +59,7 @@ returns-clause-runs g c = λ f p h.
     block_projects c.args.slots.now f p c.args.block first middle last (seen_rows u c.args.rows.now.items) (seen_rows u c.project_block.new.rows.items) keep c.project_block.result same
     c.project_block.ensures.same c.zones.ensures.agrees (c.in_ok-filtered.ensures.runs f p h) filtered.told some (c.project_block.ensures.runs f p moved filtered_there)
     (c.project_block.ensures.rows f p moved filtered_there)
+
+pub returns-clause-moves : goal.returns-clause-moves
+returns-clause-moves g c =
+    g.met.S.ColumnStore.goes_on c.args.store.now c.filter_block.new.store c.project_block.new.store c.in_ok-filtered.ensures.moves c.project_block.ensures.moves

@@ -1,0 +1,5 @@
+mod SliceLemmas
+mod RuleLemmas
+mod SeenLemmas
+mod LawLemmas
+mod JoinLemmas

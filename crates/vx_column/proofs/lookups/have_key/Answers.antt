@@ -1,7 +1,0 @@
-use Rattle.std.proofs.Common.{ap, sym, ◌∙◌, option_map}
-use Rattle.vx_column.specs.Lookups.{key_raw}
-use Rattle.vx_column.proofs.LookupLemmas.{none_have}
-use Rattle.vx_column.proofs.lookups.have_key.Goals as goal
-
-pub returns-in-None : goal.returns-in-None
-returns-in-None c = sym (none_have _ _ (sym c.key_of.ensures ∙ ap (option_map key_raw) c.in-None.is))

@@ -1,0 +1,14 @@
+mod OrderLemmas
+mod SumLemmas
+mod ListLemmas
+mod CastLemmas
+mod PatternLemmas
+mod ComparedNumbers
+mod TotalLemmas
+mod CastNumbers
+mod LookupLemmas
+mod NeedleLemmas
+mod ZippedRows
+mod ConnectedTruths
+mod NullTests
+mod KeptTypes

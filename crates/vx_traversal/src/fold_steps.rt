@@ -1,0 +1,167 @@
+//! Folds that say what they do to a whole tree, and the one loop of them.
+ghost use Rattle.std.specs.Prelude.{◌≡◌, ◌<◌, ◌≤◌, ◌++◌, List, [], ◌∷◌, IfOk, OnOk, length};
+ghost use Rattle.vx_traversal.specs.FoldTurns.{StepsDown};
+ghost use Rattle.vx_traversal.specs.FoldPending.{HasOneResultMore, NextPending, Pending};
+
+use crate::nodes::Node;
+use std::alloc::Global;
+use vx_dtype::{Mem, NoMemory};
+
+/// What is done at each node of a fold, and what the fold does to a whole tree where it does so to
+/// the children. The steps refuse only where memory runs out.
+pub trait FoldSteps {
+    type NodeTy: Node;
+
+    type Result: Drop;
+
+    /// Holds of a state in which this tree may be folded.
+    ghost ready: { Self → Self.NodeTy → Type 0 };
+
+    /// What the fold does to this tree: the state before, the tree, its result and the state after.
+    ghost folds: { Self → Self.NodeTy → Self.Result → Self → Type 0 };
+
+    /// What it has done once the children are folded: the state before the node, the node, the
+    /// results of the children and the state after them.
+    ghost gathers: { Self → Self.NodeTy → List Self.Result → Self → Type 0 };
+
+    /// Called on a node before its children: its result, where they are left out.
+    fn down(&mut self, alloc: Global, node: &Self::NodeTy) -> Mem<Option<Self::Result>>
+        requires { ready self.old node.now }
+        ensures { IfOk result (λ given. StepsDown ready folds Self.NodeTy.children gathers self.old node.now given self.new) };
+
+    /// Called on a node after its children, with their results in order: the result of the node.
+    fn up(
+        &mut self,
+        alloc: Global,
+        node: &Self::NodeTy,
+        results: Vec<Self::Result>,
+    ) -> Mem<Self::Result>
+        requires { (start : Self) × gathers start node.now results.items self.old }
+        ensures { (start : Self) → gathers start node.now results.items self.old → IfOk result (λ given. folds start node.now given self.new) };
+}
+
+// A node whose children are folded in turn, and their results so far.
+#[derive(Drop)]
+pub(crate) struct TurnFrame<'a, N, R> {
+    node: &'a N,
+    results: Vec<R>,
+}
+
+// How a fold goes on after a step.
+#[derive(Drop)]
+pub(crate) enum NextTurn<'a, N, R> {
+    // In this frame.
+    Goes(TurnFrame<'a, N, R>),
+    // Not at all: the whole tree has this result.
+    Ends(R),
+}
+
+// Folds a tree. The nodes whose children are folded stand in a vector, so that a tree takes the stack
+// of one node however deep it is. The turns are counted, since a measure of them would say nothing
+// more: no machine takes all of them.
+pub(crate) fn fold_tree<F: FoldSteps>(
+    tree: &F::NodeTy,
+    alloc: Global,
+    steps: &mut F,
+) -> Mem<F::Result>
+    requires { F.ready steps.old tree.now }
+    ensures { IfOk result (λ given. F.folds steps.old tree.now given steps.new) }
+{
+    if let Some(given) = steps.down(alloc, tree)? {
+        return Ok(given);
+    }
+    let mut outer = Vec::new(alloc);
+    let mut frame = TurnFrame {
+        node: tree,
+        results: Vec::new(alloc),
+    };
+    for _ in 0..u64::MAX {
+        match turn(frame, alloc, &mut outer, steps)? {
+            NextTurn::Ends(given) => return Ok(given),
+            NextTurn::Goes(next) => frame = next,
+        }
+    }
+    Err(NoMemory)
+}
+
+// One step of a fold: down on the frame's next child, or up on its node.
+fn turn<'a, F: FoldSteps>(
+    frame: TurnFrame<'a, F::NodeTy, F::Result>,
+    alloc: Global,
+    outer: &mut Vec<TurnFrame<'a, F::NodeTy, F::Result>>,
+    steps: &mut F,
+) -> Mem<NextTurn<'a, F::NodeTy, F::Result>>
+    requires { (start : F) × (tree : F.NodeTy) × Pending F.NodeTy.children F.ready F.folds F.gathers (F.folds start tree) outer.old.items frame steps.old }
+    ensures { (start : F) (tree : F.NodeTy) → Pending F.NodeTy.children F.ready F.folds F.gathers (F.folds start tree) outer.old.items frame.entry steps.old →
+        IfOk result (λ next. NextPending F.NodeTy.children F.ready F.folds F.gathers (F.folds start tree) outer.new.items next steps.new) }
+{
+    if frame.results.len() < frame.node.children_count() {
+        return turn_down(frame, alloc, outer, steps);
+    }
+    turn_up(frame, alloc, outer, steps)
+}
+
+// Down on the frame's next child.
+fn turn_down<'a, F: FoldSteps>(
+    frame: TurnFrame<'a, F::NodeTy, F::Result>,
+    alloc: Global,
+    outer: &mut Vec<TurnFrame<'a, F::NodeTy, F::Result>>,
+    steps: &mut F,
+) -> Mem<NextTurn<'a, F::NodeTy, F::Result>>
+    requires within { length frame.results.items < length (F.NodeTy.children frame.node.now) }
+    requires pending { (start : F) × (tree : F.NodeTy) × Pending F.NodeTy.children F.ready F.folds F.gathers (F.folds start tree) outer.old.items frame steps.old }
+    ensures { (start : F) (tree : F.NodeTy) → Pending F.NodeTy.children F.ready F.folds F.gathers (F.folds start tree) outer.old.items frame.entry steps.old →
+        IfOk result (λ next. NextPending F.NodeTy.children F.ready F.folds F.gathers (F.folds start tree) outer.new.items next steps.new) }
+{
+    let node = frame.node;
+    let child = node.node_child(frame.results.len());
+    match steps.down(alloc, child)? {
+        Some(given) => Ok(NextTurn::Goes(with_result(frame, given)?)),
+        None => {
+            put_frame(outer, frame)?;
+            Ok(NextTurn::Goes(TurnFrame {
+                node: child,
+                results: Vec::new(alloc),
+            }))
+        }
+    }
+}
+
+// Puts a frame behind the outer ones.
+fn put_frame<'a, N, R: Drop>(
+    outer: &mut Vec<TurnFrame<'a, N, R>>,
+    frame: TurnFrame<'a, N, R>,
+) -> Mem<()>
+    ensures { OnOk result (outer.new.items ≡ outer.old.items ++ frame.entry ∷ []) }
+{
+    outer.push(frame)?;
+    Ok(())
+}
+
+// Up on a frame's node whose children all have results.
+fn turn_up<'a, F: FoldSteps>(
+    frame: TurnFrame<'a, F::NodeTy, F::Result>,
+    alloc: Global,
+    outer: &mut Vec<TurnFrame<'a, F::NodeTy, F::Result>>,
+    steps: &mut F,
+) -> Mem<NextTurn<'a, F::NodeTy, F::Result>>
+    requires past { length (F.NodeTy.children frame.node.now) ≤ length frame.results.items }
+    requires pending { (start : F) × (tree : F.NodeTy) × Pending F.NodeTy.children F.ready F.folds F.gathers (F.folds start tree) outer.old.items frame steps.old }
+    ensures { (start : F) (tree : F.NodeTy) → Pending F.NodeTy.children F.ready F.folds F.gathers (F.folds start tree) outer.old.items frame.entry steps.old →
+        IfOk result (λ next. NextPending F.NodeTy.children F.ready F.folds F.gathers (F.folds start tree) outer.new.items next steps.new) }
+{
+    let given = steps.up(alloc, frame.node, frame.results)?;
+    match outer.pop() {
+        None => Ok(NextTurn::Ends(given)),
+        Some(above) => Ok(NextTurn::Goes(with_result(above, given)?)),
+    }
+}
+
+// The frame with one more result.
+fn with_result<N, R: Drop>(frame: TurnFrame<'_, N, R>, given: R) -> Mem<TurnFrame<'_, N, R>>
+    ensures { IfOk result (HasOneResultMore frame.entry given) }
+{
+    let TurnFrame { node, mut results } = frame;
+    results.push(given)?;
+    Ok(TurnFrame { node, results })
+}
