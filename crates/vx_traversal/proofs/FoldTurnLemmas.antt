@@ -82,6 +82,10 @@ module _ {S N R : Type 0} (children : N → List N) (ready : S → N → Type 0)
     child-folded x t h folded more Gives (g ∷ gs) (start, ends, pending) =
         (start, ends, child-folded x t h folded more (λ y u. LeftOf children ready folds gathers start g (length g.results.items + 1) (g.results.items ++ y ∷ []) u) gs pending)
 
+    -- where it has no children, its step up may be taken at once
+    pub leaf-ready : (t : S) → children c ≡ [] → MayTurn ready folds (gathers s c) (children c) [] t → gathers s c [] t
+    leaf-ready t none turns = let P : List N → Type 0 = λ cs. MayTurn ready folds (gathers s c) cs [] t in subst P none turns
+
     -- where its children are to be folded, it has a frame of its own below this one
     goes_below : (t : S) (h : TurnFrame N R) → h.node.now ≡ c → h.results.items ≡ [] → MayTurn ready folds (gathers s c) (children c) [] t →
         (Gives : R → S → Type 0) (fs : List (TurnFrame N R)) → Pending children ready folds gathers Gives fs f s → Pending children ready folds gathers Gives (fs ++ f ∷ []) h t

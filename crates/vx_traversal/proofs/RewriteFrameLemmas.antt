@@ -1,5 +1,5 @@
 -- What is left of a rewrite's frames, after each step.
-use Rattle.std.specs.Prelude.{◌≡◌, ℕ, ◌+◌, ◌<◌, ◌≤◌, List, [], ◌∷◌, ◌++◌, Bool, false, Ok, Err, Some, slice_get, Contains, length, drop, Result, IfOk}
+use Rattle.std.specs.Prelude.{◌≡◌, ℕ, ◌+◌, ◌<◌, ◌≤◌, List, [], ◌∷◌, ◌++◌, Bool, false, true, ◌||◌, Ok, Err, Some, slice_get, Contains, length, drop, Result, IfOk}
 use Rattle.std.proofs.Common.{refl, sym, ap, subst, ◌∙◌, arith}
 use Rattle.std.proofs.lemmas.List.{length-append}
 use Rattle.vx_traversal.specs.declared.errors.WalkError.{WalkError}
@@ -56,6 +56,10 @@ popped-fits {N} children fs gs f g h y fits popped more = go gs (subst (λ hs. F
 pub of-error : {T E : Type 0} (q : Result T E) (e : E) (P : T → Type 0) → q ≡ Err e → IfOk q P
 of-error {T} {E} q e P is = subst (λ (r : Result T E). IfOk r P) (sym is) tt
 
+or-false : (b : Bool) → b ≡ (b || false)
+or-false false = refl
+or-false true = refl
+
 drop-none : {A : Type 0} (xs : List A) → drop 0 xs ≡ xs
 drop-none [] = refl
 drop-none (x ∷ xs) = refl
@@ -70,6 +74,19 @@ module _ {S N E : Type 0} (children : N → List N) (is_with : N → List N → 
 
   pub down-skips : (s : S) (n : N) (d : Transformed N) (u : S) (r : Walk (Transformed N) E) (t : S) → down s n (Ok d) u → d.order ≡ Skip → GoesUp up d.changed u d.value r t → Rewrites children is_with down up height s n r t
   down-skips s n d u r t step is goes = (Ok d, u, step, subst (λ o. FromOrder children is_with down up (RewritesBelow children is_with down up (height n)) o d u r t) (sym is) goes)
+
+  -- a rewrite whose down gives a node without children
+  pub down-leaf : (s : S) (n : N) (d : Transformed N) (u : S) (r : Walk (Transformed N) E) (t : S) → down s n (Ok d) u → d.order ≡ Continue → children d.value ≡ [] → GoesUp up d.changed u d.value r t → Rewrites children is_with down up height s n r t
+  down-leaf s n d u r t step is none goes =
+      let C : List N → Type 0 = λ cs. MapsInTurn (RewritesBelow children is_with down up (height n)) none_yet u cs (Ok none_yet) u in
+      let same : Walk (Transformed N) E = Ok (record { value = d.value; order = Continue; changed = false }) in
+      let past : GoesUp up (d.changed || false) u d.value r t = subst (λ b. GoesUp up b u d.value r t) (or-false d.changed) goes in (
+        Ok d,
+        u,
+        step,
+        subst (λ o. FromOrder children is_with down up (RewritesBelow children is_with down up (height n)) o d u r t) (sym is)
+            (same, u, (Ok none_yet, subst C (sym none) (refl, refl), (d.value, refl, refl)), past),
+      )
 
   -- what is left of a new frame is what follows its node's down
   pub begun : (d : Transformed N) (g : RewriteFrame N) (u : S) (p : Walk (Transformed N) E) (w : S) → g.node ≡ d.value → g.changed_before ≡ d.changed → g.values.items ≡ [] → so_far g ≡ none_yet →

@@ -101,7 +101,7 @@ fn turn<'a, F: FoldSteps>(
     turn_up(frame, alloc, outer, steps)
 }
 
-// Down on the frame's next child.
+// Down on the frame's next child, and up on it at once where it has no children.
 fn turn_down<'a, F: FoldSteps>(
     frame: TurnFrame<'a, F::NodeTy, F::Result>,
     alloc: Global,
@@ -118,6 +118,10 @@ fn turn_down<'a, F: FoldSteps>(
     match steps.down(alloc, child)? {
         Some(given) => Ok(NextTurn::Goes(with_result(frame, given)?)),
         None => {
+            if child.children_count() == 0 {
+                let given = steps.up(alloc, child, Vec::new(alloc))?;
+                return Ok(NextTurn::Goes(with_result(frame, given)?));
+            }
             put_frame(outer, frame)?;
             Ok(NextTurn::Goes(TurnFrame {
                 node: child,

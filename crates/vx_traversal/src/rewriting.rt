@@ -200,7 +200,8 @@ fn rewrite_step<M, N: Node, R: Rewriting<M, N>>(
     finish_node(frame, alloc, outer, rewriter)
 }
 
-// The frame's next child: it stays after a Stop, and else its down is taken.
+// The frame's next child: it stays after a Stop, and else its down is taken. A child without children
+// needs no frame of its own.
 fn rewrite_child<M, N: Node, R: Rewriting<M, N>>(
     frame: RewriteFrame<N>,
     alloc: Global,
@@ -231,6 +232,10 @@ fn rewrite_child<M, N: Node, R: Rewriting<M, N>>(
             Ok(NextRewrite::Goes(with_value(frame, skipped)?))
         }
         TraversalOrder::Continue => {
+            if given.value.children_count() == 0 {
+                let leaf = rewrite_up(given.value, given.changed, rewriter)?;
+                return Ok(NextRewrite::Goes(with_value(frame, leaf)?));
+            }
             outer.push(frame)?;
             Ok(NextRewrite::Goes(frame_of(given, alloc)))
         }

@@ -1,6 +1,7 @@
-use Rattle.std.proofs.Common.{rules, refl, subst, ◌≡◌, length, Some, slice_get}
+use Rattle.std.proofs.Common.{rules, refl, sym, subst, ◌≡◌, length, Some, slice_get}
+use Rattle.std.proofs.lemmas.List.{nil_from_length}
 use Rattle.vx_traversal.specs.FoldTurns.{StepsDown}
-use Rattle.vx_traversal.proofs.FoldTurnLemmas.{child-folded, child-goes, child-ready}
+use Rattle.vx_traversal.proofs.FoldTurnLemmas.{child-folded, child-goes, child-ready, leaf-ready}
 use Rattle.vx_traversal.proofs.fold_steps.turn_down.Goals as goal
 
 pub down-requires : goal.down-requires
@@ -22,4 +23,14 @@ returns-in_ok-put_frame-in-None g c = λ start tree.
     let same : c.len.result ≡ length c.args.frame.results.items = search rules in
     let at : slice_get (g.F.NodeTy.Node.children c.args.frame.node.now) (length c.args.frame.results.items) ≡ Some c.node_child-child.result.now = subst (λ i. slice_get (g.F.NodeTy.Node.children c.args.frame.node.now) i ≡ Some c.node_child-child.result.now) same c.node_child-child.ensures in
     let turns = subst (λ o. StepsDown g.F.FoldSteps.ready g.F.FoldSteps.folds g.F.NodeTy.Node.children g.F.FoldSteps.gathers c.args.steps.now c.node_child-child.result.now o c.down.new.self) c.in-None.is c.in_ok-given.ensures in
-    child-goes g.F.NodeTy.Node.children g.F.FoldSteps.ready g.F.FoldSteps.folds g.F.FoldSteps.gathers c.args.frame c.node_child-child.result.now at c.args.steps.now c.down.new.self (record { node = c.node_child-child.result; results = c.new.result }) refl c.new.ensures.items turns (g.F.FoldSteps.folds start tree) c.args.outer.now.items c.put_frame.new.outer.items c.in_ok-put_frame-in-None.ensures
+    child-goes g.F.NodeTy.Node.children g.F.FoldSteps.ready g.F.FoldSteps.folds g.F.FoldSteps.gathers c.args.frame c.node_child-child.result.now at c.args.steps.now c.down.new.self (record { node = c.node_child-child.result; results = c.new-in-None.result }) refl c.new-in-None.ensures.items turns (g.F.FoldSteps.folds start tree) c.args.outer.now.items c.put_frame.new.outer.items c.in_ok-put_frame-in-None.ensures
+
+pub returns-then-children_count-eq0 : goal.returns-then-children_count-eq0
+returns-then-children_count-eq0 g c = λ start tree.
+    let same : c.len.result ≡ length c.args.frame.results.items = search rules in
+    let at : slice_get (g.F.NodeTy.Node.children c.args.frame.node.now) (length c.args.frame.results.items) ≡ Some c.node_child-child.result.now = subst (λ i. slice_get (g.F.NodeTy.Node.children c.args.frame.node.now) i ≡ Some c.node_child-child.result.now) same c.node_child-child.ensures in
+    let none : length (g.F.NodeTy.Node.children c.node_child-child.result.now) ≡ 0 = search rules in
+    let turns = subst (λ o. StepsDown g.F.FoldSteps.ready g.F.FoldSteps.folds g.F.NodeTy.Node.children g.F.FoldSteps.gathers c.args.steps.now c.node_child-child.result.now o c.down.new.self) c.in-None.is c.in_ok-given.ensures in
+    let gathered = leaf-ready g.F.NodeTy.Node.children g.F.FoldSteps.ready g.F.FoldSteps.folds g.F.FoldSteps.gathers c.args.frame c.node_child-child.result.now at c.args.steps.now c.down.new.self (nil_from_length (g.F.NodeTy.Node.children c.node_child-child.result.now) none) turns in
+    let folded = c.in_ok-given-in-None.ensures c.args.steps.now (subst (λ rs. g.F.FoldSteps.gathers c.args.steps.now c.node_child-child.result.now rs c.down.new.self) (sym c.new.ensures.items) gathered) in
+    child-folded g.F.NodeTy.Node.children g.F.FoldSteps.ready g.F.FoldSteps.folds g.F.FoldSteps.gathers c.args.frame c.node_child-child.result.now at c.args.steps.now c.in_ok-given-in-None.given c.up.new.self c.in_ok-with_result-in-None.field-0 folded c.in_ok-with_result-in-None.ensures (g.F.FoldSteps.folds start tree) c.args.outer.now.items
