@@ -48,7 +48,7 @@ pub fn process(rt: &HostRuntime) -> ExitCode {
 
 /// The words behind the program's name. Where one isn't UTF-8 there are none, which has no form either. None where there is
 /// no memory for them.
-fn arguments(rt: &HostRuntime) -> Option<Vec<String>> {
+pub fn arguments(rt: &HostRuntime) -> Option<Vec<String>> {
     let mut arguments = Vec::new(rt.alloc());
     match env::args(rt) {
         Ok(args) => {
