@@ -18,14 +18,14 @@ pub of_fields-requires-clause-names : goal.of_fields-requires-clause-names
 of_fields-requires-clause-names c =
     let lengths : length c.args.names ≡ length c.args.fields.items = omega (arith, c.if-len.false, c.len.ensures, c.len-2.ensures) in
     let distinct : distinct_names c.args.names ≡ true = search rules in
-    let same = c.as_slice-3.ensures.value in
+    let same = c.as_slice-2.ensures.value in
     let made : c.in_ok-fields_type.fields_type ≡ zipped c.args.names (column_types c.args.fields.items) = c.in_ok-fields_type.ensures ∙ ap (zipped c.args.names) c.in_ok-dtypes.ensures.types ∙ ap (λ cs. zipped c.args.names (column_types cs)) same in
     ap (λ fs. no_name_twice (struct_ty fs NonNullable)) made ∙ names_made c.args.names c.args.fields.items NonNullable lengths distinct (subst (λ (cs : List Column). All (λ f. no_name_twice f.ty ≡ true) cs) same c.in_ok-dtypes.ensures.names)
 
 pub of_fields-requires-clause-fields : goal.of_fields-requires-clause-fields
 of_fields-requires-clause-fields c =
     let lengths : length c.args.names ≡ length c.args.fields.items = omega (arith, c.if-len.false, c.len.ensures, c.len-2.ensures) in
-    let same = c.as_slice-3.ensures.value in
+    let same = c.as_slice-2.ensures.value in
     let made : c.in_ok-fields_type.fields_type ≡ zipped c.args.names (column_types c.args.fields.items) = c.in_ok-fields_type.ensures ∙ ap (zipped c.args.names) c.in_ok-dtypes.ensures.types ∙ ap (λ cs. zipped c.args.names (column_types cs)) same in
     let rows : all_have_rows c.args.len c.args.fields.items ≡ true = search rules in
     let fit : all_rows_fit c.args.fields.items ≡ true = subst (λ (cs : List Column). all_rows_fit cs ≡ true) same c.in_ok-dtypes.ensures.fit in
@@ -34,7 +34,7 @@ of_fields-requires-clause-fields c =
 pub returns-in-None : goal.returns-in-None
 returns-in-None c =
     let lengths : length c.args.names ≡ length c.args.fields.items = omega (arith, c.if-len.false, c.len.ensures, c.len-2.ensures) in
-    let same = c.as_slice-3.ensures.value in
+    let same = c.as_slice-2.ensures.value in
     let made : c.in_ok-fields_type.fields_type ≡ zipped c.args.names (column_types c.args.fields.items) = c.in_ok-fields_type.ensures ∙ ap (zipped c.args.names) c.in_ok-dtypes.ensures.types ∙ ap (λ cs. zipped c.args.names (column_types cs)) same in
     let distinct : distinct_names c.args.names ≡ true = search rules in
     let agree : lengths_agree c.args.names c.args.fields.items c.args.len (option_map (λ v. v.items) c.args.valid) ≡ true = search rules in
@@ -44,7 +44,7 @@ returns-in-None c =
 pub of_masked-requires-clause-lengths : goal.of_masked-requires-clause-lengths
 of_masked-requires-clause-lengths c =
     let lengths : length c.args.names ≡ length c.args.fields.items = omega (arith, c.if-len.false, c.len.ensures, c.len-2.ensures) in
-    let same = c.as_slice-3.ensures.value in
+    let same = c.as_slice-2.ensures.value in
     let made : c.in_ok-fields_type.fields_type ≡ zipped c.args.names (column_types c.args.fields.items) = c.in_ok-fields_type.ensures ∙ ap (zipped c.args.names) c.in_ok-dtypes.ensures.types ∙ ap (λ cs. zipped c.args.names (column_types cs)) same in
     let valid : option_map (λ v. v.items) c.args.valid ≡ Some c.in-Some.valid.now = sym c.slice_of-truths.ensures ∙ ap option_copied c.in-Some.is in
     let number : truths_number c.args.len (option_map (λ v. v.items) c.args.valid) ≡ true = search rules in
@@ -56,7 +56,7 @@ of_masked-requires-clause-lengths c =
 pub returns : goal.returns
 returns c =
     let lengths : length c.args.names ≡ length c.args.fields.items = omega (arith, c.if-len.false, c.len.ensures, c.len-2.ensures) in
-    let same = c.as_slice-3.ensures.value in
+    let same = c.as_slice-2.ensures.value in
     let made : c.in_ok-fields_type.fields_type ≡ zipped c.args.names (column_types c.args.fields.items) = c.in_ok-fields_type.ensures ∙ ap (zipped c.args.names) c.in_ok-dtypes.ensures.types ∙ ap (λ cs. zipped c.args.names (column_types cs)) same in
     let distinct : distinct_names c.args.names ≡ true = search rules in
     let valid : option_map (λ v. v.items) c.args.valid ≡ Some c.in-Some.valid.now = sym c.slice_of-truths.ensures ∙ ap option_copied c.in-Some.is in
