@@ -1,9 +1,14 @@
--- What the program does with its words: which forms they are of, by the first.
-use Rattle.std.specs.Prelude.{Bool, false, List, [], ◌∷◌, codes}
+-- Which forms the program's words are of: the first of them says it.
+use Rattle.std.specs.Prelude.{cond, List, [], ◌∷◌, codes}
 use Rattle.std.specs.Str.{bytes_eq}
 use Rattle.vx_dtype.specs.Types.{Bytes}
+use Rattle.vx_program.specs.declared.words.Words.{Words}
+use Rattle.vx_program.specs.declared.words.Words.TheVariants.{Requests, Writing}
 
--- whether words are of the form that keeps a table as a file: the first one says it, so none of these are arguments of a request
-abbrev pub asks_writing : List Bytes → Bool
-asks_writing [] = false
-asks_writing (word ∷ words) = bytes_eq word (codes "write")
+-- no argument of a request is the first word of another form
+abbrev pub words_named : Bytes → Words
+words_named word = cond (bytes_eq word (codes "write")) Writing Requests
+
+abbrev pub words_of : List Bytes → Words
+words_of [] = Requests
+words_of (word ∷ words) = words_named word

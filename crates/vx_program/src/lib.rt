@@ -3,6 +3,7 @@
 
 mod processes;
 mod programs;
+mod words;
 
 pub use processes::process;
 pub use programs::program;

@@ -1,32 +1,23 @@
 // The program as a call.
-ghost use Rattle.std.specs.Prelude.{◌≡◌, Option, true, false, map};
+ghost use Rattle.std.specs.Prelude.{◌≡◌, Option, map};
 ghost use Rattle.std.specs.String.{string_bytes};
 ghost use Rattle.vx_laws_shell.specs.Running.{end_by};
 ghost use Rattle.vx_laws_writing.specs.Writing.{IsWriteRun, files_end};
-ghost use Rattle.vx_program.specs.Programs.{asks_writing};
-ghost use Rattle.vx_query.specs.Running.{IsRun, form_of};
+ghost use Rattle.vx_program.specs.Programs.{words_of};
+ghost use Rattle.vx_program.specs.declared.words.Words.TheVariants.{Requests as OfRequests, Writing as OfWriting};
 ghost use Rattle.vx_query.specs.Running as requests;
 ghost use Rattle.vx_scan.specs.Stores.{StoreSeen};
 
+use crate::words::{Words, words_of};
 use std::alloc::Global;
 use vx_files::Files;
 use vx_io::{Sink, Source};
 use vx_query::run;
 use vx_writing::write;
 
-/// Whether words are of the form that keeps a table as a file.
-fn asks_writing(words: &[String]) -> bool
-    ensures { result ≡ asks_writing (map string_bytes words.now) }
-{
-    match words {
-        [] => false,
-        [word, ..] => word.as_str() == "write",
-    }
-}
-
-/// Does all that the program does, and answers its exit status: words that begin with `write` keep a table of the standard input as a file, as
-/// [`vx_writing::write`] says, and tell what they refuse on standard error; all others are of a request, as [`vx_query::run`] says, and write their text to
-/// the output.
+/// Does all that the program does, and answers its exit status. Words that begin with `write` keep a table of the standard input as a file, as
+/// [`vx_writing::write`] says, and tell what they refuse on standard error. All others are of a request, as [`vx_query::run`] says, and write their text to
+/// the output. What a form has no use for it leaves as it is.
 pub fn program<F: Files, I: Source, O: Sink, E: Sink>(
     alloc: Global,
     words: &[String],
@@ -35,16 +26,15 @@ pub fn program<F: Files, I: Source, O: Sink, E: Sink>(
     output: &mut O,
     errors: &mut E,
 ) -> u8
-    ensures writes { let source = end_by I.left I.faults in let end = files_end F.kept F.faults in asks_writing (map string_bytes words.now) ≡ true →
+    ensures writes { let source = end_by I.left I.faults in let end = files_end F.kept F.faults in words_of (map string_bytes words.now) ≡ OfWriting →
         IsWriteRun (map string_bytes words.now) (source input.old) (source input.new) (end files.old) (end files.new) result × (output.new ≡ output.old) }
     ensures runs { let source = requests.end_by I.left I.faults in let sink = requests.end_by O.written O.faults in
-        asks_writing (map string_bytes words.now) ≡ false → ((used : Option StoreSeen)
-        × IsRun (form_of (map string_bytes words.now)) (source input.old) (source input.new) (sink output.old) (sink output.new) used result)
+        words_of (map string_bytes words.now) ≡ OfRequests → ((used : Option StoreSeen)
+        × requests.IsRun (requests.form_of (map string_bytes words.now)) (source input.old) (source input.new) (sink output.old) (sink output.new) used result)
         × (files.new ≡ files.old) × (errors.new ≡ errors.old) }
 {
-    if asks_writing(words) {
-        return write(alloc, words, files, input, errors);
+    match words_of(words) {
+        Words::Writing => write(alloc, words, files, input, errors),
+        Words::Requests => run(alloc, words, input, output, &mut None),
     }
-    let mut used = None;
-    run(alloc, words, input, output, &mut used)
 }
