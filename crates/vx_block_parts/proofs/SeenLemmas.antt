@@ -68,7 +68,7 @@ part_reads from up_to block name s t (Ok c) h k =
     let read : Read = (from + block, name) in (
       column_between from up_to block name s c h k.0,
       ap (reads_between from up_to) k.1 ∙ log_grows from up_to s.log (read ∷ [])
-      ∙ ap (λ (rs : List Read). reads_between from up_to s.log ++ rs) (one_read from up_to block name h),
+          ∙ ap (λ (rs : List Read). reads_between from up_to s.log ++ rs) (one_read from up_to block name h),
       ap (read_between from up_to) k.2,
     )
 part_reads from up_to block name s t (Err errors.Failed) h k =
@@ -98,8 +98,8 @@ agrees_between from up_to None zones h = tt
 agrees_between from up_to (Some table) zones h = record {
   columns = h.columns;
   lengths =
-    sym (drop-map length from (take up_to table.blocks)) ∙ ap (drop from) (sym (take-map length up_to table.blocks))
-    ∙ ap (λ (ns : List ℕ). drop from (take up_to ns)) h.lengths;
+      sym (drop-map length from (take up_to table.blocks)) ∙ ap (drop from) (sym (take-map length up_to table.blocks))
+      ∙ ap (λ (ns : List ℕ). drop from (take up_to ns)) h.lengths;
   fit = all_between (rows_fit (row_type zones.columns)) from up_to table.blocks h.fit;
 }
 
@@ -110,6 +110,6 @@ still_part from up_to own s t same h = record {
   within = subst (λ (zones : Zones). up_to ≤ length zones.lengths) (sym same.zones) h.within;
   zones = h.zones ∙ ap (zones_between from up_to) (sym same.zones);
   agrees =
-    subst (λ (zones : Zones). WhereTold t.held (AgreesWith zones)) (sym same.zones)
-    (subst (λ (held : Option Table). WhereTold held (AgreesWith s.zones)) (sym same.held) h.agrees);
+      subst (λ (zones : Zones). WhereTold t.held (AgreesWith zones)) (sym same.zones)
+      (subst (λ (held : Option Table). WhereTold held (AgreesWith s.zones)) (sym same.held) h.agrees);
 }

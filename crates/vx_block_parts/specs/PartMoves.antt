@@ -61,7 +61,7 @@ module _ {S : Type 0} (seen : S → StoreSeen) (moves : S → S → Type 0) wher
     up_to = k.up_to ∙ h.up_to;
     store = goes_on a.store b.store c.store h.store k.store;
     within =
-      goes_on_between a.from a.up_to (seen a.store) (seen b.store) (seen c.store) h.within
-      (subst (λ (n : ℕ). MovesBetween n a.up_to (seen b.store) (seen c.store)) h.from
-      (subst (λ (n : ℕ). MovesBetween b.from n (seen b.store) (seen c.store)) h.up_to k.within));
+        goes_on_between a.from a.up_to (seen a.store) (seen b.store) (seen c.store) h.within
+        (subst (λ (n : ℕ). MovesBetween n a.up_to (seen b.store) (seen c.store)) h.from
+        (subst (λ (n : ℕ). MovesBetween b.from n (seen b.store) (seen c.store)) h.up_to k.within));
   }

@@ -45,12 +45,7 @@ fn made(answer: Result<ZoneMap, ZoneError>) -> Mem<ZoneMap>
 }
 
 /// Each statistic in these blocks.
-fn stats_between(
-    alloc: Global,
-    stats: &[ZoneStat],
-    from: usize,
-    up_to: usize,
-) -> Mem<Vec<ZoneStat>>
+fn stats_between(alloc: Global, stats: &[ZoneStat], from: usize, up_to: usize) -> Mem<Vec<ZoneStat>>
     requires order { from ≤ up_to }
     requires within { All (λ z. up_to ≤ length z.values) stats.now }
     ensures { IfOk result (λ within. map stat_view within.items ≡ map (stat_between from up_to) (map stat_view stats.now)) }
