@@ -36,37 +36,45 @@ module _ {S N R : Type 0} (ready : S → N → Type 0) (Has : S → List N → L
 
 module _ {S N R : Type 0} (children : N → List N) (ready : S → N → Type 0) (folds : S → N → R → S → Type 0) (gathers : S → N → List R → S → Type 0) where
   -- a new frame, whose node's children may be folded in turn
-  begun : (start : S) (f : TurnFrame N R) (n : N) (t : S) → f.node.now ≡ n → f.results.items ≡ [] → MayTurn ready folds (gathers start n) (children n) [] t →
+  begun : (start : S) (f : TurnFrame N R) (n : N) (t : S) → f.node.now ≡ n → f.count ≡ length (children n) → f.results.items ≡ [] → MayTurn ready folds (gathers start n) (children n) [] t →
       LeftOf children ready folds gathers start f (length f.results.items) f.results.items t
-  begun start f n t same none turns =
+  begun start f n t same counted none turns =
       let P : N → Type 0 = λ m. MayTurn ready folds (gathers start m) (drop (length f.results.items) (children m)) f.results.items t in
       let Q : List R → Type 0 = λ rs. MayTurn ready folds (gathers start n) (drop (length rs) (children n)) rs t in
       let L : List N → Type 0 = λ cs. MayTurn ready folds (gathers start n) cs [] t in
-      subst P (sym same) (subst Q (sym none) (subst L (sym (drop-none (children n))) turns))
+      (subst (λ m. f.count ≡ length (children m)) (sym same) counted, subst P (sym same) (subst Q (sym none) (subst L (sym (drop-none (children n))) turns)))
 
   -- a frame with one more result
   one_more : (start : S) (f g : TurnFrame N R) (x : R) (t : S) → HasOneResultMore f x g → LeftOf children ready folds gathers start f (length f.results.items + 1) (f.results.items ++ x ∷ []) t →
       LeftOf children ready folds gathers start g (length g.results.items) g.results.items t
-  one_more start f g x t (same, items) left =
-      let P : ℕ → Type 0 = λ i. LeftOf children ready folds gathers start f i (f.results.items ++ x ∷ []) t in
-      let Q : List R → Type 0 = λ rs. LeftOf children ready folds gathers start f (length rs) rs t in
-      let M : N → Type 0 = λ m. MayTurn ready folds (gathers start m) (drop (length g.results.items) (children m)) g.results.items t in
-      subst M (ap (λ n. n.now) (sym same)) (subst Q (sym items) (subst P (sym (length-append f.results.items (x ∷ []))) left))
+  one_more start f g x t (same, as_many, items) (counted, left) =
+      let P : ℕ → Type 0 = λ i. MayTurn ready folds (gathers start f.node.now) (drop i (children f.node.now)) (f.results.items ++ x ∷ []) t in
+      let Q : List R → Type 0 = λ rs. MayTurn ready folds (gathers start f.node.now) (drop (length rs) (children f.node.now)) rs t in
+      let M : N → Type 0 = λ m. MayTurn ready folds (gathers start m) (drop (length g.results.items) (children m)) g.results.items t in (
+        as_many ∙ counted ∙ ap (λ n. length (children n.now)) (sym same),
+        subst M (ap (λ n. n.now) (sym same)) (subst Q (sym items) (subst P (sym (length-append f.results.items (x ∷ []))) left)),
+      )
 
   -- the fold of a tree begins with its frame alone
-  pub first : (start : S) (n : N) (f : TurnFrame N R) (fs : List (TurnFrame N R)) (t : S) → fs ≡ [] → f.node.now ≡ n → f.results.items ≡ [] → MayTurn ready folds (gathers start n) (children n) [] t →
+  pub first : (start : S) (n : N) (f : TurnFrame N R) (fs : List (TurnFrame N R)) (t : S) → fs ≡ [] → f.node.now ≡ n → f.count ≡ length (children n) → f.results.items ≡ [] → MayTurn ready folds (gathers start n) (children n) [] t →
       Pending children ready folds gathers (folds start n) fs f t
-  first start n f fs t alone same none turns =
+  first start n f fs t alone same counted none turns =
       let P : N → Type 0 = λ m. (x : R) (u : S) → folds start m x u → folds start n x u in
-      subst (λ gs. Pending children ready folds gathers (folds start n) gs f t) (sym alone) (start, subst P (sym same) (λ x u h. h), begun start f n t same none turns)
+      subst (λ gs. Pending children ready folds gathers (folds start n) gs f t) (sym alone) (start, subst P (sym same) (λ x u h. h), begun start f n t same counted none turns)
+
+  -- the frame knows how many children its node has
+  pub pending-counted : (Gives : R → S → Type 0) (fs : List (TurnFrame N R)) (f : TurnFrame N R) (s : S) → Pending children ready folds gathers Gives fs f s → f.count ≡ length (children f.node.now)
+  pending-counted Gives [] f s (start, ends, left) = left.0
+  pending-counted Gives (g ∷ gs) f s (start, ends, pending) = pending-counted (λ x t. LeftOf children ready folds gathers start g (length g.results.items + 1) (g.results.items ++ x ∷ []) t) gs f s pending
 
   -- the next child of a frame
   module _ (f : TurnFrame N R) (c : N) (at : slice_get (children f.node.now) (length f.results.items) ≡ Some c) (s : S) where
     next : (start : S) → LeftOf children ready folds gathers start f (length f.results.items) f.results.items s →
         ready s c × ((x : R) (t : S) → folds s c x t → LeftOf children ready folds gathers start f (length f.results.items + 1) (f.results.items ++ x ∷ []) t)
-    next start left =
+    next start (counted, left) =
         let P : List N → Type 0 = λ cs. MayTurn ready folds (gathers start f.node.now) cs f.results.items s in
-        subst P (drop-next (children f.node.now) (length f.results.items) c at) left
+        let here = subst P (drop-next (children f.node.now) (length f.results.items) c at) left in
+        (here.0, λ x t folded. (counted, here.1 x t folded))
 
     -- it may be folded
     pub child-ready : (Gives : R → S → Type 0) (fs : List (TurnFrame N R)) → Pending children ready folds gathers Gives fs f s → ready s c
@@ -87,23 +95,23 @@ module _ {S N R : Type 0} (children : N → List N) (ready : S → N → Type 0)
     leaf-ready t none turns = let P : List N → Type 0 = λ cs. MayTurn ready folds (gathers s c) cs [] t in subst P none turns
 
     -- where its children are to be folded, it has a frame of its own below this one
-    goes_below : (t : S) (h : TurnFrame N R) → h.node.now ≡ c → h.results.items ≡ [] → MayTurn ready folds (gathers s c) (children c) [] t →
+    goes_below : (t : S) (h : TurnFrame N R) → h.node.now ≡ c → h.count ≡ length (children c) → h.results.items ≡ [] → MayTurn ready folds (gathers s c) (children c) [] t →
         (Gives : R → S → Type 0) (fs : List (TurnFrame N R)) → Pending children ready folds gathers Gives fs f s → Pending children ready folds gathers Gives (fs ++ f ∷ []) h t
-    goes_below t h same none turns Gives [] (start, ends, left) =
+    goes_below t h same counted none turns Gives [] (start, ends, left) =
         let After : R → S → Type 0 = λ x u. LeftOf children ready folds gathers start f (length f.results.items + 1) (f.results.items ++ x ∷ []) u in
         let P : N → Type 0 = λ m. (x : R) (u : S) → folds s m x u → After x u in
-        (start, ends, (s, subst P (sym same) (next start left).1, begun s h c t same none turns))
-    goes_below t h same none turns Gives (g ∷ gs) (start, ends, pending) =
-        (start, ends, goes_below t h same none turns (λ x u. LeftOf children ready folds gathers start g (length g.results.items + 1) (g.results.items ++ x ∷ []) u) gs pending)
+        (start, ends, (s, subst P (sym same) (next start left).1, begun s h c t same counted none turns))
+    goes_below t h same counted none turns Gives (g ∷ gs) (start, ends, pending) =
+        (start, ends, goes_below t h same counted none turns (λ x u. LeftOf children ready folds gathers start g (length g.results.items + 1) (g.results.items ++ x ∷ []) u) gs pending)
 
-    pub child-goes : (t : S) (h : TurnFrame N R) → h.node.now ≡ c → h.results.items ≡ [] → MayTurn ready folds (gathers s c) (children c) [] t →
+    pub child-goes : (t : S) (h : TurnFrame N R) → h.node.now ≡ c → h.count ≡ length (children c) → h.results.items ≡ [] → MayTurn ready folds (gathers s c) (children c) [] t →
         (Gives : R → S → Type 0) (fs hs : List (TurnFrame N R)) → hs ≡ fs ++ f ∷ [] → Pending children ready folds gathers Gives fs f s → Pending children ready folds gathers Gives hs h t
-    child-goes t h same none turns Gives fs hs pushed pending = subst (λ ks. Pending children ready folds gathers Gives ks h t) (sym pushed) (goes_below t h same none turns Gives fs pending)
+    child-goes t h same counted none turns Gives fs hs pushed pending = subst (λ ks. Pending children ready folds gathers Gives ks h t) (sym pushed) (goes_below t h same counted none turns Gives fs pending)
 
   -- a frame whose children all have results
   module _ (f : TurnFrame N R) (s : S) (past : length (children f.node.now) ≤ length f.results.items) where
     all_done : (start : S) → LeftOf children ready folds gathers start f (length f.results.items) f.results.items s → gathers start f.node.now f.results.items s
-    all_done start left =
+    all_done start (counted, left) =
         let P : List N → Type 0 = λ cs. MayTurn ready folds (gathers start f.node.now) cs f.results.items s in
         subst P (drop-past (children f.node.now) (length f.results.items) past) left
 

@@ -1,18 +1,14 @@
--- A rewrite that takes steps which hang on the node alone, and nothing before the children, makes of a tree what the fold of the step does.
-use Rattle.std.specs.Prelude.{◌≡◌, ℕ, zero, suc, List, [], ◌∷◌, ◌++◌, Bool, true, false, ◌||◌, Result, Ok, Err, MatchBool}
-use Rattle.std.proofs.Common.{inl, inr, refl, sym, ap, subst, ◌∙◌, append_assoc}
-use Rattle.std.proofs.lemmas.List.{append-nil}
-use Rattle.vx_traversal.specs.declared.errors.WalkError.{WalkError}
-use Rattle.vx_traversal.specs.declared.errors.WalkError.TheVariants.{NoMemory, Visit}
-use Rattle.vx_traversal.specs.declared.order.TraversalOrder.TheVariants.{Continue}
-use Rattle.vx_traversal.specs.declared.transform.Transformed.{Transformed}
-use Rattle.vx_traversal.specs.Rewrites.{Walk, RewriteStep, UnlessNoMemory, UnlessStopped, WithValue, MapsInTurn, Rebuilds, GoesUp, AfterOrder, FromOrder, KeepsValue, RewritesBelow, Rewrites, with_one, none_yet, marked}
-use Rattle.vx_traversal.specs.UpSteps.{OfAnswer, AfterMade, MakesInTurn, IsOver, MakesOver, MakesNode, MakesBelow, MakesUp}
-use Rattle.vx_traversal.specs.UpAnswers.{AnswersUp, UnmovedUp}
-
-neither : (a b : Bool) → (a || b) ≡ false → (a ≡ false) × (b ≡ false)
-neither true b is = absurd (cc)
-neither false b is = (refl, is)
+-- What a step that hangs on the node alone makes of a tree, and that a fold which keeps the first refusal makes it.
+use Rattle.std.specs.Prelude.{◌≡◌, ℕ, zero, suc, ◌+◌, ◌<◌, ◌≤◌, List, [], ◌∷◌, ◌++◌, true, Option, Some, None, unwrap_or, is_none, Result, Ok, Err, Contains, slice_get, length, take}
+use Rattle.std.specs.List.{list_all}
+use Rattle.std.proofs.Common.{refl, sym, ap, subst, ◌∙◌, append_assoc, append-nil, arith, true≢false}
+use Rattle.std.proofs.lemmas.Option.{same_Some, none-some, slice_get_within, get_or_from_slice_get}
+use Rattle.std.proofs.lemmas.List.{length-append, take_all, take_more}
+use Rattle.vx_traversal.specs.declared.up_step.UpSteps.{UpSteps}
+use Rattle.vx_traversal.specs.UpSteps.{AfterMade, MakesInTurn, MakesOver, MakesNode, MakesBelow, MakesUp}
+use Rattle.vx_traversal.specs.UpFolds.{in_places, Makes, GathersMade, Gathers, MakesTree, GathersTree}
+use Rattle.vx_traversal.specs.FoldTurns.{MayTurn}
+use Rattle.vx_traversal.proofs.FoldTurnLemmas.{turns}
 
 -- ---- what is made of each node goes by what is made of its children
 
@@ -42,118 +38,108 @@ module _ {N E : Type 0} where
     pub made-so : (height : N → ℕ) (n : N) (r : Result N E) → MakesUp children is_with Makes height n r → R n r
     made-so height n r w = made_below (suc (height n)) n r w
 
--- ---- the rewrite
+-- ---- what stands in the places of nodes
 
-module _ {N E : Type 0} (C : N → Result N E → Type 0) (GoesOn : List N → Result N E → Type 0) where
-  -- what is made of nodes in turn after these values, as an answer of the values that take their steps in turn
-  abbrev TurnAnswers : Transformed (List N) → List N → Walk (Transformed (List N)) E → Type 0
-  TurnAnswers so_far ns (Err NoMemory) = Unit {0}
-  TurnAnswers so_far ns (Err (Visit e)) = MakesInTurn C GoesOn so_far.value ns (Err e)
-  TurnAnswers so_far ns (Ok m) =
-      (m.order ≡ Continue) × ((r : Result N E) → GoesOn m.value r → MakesInTurn C GoesOn so_far.value ns r)
-      × (m.changed ≡ false → (so_far.changed ≡ false) × (m.value ≡ so_far.value ++ ns))
+pub none_made : {N : Type 0} (ns : List N) (made : List (Option N)) → list_all is_none made ≡ true → in_places ns made ≡ ns
+none_made [] made h = refl
+none_made (n ∷ ns) [] h = refl
+none_made (n ∷ ns) (None ∷ made) h = ap (λ ds. n ∷ ds) (none_made ns made h)
+none_made (n ∷ ns) (Some d ∷ made) h = absurd (true≢false (sym h))
 
-  one_before : (so_far : Transformed (List N)) (n : N) (ns : List N) (y : Transformed N) → C n (Ok y.value) → (y.changed ≡ false → y.value ≡ n) →
-      (r : Walk (Transformed (List N)) E) → TurnAnswers (with_one so_far y) ns r → TurnAnswers so_far (n ∷ ns) r
-  one_before so_far n ns y made same (Err NoMemory) w = tt
-  one_before so_far n ns y made same (Err (Visit e)) w = (Ok y.value, made, w)
-  one_before so_far n ns y made same (Ok m) (goes, later, unchanged) = (
-    goes,
-    (λ r w. (Ok y.value, made, later r w)),
-    λ not.
-        let whole = unchanged not in
-        let both = neither so_far.changed y.changed whole.0 in
-        (both.0, whole.1 ∙ append_assoc so_far.value (y.value ∷ []) ns ∙ ap (λ z. so_far.value ++ z ∷ ns) (same both.1)),
-  )
+pub as_many : {N : Type 0} (ns : List N) (made : List (Option N)) → length (in_places ns made) ≡ length ns
+as_many [] made = refl
+as_many (n ∷ ns) [] = refl
+as_many (n ∷ ns) (m ∷ made) = ap suc (as_many ns made)
 
-  module _ {S : Type 0} (Child : RewriteStep S N E) (s : S) (answers : (n : N) (r : Walk (Transformed N) E) (t : S) → Child s n r t → (t ≡ s) × AnswersUp C n r) where
-    next : (so_far : Transformed (List N)) (n : N) (ns : List N) (r : Walk (Transformed (List N)) E) (t : S)
-        → ((y : Transformed N) → y.order ≡ Continue → MapsInTurn Child (with_one so_far y) s ns r t → (t ≡ s) × TurnAnswers (with_one so_far y) ns r)
-        → (q : Walk (Transformed N) E) (u : S) → u ≡ s → AnswersUp C n q → WithValue (λ y. MapsInTurn Child (with_one so_far y) u ns r t) q u r t
-        → (t ≡ s) × TurnAnswers so_far (n ∷ ns) r
-    next so_far n ns r t later (Err NoMemory) u stays h (is, same) = (same ∙ stays, subst (TurnAnswers so_far (n ∷ ns)) (sym is) tt)
-    next so_far n ns r t later (Err (Visit e)) u stays h (is, same) = (same ∙ stays, subst (TurnAnswers so_far (n ∷ ns)) (sym is) (Err e, h, refl))
-    next so_far n ns r t later (Ok y) u stays (made, goes, unchanged) rest =
-        let rests = later y goes (subst (λ v. MapsInTurn Child (with_one so_far y) v ns r t) stays rest) in
-        (rests.0, one_before so_far n ns y made unchanged r rests.1)
+in_place_at : {N : Type 0} (ns : List N) (made : List (Option N)) (i : ℕ) (n : N) (m : Option N) → slice_get ns i ≡ Some n → slice_get made i ≡ Some m
+    → slice_get (in_places ns made) i ≡ Some (unwrap_or m n)
+in_place_at [] made i n m at given = absurd (none-some n at)
+in_place_at (d ∷ ns) [] i n m at given = absurd (none-some m given)
+in_place_at (d ∷ ns) (k ∷ made) zero n m at given = λ j. Some (unwrap_or (same_Some k m given j) (same_Some d n at j))
+in_place_at (d ∷ ns) (k ∷ made) (suc i) n m at given = in_place_at ns made i n m at given
 
-    in_turn : (ns : List N) (so_far : Transformed (List N)) → so_far.order ≡ Continue → (r : Walk (Transformed (List N)) E) (t : S) → MapsInTurn Child so_far s ns r t
-        → (t ≡ s) × TurnAnswers so_far ns r
-    in_turn [] so_far goes r t (is, same) =
-        (same, subst (TurnAnswers so_far []) (sym is) (goes, (λ p w. w), λ not. (not, sym (append-nil so_far.value))))
-    in_turn (n ∷ ns) so_far goes r t (q, u, step, rest) =
-        let went : Child s n q u = subst (λ o. UnlessStopped Child o s n q u) goes step in
-        let h = answers n q u went in
-        next so_far n ns r t (λ y on. in_turn ns (with_one so_far y) on r t) q u h.0 h.1 rest
+taken_step : {A : Type 0} (xs : List A) (i : ℕ) (x : A) → slice_get xs i ≡ Some x → take (i + 1) xs ≡ take i xs ++ x ∷ []
+taken_step xs i x at = take_more xs i x (slice_get_within xs i x at) ∙ ap (λ y. take i xs ++ y ∷ []) (get_or_from_slice_get xs i x x at)
 
-module _ {S N E : Type 0} (children : N → List N) (is_with : N → List N → N → Type 0) (up : RewriteStep S N E) (Makes : N → Result N E → Type 0) (s : S)
-    (answers : (n : N) (r : Walk (Transformed N) E) (t : S) → up s n r t → (t ≡ s) × AnswersUp Makes n r) where
-  -- the rebuilt node is the node over its children
-  is_over : (n over : N) (ds : List N) (b : Bool) → MatchBool b (is_with n ds over) (over ≡ n) → (b ≡ false → ds ≡ children n) → IsOver children is_with n ds over
-  is_over n over ds true matches unchanged = inr matches
-  is_over n over ds false matches unchanged = inl (unchanged refl, matches)
+-- one more is collected
+pub one_more_made : {N : Type 0} (ns : List N) (made : List (Option N)) (i : ℕ) (n : N) (m : Option N) (items more : List N) → slice_get ns i ≡ Some n → slice_get made i ≡ Some m
+    → items ≡ take i (in_places ns made) → more ≡ items ++ unwrap_or m n ∷ [] → more ≡ take (i + 1) (in_places ns made)
+one_more_made ns made i n m items more at given so_far is =
+    is ∙ ap (λ ds. ds ++ unwrap_or m n ∷ []) so_far ∙ sym (taken_step (in_places ns made) i (unwrap_or m n) (in_place_at ns made i n m at given))
 
-  stays_same : (n over : N) (ds : List N) (b : Bool) → MatchBool b (is_with n ds over) (over ≡ n) → b ≡ false → over ≡ n
-  stays_same n over ds true matches is = absurd (cc)
-  stays_same n over ds false matches is = matches
+pub all_made : {N : Type 0} (ns : List N) (made : List (Option N)) (i : ℕ) (items : List N) → items ≡ take i (in_places ns made) → length ns ≤ i → items ≡ in_places ns made
+all_made ns made i items so_far past = so_far ∙ take_all i (in_places ns made) (omega (arith, as_many ns made, past))
 
-  module _ (k : ℕ) (n : N) (r : Walk (Transformed N) E) (t : S) where
-    -- the step at the node over its children
-    ended : (b : Bool) (over : N) → (b ≡ false → over ≡ n) → ((q : Result N E) → Makes over q → MakesBelow children is_with Makes (suc k) n q) →
-        (q : Walk (Transformed N) E) → AnswersUp Makes over q → r ≡ marked b q → AnswersUp (MakesBelow children is_with Makes (suc k)) n r
-    ended b over same through (Err NoMemory) h is = subst (AnswersUp (MakesBelow children is_with Makes (suc k)) n) (sym is) tt
-    ended b over same through (Err (Visit e)) h is = subst (AnswersUp (MakesBelow children is_with Makes (suc k)) n) (sym is) (through (Err e) h)
-    ended b over same through (Ok d) (made, goes, unchanged) is =
-        subst (AnswersUp (MakesBelow children is_with Makes (suc k)) n) (sym is)
-        (through (Ok d.value) made, goes, λ not. let both = neither b d.changed not in unchanged both.1 ∙ same both.0)
+-- behind as many nodes as were made, one more
+in_places-more : {N : Type 0} (ns : List N) (made : List (Option N)) (n : N) (m : Option N) → length made ≡ length ns
+    → in_places (ns ++ n ∷ []) (made ++ m ∷ []) ≡ in_places ns made ++ unwrap_or m n ∷ []
+in_places-more [] [] n m many = refl
+in_places-more [] (k ∷ made) n m many = absurd (omega (arith, many))
+in_places-more (d ∷ ns) [] n m many = absurd (omega (arith, many))
+in_places-more (d ∷ ns) (k ∷ made) n m many = ap (λ ds. unwrap_or k d ∷ ds) (in_places-more ns made n m (omega (arith, many)))
 
-    finished : (m : Walk (Transformed (List N)) E) (p : Walk (Transformed N) E) (v : S) → v ≡ s →
-        TurnAnswers (MakesBelow children is_with Makes k) (MakesOver children is_with Makes n) none_yet (children n) m → Rebuilds is_with n m p →
-        WithValue (λ y. AfterOrder children is_with KeepsValue up y.order false y v r t) p v r t → (t ≡ s) × AnswersUp (MakesBelow children is_with Makes (suc k)) n r
-    finished (Err NoMemory) p v stays h is after =
-        let ends : (r ≡ Err NoMemory) × (t ≡ v) = subst (λ z. WithValue (λ y. AfterOrder children is_with KeepsValue up y.order false y v r t) z v r t) is after in
-        (ends.1 ∙ stays, subst (AnswersUp (MakesBelow children is_with Makes (suc k)) n) (sym ends.0) tt)
-    finished (Err (Visit e)) p v stays h is after =
-        let ends : (r ≡ Err (Visit e)) × (t ≡ v) = subst (λ z. WithValue (λ y. AfterOrder children is_with KeepsValue up y.order false y v r t) z v r t) is after in
-        (ends.1 ∙ stays, subst (AnswersUp (MakesBelow children is_with Makes (suc k)) n) (sym ends.0) h)
-    finished (Ok m) p v stays (goes, later, unchanged) (over, matches, is) after =
-        let rebuilt : Transformed N = record { value = over; order = m.order; changed = m.changed } in
-        let ordered : AfterOrder children is_with KeepsValue up m.order false rebuilt v r t =
-        subst (λ z. WithValue (λ y. AfterOrder children is_with KeepsValue up y.order false y v r t) z v r t) is after in
-        let goes_up : GoesUp up m.changed v over r t = subst (λ o. AfterOrder children is_with KeepsValue up o false rebuilt v r t) goes ordered in
-        let h = answers over goes_up.0 t (subst (λ z. up z over goes_up.0 t) stays goes_up.1) in
-        let same : IsOver children is_with n m.value over = is_over n over m.value m.changed matches (λ not. (unchanged not).1) in
-        (h.0, ended m.changed over (stays_same n over m.value m.changed matches) (λ q made. later q (over, same, made)) goes_up.0 h.1 goes_up.2)
+-- ---- the fold
 
-    over_children : ((c : N) (q : Walk (Transformed N) E) (u : S) → RewritesBelow children is_with KeepsValue up k s c q u → (u ≡ s) × AnswersUp (MakesBelow children is_with Makes k) c q) →
-        FromOrder children is_with KeepsValue up (RewritesBelow children is_with KeepsValue up k) Continue (record { value = n; order = Continue; changed = false }) s r t →
-        (t ≡ s) × AnswersUp (MakesBelow children is_with Makes (suc k)) n r
-    over_children below (p, v, (m, turns, rebuilt), after) =
-        let turned = in_turn (MakesBelow children is_with Makes k) (MakesOver children is_with Makes n) (RewritesBelow children is_with KeepsValue up k) s below (children n) none_yet refl m v turns in
-        finished m p v turned.0 turned.1 rebuilt after
+contains-behind : {A : Type 0} (xs ys : List A) (x : A) → Contains (xs ++ x ∷ ys) x
+contains-behind [] ys x = (0, omega arith, refl)
+contains-behind (y ∷ xs) ys x = let found : Contains (xs ++ x ∷ ys) x = contains-behind xs ys x in (suc found.0, let within : found.0 < length (xs ++ x ∷ ys) = found.1 in omega (arith, within), found.2)
 
-  unmoved : (k : ℕ) (n : N) (r : Walk (Transformed N) E) (t : S) → RewritesBelow children is_with KeepsValue up k s n r t → (t ≡ s) × AnswersUp (MakesBelow children is_with Makes k) n r
-  unmoved zero n r t w = absurd w
-  unmoved (suc k) n r t (q, u, (is, stays), rest) =
-      let Child : RewriteStep S N E = RewritesBelow children is_with KeepsValue up k in
-      let kept : Transformed N = record { value = n; order = Continue; changed = false } in
-      let goes : FromOrder children is_with KeepsValue up Child Continue kept u r t = subst (λ p. WithValue (λ d. FromOrder children is_with KeepsValue up Child d.order d u r t) p u r t) is rest in
-      over_children k n r t (unmoved k) (subst (λ v. FromOrder children is_with KeepsValue up Child Continue kept v r t) stays goes)
+module _ {N E : Type 0} (children : N → List N) (is_with : N → List N → N → Type 0) (Step : N → Result N E → Type 0) where
+  -- what is made below a number is made below each larger number
+  MakesBelow-more : (j k : ℕ) → j ≤ k → (n : N) (r : Result N E) → MakesBelow children is_with Step j n r → MakesBelow children is_with Step k n r
+  MakesBelow-more zero k le n r w = absurd w
+  MakesBelow-more (suc j) zero le n r w = absurd (omega arith)
+  MakesBelow-more (suc j) (suc k) le n r w =
+      MakesInTurn-each (MakesBelow children is_with Step j) (MakesBelow children is_with Step k) (MakesBelow-more j k (omega (arith, le))) (MakesOver children is_with Step n) (children n) [] r w
 
-  -- where such a rewrite ends with a value, that is what the step makes of the tree
-  pub rewritten : (height : N → ℕ) (n : N) (r : Walk (Transformed N) E) (t : S) → Rewrites children is_with KeepsValue up height s n r t →
-      AnswersUp (MakesUp children is_with Makes height) n r
-  rewritten height n r t w = (unmoved (suc (height n)) n r t w).1
+  module _ (height : N → ℕ) (lower : (n c : N) → Contains (children n) c → height c < height n) where
+    -- children from a place on, where these are made: what the rest gives is made of the tree
+    abbrev LeftMade : N → List N → List N → List (Option N) → Option E → Type 0
+    LeftMade n done rest made (Some e) = MakesUp children is_with Step height n (Err e)
+    LeftMade n done rest made None = (length made ≡ length done)
+        × ((r : Result N E) → MakesInTurn (MakesBelow children is_with Step (height n)) (MakesOver children is_with Step n) (in_places done made) rest r → MakesUp children is_with Step height n r)
 
--- the rewriter that takes a step on the way up
-module _ {S N E : Type 0} (children : N → List N) (is_with : N → List N → N → Type 0) (Makes : S → N → Result N E → Type 0) (height : N → ℕ) (s : S) (n : N) (t : S) where
-  -- the value that it ends with is what the step makes
-  pub ends-made : (d : Transformed N) → Rewrites children is_with KeepsValue (UnmovedUp Makes) height s n (Ok d) t → MakesUp children is_with (Makes s) height n (Ok d.value)
-  ends-made d w = (rewritten children is_with (UnmovedUp Makes) (Makes s) s (λ m r u h. h) height n (Ok d) t w).0
+    module _ (n : N) (done : List N) (c : N) (rest : List N) (at : done ++ c ∷ rest ≡ children n) (made : List (Option N)) (m : Option N) where
+      below : (r : Result N E) → MakesUp children is_with Step height c r → MakesBelow children is_with Step (height n) c r
+      below r w = MakesBelow-more (suc (height c)) (height n) (lower n c (subst (λ cs. Contains cs c) at (contains-behind done rest c))) c r w
 
-  -- so is its error
-  pub errs-made : (e : WalkError E) (r : Walk N E) → r ≡ Err e → UnlessNoMemory {T = Transformed N} (Err e) (Rewrites children is_with KeepsValue (UnmovedUp Makes) height s n (Err e) t) →
-      OfAnswer (MakesUp children is_with (Makes s) height n) r
-  errs-made NoMemory r is w = subst (OfAnswer (MakesUp children is_with (Makes s) height n)) (sym is) tt
-  errs-made (Visit e) r is w =
-      subst (OfAnswer (MakesUp children is_with (Makes s) height n)) (sym is) (rewritten children is_with (UnmovedUp Makes) (Makes s) s (λ m r u h. h) height n (Err (Visit e)) t w)
+      next_left : (before after : Option E) → LeftMade n done (c ∷ rest) made before → Makes children is_with Step height before c m after → LeftMade n (done ++ c ∷ []) rest (made ++ m ∷ []) after
+      next_left (Some e) after left is = subst (LeftMade n (done ++ c ∷ []) rest (made ++ m ∷ [])) (sym is) left
+      next_left None (Some e) (many, left) is = left (Err e) (Err e, below (Err e) is, refl)
+      next_left None None (many, left) is = (
+        length-append made (m ∷ []) ∙ ap (λ k. k + 1) many ∙ sym (length-append done (c ∷ [])),
+        λ r w. left r (
+          Ok (unwrap_or m c),
+          below (Ok (unwrap_or m c)) is,
+          subst (λ ds. MakesInTurn (MakesBelow children is_with Step (height n)) (MakesOver children is_with Step n) ds rest r) (in_places-more done made c m many) w,
+        ),
+      )
+
+    all_left : (n : N) (done : List N) (made : List (Option N)) (after : Option E) → done ≡ children n → LeftMade n done [] made after → GathersMade children is_with Step height n made after
+    all_left n done made (Some e) is left = left
+    all_left n done made None is (many, left) = (many ∙ ap length is, λ r w. left r (subst (λ ds. MakesOver children is_with Step n (in_places ds made) r) (sym is) w))
+
+module _ {S N E : Type 0} (children : N → List N) (is_with : N → List N → N → Type 0) (makes : S → N → Result N E → Type 0) (height : N → ℕ)
+    (lower : (n c : N) → Contains (children n) c → height c < height n) where
+  -- before its children, where no refusal is kept
+  pub made-turns : (s : UpSteps S E) (n : N) → s.refused ≡ None →
+      MayTurn (λ u m. Unit {0}) (MakesTree children is_with makes height) (GathersTree children is_with makes height s n) (children n) [] s
+  made-turns s n none =
+      let Left : List N → List N → List (Option N) → Option E → Type 0 = LeftMade children is_with (makes s.step.now) height lower n in
+      turns (λ u m. Unit {0}) (MakesTree children is_with makes height) (GathersTree children is_with makes height s n)
+      (λ done rest made u. (u.step ≡ s.step) × (done ++ rest ≡ children n) × Left done rest made u.refused)
+      (λ done c rest made u (same, at, left). (
+        tt,
+        λ m t (stays, is). (
+          stays ∙ same,
+          append_assoc done (c ∷ []) rest ∙ at,
+          next_left children is_with (makes s.step.now) height lower n done c rest at made m u.refused t.refused left
+              (subst (λ p. Makes children is_with (makes p.now) height u.refused c m t.refused) same is),
+        ),
+      ))
+      (λ done made u (same, at, left). (
+        same,
+        subst (λ before. Gathers children is_with (makes s.step.now) height before n made u.refused) (sym none)
+            (all_left children is_with (makes s.step.now) height lower n done made u.refused (sym (append-nil done) ∙ at) left),
+      ))
+      (children n) [] [] s (refl, refl, subst (Left [] (children n) []) (sym none) (refl, λ r w. w))

@@ -5,7 +5,7 @@ pub mod Paths
 pub mod Rewrites
 pub mod RewriteFrames
 pub mod UpSteps
-pub mod UpAnswers
+pub mod UpFolds
 pub mod Folds
 pub mod FoldFrames
 pub mod FoldTurns

@@ -5,7 +5,7 @@ ghost use Rattle.vx_traversal.specs.Rewrites.{CalledWith, KeepsHeight, KeepsValu
 ghost use Rattle.vx_traversal.specs.UpSteps.{MakesUp, OfAnswer};
 ghost use Rattle.vx_traversal.specs.Visits.{Visits};
 
-use crate::errors::Walk;
+use crate::errors::{Walk, WalkError};
 use crate::fold::{FoldUp, NodeFolder, NodeFolderContext};
 use crate::fold_steps::{FoldSteps, fold_tree};
 use crate::folding::{Alone, InContext, fold_node};
@@ -14,7 +14,7 @@ use crate::order::TraversalOrder;
 use crate::rewriter::NodeRewriter;
 use crate::rewriting::{ByClosureDown, ByClosureUp, ByRewriter, rewrite_node};
 use crate::transform::Transformed;
-use crate::up_step::{ByUpStep, UpStep, UpSteps};
+use crate::up_step::{UpStep, UpSteps};
 use crate::visitor::NodeVisitor;
 use crate::walking::{ByVisitor, walk_node};
 use std::alloc::Global;
@@ -98,9 +98,15 @@ pub trait NodeExt: Node {
     ) -> Walk<Self, S::Error>
         ensures { OfAnswer (MakesUp Self.children Self.is_with (S.makes step.now) Self.height self) result }
     {
-        let mut steps = UpSteps { alloc, step };
-        let made = rewrite_node::<ByUpStep, Self, UpSteps<'_, S>>(self, alloc, &mut steps)?;
-        Ok(made.value)
+        let mut steps = UpSteps {
+            step,
+            refused: None,
+        };
+        let made = fold_tree(&self, alloc, &mut steps)?;
+        match steps.refused {
+            Some(refused) => Err(WalkError::Visit(refused)),
+            None => Ok(made.unwrap_or(self)),
+        }
     }
 
     /// Folds the tree under a context: down on the node first. Skip gives the node's result, with no

@@ -1,10 +1,11 @@
 //! Folds that say what they do to a whole tree, and the one loop of them.
-ghost use Rattle.std.specs.Prelude.{◌≡◌, ◌<◌, ◌≤◌, ◌++◌, List, [], ◌∷◌, IfOk, OnOk, length};
+ghost use Rattle.std.specs.Prelude.{◌≡◌, ◌<◌, ◌≤◌, List, IfOk, OnOk, length};
 ghost use Rattle.vx_traversal.specs.FoldTurns.{StepsDown};
 ghost use Rattle.vx_traversal.specs.FoldPending.{HasOneResultMore, NextPending, Pending};
 
 use crate::nodes::Node;
 use std::alloc::Global;
+use std::mem;
 use vx_dtype::{Mem, NoMemory};
 
 /// What is done at each node of a fold, and what the fold does to a whole tree where it does so to
@@ -40,20 +41,12 @@ pub trait FoldSteps {
         ensures { (start : Self) → gathers start node.now results.items self.old → IfOk result (λ given. folds start node.now given self.new) };
 }
 
-// A node whose children are folded in turn, and their results so far.
+// A node whose children are folded in turn, how many they are, and their results so far.
 #[derive(Drop)]
 pub(crate) struct TurnFrame<'a, N, R> {
     node: &'a N,
+    count: usize,
     results: Vec<R>,
-}
-
-// How a fold goes on after a step.
-#[derive(Drop)]
-pub(crate) enum NextTurn<'a, N, R> {
-    // In this frame.
-    Goes(TurnFrame<'a, N, R>),
-    // Not at all: the whole tree has this result.
-    Ends(R),
 }
 
 // Folds a tree. The nodes whose children are folded stand in a vector, so that a tree takes the stack
@@ -73,99 +66,97 @@ pub(crate) fn fold_tree<F: FoldSteps>(
     let mut outer = Vec::new(alloc);
     let mut frame = TurnFrame {
         node: tree,
+        count: tree.children_count(),
         results: Vec::new(alloc),
     };
     for _ in 0..u64::MAX {
-        match turn(frame, alloc, &mut outer, steps)? {
-            NextTurn::Ends(given) => return Ok(given),
-            NextTurn::Goes(next) => frame = next,
+        if let Some(given) = turn(&mut frame, alloc, &mut outer, steps)? {
+            return Ok(given);
         }
     }
     Err(NoMemory)
 }
 
-// One step of a fold: down on the frame's next child, or up on its node.
+// One step of a fold: down on the frame's next child, or up on its node. Gives the result of the whole
+// tree where the fold has come to its end.
 fn turn<'a, F: FoldSteps>(
-    frame: TurnFrame<'a, F::NodeTy, F::Result>,
+    frame: &mut TurnFrame<'a, F::NodeTy, F::Result>,
     alloc: Global,
     outer: &mut Vec<TurnFrame<'a, F::NodeTy, F::Result>>,
     steps: &mut F,
-) -> Mem<NextTurn<'a, F::NodeTy, F::Result>>
-    requires { (start : F) × (tree : F.NodeTy) × Pending F.NodeTy.children F.ready F.folds F.gathers (F.folds start tree) outer.old.items frame steps.old }
-    ensures { (start : F) (tree : F.NodeTy) → Pending F.NodeTy.children F.ready F.folds F.gathers (F.folds start tree) outer.old.items frame.entry steps.old →
-        IfOk result (λ next. NextPending F.NodeTy.children F.ready F.folds F.gathers (F.folds start tree) outer.new.items next steps.new) }
+) -> Mem<Option<F::Result>>
+    requires { (start : F) × (tree : F.NodeTy) × Pending F.NodeTy.children F.ready F.folds F.gathers (F.folds start tree) outer.old.items frame.old steps.old }
+    ensures { (start : F) (tree : F.NodeTy) → Pending F.NodeTy.children F.ready F.folds F.gathers (F.folds start tree) outer.old.items frame.old steps.old →
+        IfOk result (λ end. NextPending F.NodeTy.children F.ready F.folds F.gathers (F.folds start tree) outer.new.items frame.new end steps.new) }
 {
-    if frame.results.len() < frame.node.children_count() {
-        return turn_down(frame, alloc, outer, steps);
+    if frame.results.len() < frame.count {
+        turn_down(frame, alloc, outer, steps)?;
+        return Ok(None);
     }
     turn_up(frame, alloc, outer, steps)
 }
 
 // Down on the frame's next child, and up on it at once where it has no children.
 fn turn_down<'a, F: FoldSteps>(
-    frame: TurnFrame<'a, F::NodeTy, F::Result>,
+    frame: &mut TurnFrame<'a, F::NodeTy, F::Result>,
     alloc: Global,
     outer: &mut Vec<TurnFrame<'a, F::NodeTy, F::Result>>,
     steps: &mut F,
-) -> Mem<NextTurn<'a, F::NodeTy, F::Result>>
-    requires within { length frame.results.items < length (F.NodeTy.children frame.node.now) }
-    requires pending { (start : F) × (tree : F.NodeTy) × Pending F.NodeTy.children F.ready F.folds F.gathers (F.folds start tree) outer.old.items frame steps.old }
-    ensures { (start : F) (tree : F.NodeTy) → Pending F.NodeTy.children F.ready F.folds F.gathers (F.folds start tree) outer.old.items frame.entry steps.old →
-        IfOk result (λ next. NextPending F.NodeTy.children F.ready F.folds F.gathers (F.folds start tree) outer.new.items next steps.new) }
+) -> Mem<()>
+    requires within { length frame.old.results.items < length (F.NodeTy.children frame.old.node.now) }
+    requires pending { (start : F) × (tree : F.NodeTy) × Pending F.NodeTy.children F.ready F.folds F.gathers (F.folds start tree) outer.old.items frame.old steps.old }
+    ensures { (start : F) (tree : F.NodeTy) → Pending F.NodeTy.children F.ready F.folds F.gathers (F.folds start tree) outer.old.items frame.old steps.old →
+        OnOk result (Pending F.NodeTy.children F.ready F.folds F.gathers (F.folds start tree) outer.new.items frame.new steps.new) }
 {
-    let node = frame.node;
-    let child = node.node_child(frame.results.len());
-    match steps.down(alloc, child)? {
-        Some(given) => Ok(NextTurn::Goes(with_result(frame, given)?)),
-        None => {
-            if child.children_count() == 0 {
-                let given = steps.up(alloc, child, Vec::new(alloc))?;
-                return Ok(NextTurn::Goes(with_result(frame, given)?));
-            }
-            put_frame(outer, frame)?;
-            Ok(NextTurn::Goes(TurnFrame {
-                node: child,
-                results: Vec::new(alloc),
-            }))
+    let child = frame.node.node_child(frame.results.len());
+    if let Some(given) = steps.down(alloc, child)? {
+        add_result(frame, given)?;
+        return Ok(());
+    }
+    let count = child.children_count();
+    if count == 0 {
+        let given = steps.up(alloc, child, Vec::new(alloc))?;
+        add_result(frame, given)?;
+        return Ok(());
+    }
+    let below = TurnFrame {
+        node: child,
+        count,
+        results: Vec::new(alloc),
+    };
+    let above = mem::replace(frame, below);
+    outer.push(above)?;
+    Ok(())
+}
+
+// Up on a frame's node whose children all have results, and back to the frame above, if there is one.
+fn turn_up<'a, F: FoldSteps>(
+    frame: &mut TurnFrame<'a, F::NodeTy, F::Result>,
+    alloc: Global,
+    outer: &mut Vec<TurnFrame<'a, F::NodeTy, F::Result>>,
+    steps: &mut F,
+) -> Mem<Option<F::Result>>
+    requires past { length (F.NodeTy.children frame.old.node.now) ≤ length frame.old.results.items }
+    requires pending { (start : F) × (tree : F.NodeTy) × Pending F.NodeTy.children F.ready F.folds F.gathers (F.folds start tree) outer.old.items frame.old steps.old }
+    ensures { (start : F) (tree : F.NodeTy) → Pending F.NodeTy.children F.ready F.folds F.gathers (F.folds start tree) outer.old.items frame.old steps.old →
+        IfOk result (λ end. NextPending F.NodeTy.children F.ready F.folds F.gathers (F.folds start tree) outer.new.items frame.new end steps.new) }
+{
+    let results = mem::replace(&mut frame.results, Vec::new(alloc));
+    let given = steps.up(alloc, frame.node, results)?;
+    match outer.pop() {
+        None => Ok(Some(given)),
+        Some(above) => {
+            *frame = above;
+            add_result(frame, given)?;
+            Ok(None)
         }
     }
 }
 
-// Puts a frame behind the outer ones.
-fn put_frame<'a, N, R: Drop>(
-    outer: &mut Vec<TurnFrame<'a, N, R>>,
-    frame: TurnFrame<'a, N, R>,
-) -> Mem<()>
-    ensures { OnOk result (outer.new.items ≡ outer.old.items ++ frame.entry ∷ []) }
+// One result more in the frame.
+fn add_result<N, R: Drop>(frame: &mut TurnFrame<'_, N, R>, given: R) -> Mem<()>
+    ensures { OnOk result (HasOneResultMore frame.old given frame.new) }
 {
-    outer.push(frame)?;
+    frame.results.push(given)?;
     Ok(())
-}
-
-// Up on a frame's node whose children all have results.
-fn turn_up<'a, F: FoldSteps>(
-    frame: TurnFrame<'a, F::NodeTy, F::Result>,
-    alloc: Global,
-    outer: &mut Vec<TurnFrame<'a, F::NodeTy, F::Result>>,
-    steps: &mut F,
-) -> Mem<NextTurn<'a, F::NodeTy, F::Result>>
-    requires past { length (F.NodeTy.children frame.node.now) ≤ length frame.results.items }
-    requires pending { (start : F) × (tree : F.NodeTy) × Pending F.NodeTy.children F.ready F.folds F.gathers (F.folds start tree) outer.old.items frame steps.old }
-    ensures { (start : F) (tree : F.NodeTy) → Pending F.NodeTy.children F.ready F.folds F.gathers (F.folds start tree) outer.old.items frame.entry steps.old →
-        IfOk result (λ next. NextPending F.NodeTy.children F.ready F.folds F.gathers (F.folds start tree) outer.new.items next steps.new) }
-{
-    let given = steps.up(alloc, frame.node, frame.results)?;
-    match outer.pop() {
-        None => Ok(NextTurn::Ends(given)),
-        Some(above) => Ok(NextTurn::Goes(with_result(above, given)?)),
-    }
-}
-
-// The frame with one more result.
-fn with_result<N, R: Drop>(frame: TurnFrame<'_, N, R>, given: R) -> Mem<TurnFrame<'_, N, R>>
-    ensures { IfOk result (HasOneResultMore frame.entry given) }
-{
-    let TurnFrame { node, mut results } = frame;
-    results.push(given)?;
-    Ok(TurnFrame { node, results })
 }
