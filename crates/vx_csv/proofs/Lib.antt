@@ -1,7 +1,8 @@
 pub mod Steps
 pub mod CellLemmas
 pub mod Texts
-pub mod QuoteLemmas
+pub mod ReadRecords
+pub mod GivenLemmas
 pub mod RecordCells
 pub mod FormLemmas
 pub mod Typed

@@ -3,7 +3,7 @@ use Rattle.std.specs.Prelude.{◌≡◌, List, map, Result, Ok, Err}
 use Rattle.std.specs.declared.vec.Vec.{Vec}
 use Rattle.std.specs.declared.alloc.Global.{Global}
 use Rattle.csv.specs.Records.{Row, fields_of}
-use Rattle.vx_dtype.specs.Types.{Bytes}
+use Rattle.vx_dtype.specs.Types.{Bytes, Ty}
 use Rattle.vx_dtype.specs.TypeViews.{type_view}
 use Rattle.vx_tables.specs.Blocks.{block_view}
 use Rattle.vx_laws_csv.specs.Refusals as told
@@ -13,6 +13,7 @@ use Rattle.vx_csv.specs.declared.errors.CsvRefusal.TheVariants as refusal
 use Rattle.vx_csv.specs.declared.errors.CsvError.{CsvError}
 use Rattle.vx_csv.specs.declared.errors.CsvError.TheVariants.{NoMemory, Refused}
 use Rattle.vx_csv.specs.declared.tables.CsvTable.{CsvTable}
+use Rattle.vx_csv.specs.declared.given.GivenColumns.{GivenColumns}
 
 -- a refusal as data
 abbrev pub refusal_view : CsvRefusal → told.Refusal
@@ -43,3 +44,7 @@ cells_view records = map fields_of records.items
 -- a table as data
 abbrev pub table_view : CsvTable → tables.CsvTable
 table_view t = record { zones = t.zones; blocks = map block_view t.blocks.items }
+
+-- the names and the types of columns while they are read
+abbrev pub given_view : GivenColumns → List Bytes × List Ty
+given_view columns = (columns.names.items, map type_view columns.dtypes.items)

@@ -1,4 +1,4 @@
-//! A text of CSV as a table: its records by the kit's reader, the types of its columns, found from the cells or given, and its rows in blocks of columns.
+//! A text of CSV as a table: its records by the grammar of the kit's reader, byte by byte, the types of its columns, found from the cells or given, and its rows in blocks of columns.
 #![tactic(auto)]
 
 mod cells;
@@ -6,11 +6,14 @@ mod columns;
 mod errors;
 mod forms;
 mod found;
+mod given;
 mod numbers;
-mod quotes;
+mod places;
+mod reading;
 mod records;
 mod tables;
 mod values;
 
 pub use errors::{CsvError, CsvRefusal};
+pub use given::columns_of_text;
 pub use tables::{CsvTable, table_of_csv, typed_table_of_csv};

@@ -1,50 +1,45 @@
-// The records of a text, by the kit's reader.
-ghost use Rattle.std.specs.Prelude.{◌≡◌, map, IfOk};
-ghost use Rattle.csv.specs.Reading.{AreRecords, default_config, records, strip_bom};
-ghost use Rattle.csv.specs.Records.{fields_of};
-ghost use Rattle.csv.specs.declared.parser.State.TheVariants as st;
+// The records of a text.
+ghost use Rattle.std.specs.Prelude.{◌≡◌};
+ghost use Rattle.csv.specs.Reading.{is_bom, strip_bom};
 ghost use Rattle.vx_laws_csv.specs.Sheets as spec;
 ghost use Rattle.vx_csv.specs.Views.{AnswersBy, cells_view};
 
 use crate::errors::{CsvError, CsvRefusal};
-use crate::quotes::{behind_mark, leaves_quote_open};
-use csv::{ByteRecord, Error, ReaderBuilder};
+use crate::places::is_quoted;
+use crate::reading::read_whole;
+use csv::ByteRecord;
 use std::alloc::Global;
-use vx_dtype::{Mem, NoMemory};
 
-/// The records of a text, one after the other, of any lengths.
-fn read_all(alloc: Global, text: &[u8]) -> Result<Vec<ByteRecord>, Error>
-    ensures { IfOk result (λ v. AreRecords default_config st.StartRecord (strip_bom text.now) (map fields_of v.items)) }
+/// Whether three bytes are the mark of the byte order of UTF-8.
+fn is_mark(a: u8, b: u8, c: u8) -> bool
+    ensures { result ≡ is_bom a b c }
 {
-    let rdr = ReaderBuilder::new()
-        .has_headers(false)
-        .flexible(true)
-        .from_reader(alloc, text);
-    let mut rows = Vec::new(alloc);
-    for row in rdr.into_byte_records() {
-        if rows.push(row?).is_err() {
-            return Err(Error::out_of_memory());
-        }
-    }
-    Ok(rows)
+    a == 0xEF && b == 0xBB && c == 0xBF
 }
 
-/// The records of a text. A reader of bytes in memory that reads records of any lengths, whatever their bytes, fails for want of memory alone.
-fn all_records(alloc: Global, text: &[u8]) -> Mem<Vec<ByteRecord>>
-    ensures { IfOk result (λ v. cells_view v ≡ records default_config (strip_bom text.now)) }
+/// A text behind the mark of its byte order, where it has one.
+#[tactic(auto, unfolding(csv::specs::Reading::strip_bom))]
+fn behind_mark(text: &[u8]) -> &[u8]
+    ensures { result.now ≡ strip_bom text.now }
 {
-    match read_all(alloc, text) {
-        Ok(rows) => Ok(rows),
-        Err(_) => Err(NoMemory),
+    match text {
+        [] => text,
+        [_] => text,
+        [_, _] => text,
+        [a, b, c, rest @ ..] => { if is_mark(*a, *b, *c) { rest } else { text } }
     }
 }
 
-/// The records of a text; it is refused where it leaves a quote open.
+/// The records of a text, of any lengths; it is refused where it leaves a quote open.
 pub(crate) fn records_of(alloc: Global, text: &[u8]) -> Result<Vec<ByteRecord>, CsvError>
     ensures { AnswersBy cells_view (spec.records_of text.now) result }
 {
-    if leaves_quote_open(behind_mark(text)) {
+    let reading = read_whole(alloc, behind_mark(text))?;
+    if is_quoted(reading.place) {
         return Err(CsvError::Refused(CsvRefusal::QuoteLeftOpen));
     }
-    Ok(all_records(alloc, text)?)
+    match reading.into_records() {
+        Ok(records) => Ok(records),
+        Err(error) => Err(CsvError::from(error)),
+    }
 }

@@ -3,6 +3,8 @@ pub mod FoundTypes
 pub mod Refusals
 pub mod Sheets
 pub mod CsvTables
+pub mod GivenColumns
 pub mod CsvLaws
 pub use Rattle.vx_tokens.specs.Tokens
 pub use Rattle.vx_tokens.specs.Numbers
+pub use Rattle.vx_text.specs.Grammar

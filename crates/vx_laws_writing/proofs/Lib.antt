@@ -1,3 +1,4 @@
 pub mod WordLemmas
+pub mod TextTables
 pub mod WrittenTables
 pub mod CutTables

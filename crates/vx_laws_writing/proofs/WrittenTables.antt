@@ -2,7 +2,7 @@
 use Rattle.std.proofs.Common.{◌≡◌, refl, ap, sym, ◌∙◌, subst, ℕ, Bool, true, false, cond, not, ◌&&◌, List, [], ◌∷◌, length, Option, Some, None}
 use Rattle.std.specs.List.{list_all}
 use Rattle.vx_dtype.specs.declared.Nullability.TheVariants.{NonNullable}
-use Rattle.vx_dtype.specs.Types.{Ty, struct_ty}
+use Rattle.vx_dtype.specs.Types.{Bytes, Ty, struct_ty}
 use Rattle.vx_dtype.specs.TypeRules.{field_names, no_name_twice}
 use Rattle.vx_dtype.specs.Fits.{val_fits}
 use Rattle.vx_dtype.specs.Values.{Val}
@@ -22,12 +22,14 @@ use Rattle.vx_laws_file.specs.HeldTables.{held_table}
 use Rattle.vx_laws_file.specs.Opening.{IsOpened}
 use Rattle.vx_laws_file.proofs.WrittenLemmas.{written_is_opened, written_is_held}
 use Rattle.vx_request.specs.Tables.{ToldTable}
+use Rattle.vx_laws_csv.specs.CsvTables.{table_with}
 use Rattle.vx_laws_shell.specs.ToldTables.{table_told}
-use Rattle.vx_laws_shell.proofs.ToldTables.{told_tables_are_tables}
 use Rattle.vx_cutting.specs.CutLaws.{IsTable, all_rows}
 use Rattle.vx_cutting.proofs.CutLaws.{cut_tables_are_tables, cutting_keeps_rows}
-use Rattle.vx_laws_writing.specs.Writing.{blocks_kept, zones_told, zones_kept}
-use Rattle.vx_laws_writing.specs.WriteLaws.{Cuts, WhatIsWrittenIsTheTable}
+use Rattle.vx_laws_writing.specs.WriteWords.{InputForm, of_json, of_csv}
+use Rattle.vx_laws_writing.specs.Writing.{IsFileOf, blocks_kept, cut_by, rows_cut, told_csv, zones_told, zones_kept}
+use Rattle.vx_laws_writing.specs.WriteLaws.{Cuts, IsWrittenWell, WhatIsWrittenIsTheTable, WhatIsWrittenIsTheText}
+use Rattle.vx_laws_writing.proofs.TextTables.{tables_told_are_tables, text_rows, text_tables_are_tables}
 
 -- blocks that aren't refused are a table
 passed : {X : Type 0} (a : Bool) (x : X) (o : Option X) → cond (not a) (Some x) o ≡ None → (a ≡ true) × (o ≡ None)
@@ -73,13 +75,17 @@ distinct : (z : Zones) → broken_rule z ≡ None → no_name_twice (row_type z.
 unfolding broken_rule
 distinct z h = (passed (no_name_twice (row_type z.columns)) _ _ h).0
 
-pub what_is_written_is_the_table : WhatIsWrittenIsTheTable
-what_is_written_is_the_table input told rows bytes tells cuts is =
+columns_kept : (rows : Option ℕ) (told : ToldTable) → (zones_kept rows told).columns ≡ told.zones.columns
+columns_kept None told = refl
+columns_kept (Some n) told = refl
+
+-- what is written of a table, whatever told it
+pub written_well : (told : ToldTable) (rows : Option ℕ) (bytes : Bytes) → table_refusal told.zones told.blocks ≡ None → Cuts rows → IsFileOf rows told bytes → IsWrittenWell told bytes
+written_well told rows bytes whole cuts is =
     let zones = zones_told rows told in
     let blocks = blocks_kept rows told in
     let table = table_of_blocks zones blocks in
     let kept = zones_kept rows told in
-    let whole = told_tables_are_tables input told tells in
     let own = kept_is_table rows told cuts whole in
     let content = content_of kept blocks in
     let held : held_table content ≡ table = ap (table_of_blocks kept) (written_is_held kept blocks is.file) ∙ same_table zones blocks own.lengths in
@@ -88,6 +94,28 @@ what_is_written_is_the_table input told rows bytes tells cuts is =
     record {
       content = content;
       opened = subst (λ bs. IsOpened bs content) (sym is.bytes_are) (written_is_opened kept blocks is.file);
+      columns = columns_kept rows told;
       rows = ap (λ (t : Table). all_rows t.blocks) held ∙ rows_kept rows told cuts whole;
       honest = subst (IsHonest kept) (sym held) (honest table lawful);
+    }
+
+-- what is asked of a form cuts into rows where the words do
+pub cut_cuts : (form : InputForm) (rows : Option ℕ) → Cuts rows → Cuts (cut_by form rows)
+cut_cuts of_json rows h = h
+cut_cuts (of_csv null columns) rows h = tt
+
+pub what_is_written_is_the_table : WhatIsWrittenIsTheTable
+what_is_written_is_the_table input ask told bytes tells cuts is =
+    written_well told (rows_cut ask) bytes (tables_told_are_tables ask.form ask.rows input told tells) (cut_cuts ask.form ask.rows cuts) is
+
+-- what is written of a text of CSV
+pub what_is_written_is_the_text : WhatIsWrittenIsTheText
+what_is_written_is_the_text null size columns rows bytes some is =
+    let told = told_csv (table_with null size columns rows) in
+    let well = written_well told None bytes (text_tables_are_tables null size columns rows) tt is in
+    record {
+      content = well.content;
+      opened = well.opened;
+      columns_are = well.columns;
+      rows_are = well.rows ∙ text_rows null size columns rows some;
     }

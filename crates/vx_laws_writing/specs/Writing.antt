@@ -1,6 +1,6 @@
 -- What a run of the words of `write` is, over the standard input and the files that it can keep.
-use Rattle.std.specs.Prelude.{◌≡◌, ◌⊎◌, ℕ, ◌≤◌, ◌+◌, false, List, Option, Some, None, Ok, Err}
-use Rattle.vx_dtype.specs.Types.{Bytes}
+use Rattle.std.specs.Prelude.{◌≡◌, ◌⊎◌, ℕ, ◌≤◌, ◌+◌, nat_le, false, cond, List, length, Option, Some, None, unwrap_or, Result, Ok, Err}
+use Rattle.vx_dtype.specs.Types.{Bytes, Fields}
 use Rattle.vx_column.specs.Columns.{Column}
 use Rattle.vx_semantics.specs.Tables.{Zones}
 use Rattle.vx_io.specs.Counts.{one_more}
@@ -10,13 +10,59 @@ use Rattle.vx_request.specs.Requests.{most_bytes}
 use Rattle.vx_request.specs.Tables.{ToldTable, told_table}
 use Rattle.vx_request.specs.declared.errors.RequestError.{RequestError}
 use Rattle.vx_laws_stats.specs.BuiltStatistics.{built_zones}
-use Rattle.vx_laws_file.specs.FileForms.{file_bytes}
+use Rattle.vx_laws_csv.specs.Refusals.{Refusal}
+use Rattle.vx_laws_csv.specs.CsvTables.{CsvTable, found_table, typed_table}
+use Rattle.vx_laws_file.specs.FileForms.{file_bytes, most_rows}
 use Rattle.vx_laws_file.specs.Lengths.{HasFile, IsShortTable}
 use Rattle.vx_cutting.specs.Cutting.{zones_cut, blocks_anew}
 use Rattle.vx_files.specs.Kept.{Kept, MayStand}
 use Rattle.vx_files.specs.Keeping.{KeepsNothing, IsKept}
 use Rattle.vx_laws_shell.specs.Running.{End, IsTaken}
-use Rattle.vx_laws_writing.specs.WriteWords.{WriteAsk, write_asked_of}
+use Rattle.vx_laws_writing.specs.WriteWords.{InputForm, of_json, of_csv, WriteAsk, write_asked_of}
+
+-- why an input tells no table: it is no table as JSON; it is longer than an input may be; or no text of CSV of a table
+pub data InputFault : Type 0 where
+  no_json : RequestError → InputFault
+  long_text : InputFault
+  no_csv : Refusal → InputFault
+
+-- how many rows a block of a text of CSV has, but the last, where none are named
+abbrev pub rows_unnamed : ℕ
+rows_unnamed = 65536
+
+-- the table of a text of CSV, of at most as many rows as a file has
+abbrev pub csv_table : Bytes → Option Fields → ℕ → Bytes → Result CsvTable Refusal
+csv_table null None size text = found_table null size most_rows text
+csv_table null (Some columns) size text = typed_table null size most_rows columns text
+
+-- the same as a told table, and why there is none
+abbrev pub told_csv : CsvTable → ToldTable
+told_csv table = record { zones = table.zones; blocks = table.blocks }
+
+abbrev pub csv_told : Result CsvTable Refusal → Result ToldTable InputFault
+csv_told (Ok table) = Ok (told_csv table)
+csv_told (Err refusal) = Err (no_csv refusal)
+
+abbrev pub json_told : Result ToldTable RequestError → Result ToldTable InputFault
+json_told (Ok told) = Ok told
+json_told (Err error) = Err (no_json error)
+
+-- the table that an input tells by its form. That of a text of CSV is in blocks of the rows that are named, and that of JSON in its own
+abbrev pub table_by : InputForm → Option ℕ → Bytes → Result ToldTable InputFault
+table_by of_json rows input = json_told (told_table input)
+table_by (of_csv null columns) rows input =
+    cond (nat_le (length input) most_bytes) (csv_told (csv_table null columns (unwrap_or rows rows_unnamed) input)) (Err long_text)
+
+abbrev pub table_asked : WriteAsk → Bytes → Result ToldTable InputFault
+table_asked ask input = table_by ask.form ask.rows input
+
+-- the rows of the blocks that the table is cut anew into: those that are named, where it isn't in such blocks
+abbrev pub cut_by : InputForm → Option ℕ → Option ℕ
+cut_by of_json rows = rows
+cut_by (of_csv null columns) rows = None
+
+abbrev pub rows_cut : WriteAsk → Option ℕ
+rows_cut ask = cut_by ask.form ask.rows
 
 -- the blocks of a told table that are kept: as they are, or cut anew; and their zones before statistics are built
 abbrev pub blocks_kept : Option ℕ → ToldTable → List (List Column)
@@ -45,7 +91,7 @@ HasNoFile rows told = ¬ (IsShortTable (zones_kept rows told) (blocks_kept rows 
 pub data WriteOutcome : Type 0 where
   misused : WriteOutcome
   unread : WriteOutcome
-  untold : RequestError → WriteOutcome
+  untold : InputFault → WriteOutcome
   too_long : WriteOutcome
   standing : WriteOutcome
   unkept : WriteOutcome
@@ -84,7 +130,7 @@ pub record TakesInput (words : List Bytes) (before after : End) (ask : WriteAsk)
 pub record TakesTold (words : List Bytes) (before after : End) (ask : WriteAsk) (told : ToldTable) : Type 0 where
   pub input : Bytes
   pub takes : TakesInput words before after ask input
-  pub tells : told_table input ≡ Ok told
+  pub tells : table_asked ask input ≡ Ok told
 
 -- what an outcome says of the words, the standard input and the files
 abbrev pub IsWriteOutcome : List Bytes → End → End → FilesEnd → FilesEnd → WriteOutcome → Type 0
@@ -93,9 +139,9 @@ IsWriteOutcome words before after files now unread =
     (ask : WriteAsk) × (write_asked_of words ≡ Some ask) × TookPart (most_bytes + 1) before.bytes after.bytes × (one_more before.faults ≤ after.faults)
     × AreUntouched files now
 IsWriteOutcome words before after files now (untold e) =
-    (ask : WriteAsk) × (input : Bytes) × TakesInput words before after ask input × (told_table input ≡ Err e) × AreUntouched files now
+    (ask : WriteAsk) × (input : Bytes) × TakesInput words before after ask input × (table_asked ask input ≡ Err e) × AreUntouched files now
 IsWriteOutcome words before after files now too_long =
-    (ask : WriteAsk) × (told : ToldTable) × TakesTold words before after ask told × HasNoFile ask.rows told × AreUntouched files now
+    (ask : WriteAsk) × (told : ToldTable) × TakesTold words before after ask told × HasNoFile (rows_cut ask) told × AreUntouched files now
 IsWriteOutcome words before after files now standing =
     (ask : WriteAsk) × (told : ToldTable) × TakesTold words before after ask told × (ask.replaces ≡ false) × MayStand (files.kept ask.path)
     × AreUntouched files now
@@ -103,7 +149,7 @@ IsWriteOutcome words before after files now unkept =
     (ask : WriteAsk) × (told : ToldTable) × TakesTold words before after ask told × KeepsNothing files.kept now.kept
     × (one_more files.faults ≤ now.faults)
 IsWriteOutcome words before after files now written =
-    (ask : WriteAsk) × (told : ToldTable) × (bytes : Bytes) × TakesTold words before after ask told × IsFileOf ask.rows told bytes
+    (ask : WriteAsk) × (told : ToldTable) × (bytes : Bytes) × TakesTold words before after ask told × IsFileOf (rows_cut ask) told bytes
     × IsKept ask.path bytes ask.replaces files.kept now.kept × (now.faults ≡ files.faults)
 
 -- a run that came to its end, with its exit status

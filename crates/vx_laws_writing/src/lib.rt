@@ -4,4 +4,6 @@
 
 mod laws;
 
-pub use laws::{blocks_cut_are_cut_anew, what_is_written_is_the_table};
+pub use laws::{
+    blocks_cut_are_cut_anew, what_is_written_is_the_table, what_is_written_is_the_text,
+};

@@ -1,10 +1,12 @@
 // The program as a call.
 ghost use Rattle.std.specs.Prelude.{◌≡◌, Option, map};
 ghost use Rattle.std.specs.String.{string_bytes};
-ghost use Rattle.vx_laws_shell.specs.Running.{end_by};
+ghost use Rattle.vx_laws_listing.specs.Listing.{IsListingRun};
+ghost use Rattle.vx_laws_shell.specs.Running.{IsShellRun, end_by};
 ghost use Rattle.vx_laws_writing.specs.Writing.{IsWriteRun, files_end};
 ghost use Rattle.vx_program.specs.Programs.{words_of};
-ghost use Rattle.vx_program.specs.declared.words.Words.TheVariants.{Requests as OfRequests, Writing as OfWriting};
+ghost use Rattle.vx_program.specs.declared.words.Words.TheVariants.{Listing as OfListing, Requests as OfRequests, Statements as OfStatements, Writing as OfWriting};
+ghost use Rattle.vx_shell.specs.KeptViews.{kept_by};
 ghost use Rattle.vx_query.specs.Running as requests;
 ghost use Rattle.vx_scan.specs.Stores.{StoreSeen};
 
@@ -12,12 +14,16 @@ use crate::words::{Words, words_of};
 use std::alloc::Global;
 use vx_files::Files;
 use vx_io::{Sink, Source};
+use vx_listing::blocks;
 use vx_query::run;
+use vx_shell::sql;
 use vx_writing::write;
 
 /// Does all that the program does, and answers its exit status. Words that begin with `write` keep a table of the standard input as a file, as
-/// [`vx_writing::write`] says, and tell what they refuse on standard error. All others are of a request, as [`vx_query::run`] says, and write their text to
-/// the output. What a form has no use for it leaves as it is.
+/// [`vx_writing::write`] says, and tell what they refuse on standard error. Words that begin with `sql` write the rows of a statement to the output, as
+/// [`vx_shell::sql`] says, and tell on standard error what they refuse or count. Words that begin with `blocks` write the columns and the blocks of a block
+/// file to the output, as [`vx_listing::blocks`] says, and tell on standard error what they refuse. All others are of a request, as [`vx_query::run`] says, and
+/// write their text to the output. What a form has no use for it leaves as it is.
 pub fn program<F: Files, I: Source, O: Sink, E: Sink>(
     alloc: Global,
     words: &[String],
@@ -28,6 +34,12 @@ pub fn program<F: Files, I: Source, O: Sink, E: Sink>(
 ) -> u8
     ensures writes { let source = end_by I.left I.faults in let end = files_end F.kept F.faults in words_of (map string_bytes words.now) ≡ OfWriting →
         IsWriteRun (map string_bytes words.now) (source input.old) (source input.new) (end files.old) (end files.new) result × (output.new ≡ output.old) }
+    ensures asks { let source = end_by I.left I.faults in let sink = end_by O.written O.faults in words_of (map string_bytes words.now) ≡ OfStatements →
+        IsShellRun (map string_bytes words.now) (kept_by (F.kept files.old)) (source input.old) (source input.new) (sink output.old) (sink output.new) result
+        × (files.new ≡ files.old) }
+    ensures lists { let out = end_by O.written O.faults in let told = end_by E.written E.faults in words_of (map string_bytes words.now) ≡ OfListing →
+        IsListingRun (map string_bytes words.now) (F.kept files.old) (out output.old) (out output.new) (told errors.old) (told errors.new) result
+        × (files.new ≡ files.old) × (input.new ≡ input.old) }
     ensures runs { let source = requests.end_by I.left I.faults in let sink = requests.end_by O.written O.faults in
         words_of (map string_bytes words.now) ≡ OfRequests → ((used : Option StoreSeen)
         × requests.IsRun (requests.form_of (map string_bytes words.now)) (source input.old) (source input.new) (sink output.old) (sink output.new) used result)
@@ -35,6 +47,8 @@ pub fn program<F: Files, I: Source, O: Sink, E: Sink>(
 {
     match words_of(words) {
         Words::Writing => write(alloc, words, files, input, errors),
+        Words::Statements => sql(alloc, words, files, input, output, errors),
+        Words::Listing => blocks(alloc, words, files, output, errors),
         Words::Requests => run(alloc, words, input, output, &mut None),
     }
 }

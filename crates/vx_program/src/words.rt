@@ -3,11 +3,13 @@ ghost use Rattle.std.specs.Prelude.{◌≡◌, map};
 ghost use Rattle.std.specs.String.{string_bytes};
 ghost use Rattle.vx_program.specs.Programs.{words_named, words_of};
 
-/// The forms of words: those of a request, and those that keep a table as a file.
+/// The forms of words: those of a request, those that keep a table as a file, those that ask a statement of SQL, and those that list the blocks of a file.
 #[derive(Debug, Drop)]
 pub(crate) enum Words {
     Requests,
     Writing,
+    Statements,
+    Listing,
 }
 
 /// Which forms words are of whose first is this one.
@@ -16,6 +18,8 @@ fn words_named(word: &str) -> Words
 {
     match word {
         "write" => Words::Writing,
+        "sql" => Words::Statements,
+        "blocks" => Words::Listing,
         _ => Words::Requests,
     }
 }

@@ -1,2 +1,3 @@
 mod NumberWords
+mod OptionWords
 mod RangeWords

@@ -7,4 +7,4 @@ mod writes;
 
 pub use asked::{Asked, BlockRange, asked_of};
 pub use numbers::number_of_word;
-pub use writes::{WriteAsk, write_asked_of};
+pub use writes::{InputForm, WriteAsk, write_asked_of};

@@ -1,1 +1,2 @@
 pub mod QuoteLemmas
+pub mod ToldErrors

@@ -74,9 +74,18 @@ fn words_in(alloc: Global, row: &Value) -> Result<Vec<String>> {
     Ok(words)
 }
 
+/// The bytes of the standard input: those of a text, or those of digits where the row has some.
+fn bytes_in(alloc: Global, row: &Value) -> Result<Vec<u8>> {
+    let digits = text_in(row, "digits");
+    if digits.is_empty() {
+        return Ok(Vec::from_clones(alloc, text_in(row, "input").as_bytes())?);
+    }
+    Ok(hex::decode(alloc, digits.as_bytes())?)
+}
+
 /// What stands on the standard input, of which the read of a number, from 1, fails.
 fn input_in(alloc: Global, row: &Value) -> Result<MemorySource> {
-    let bytes = Vec::from_clones(alloc, text_in(row, "input").as_bytes())?;
+    let bytes = bytes_in(alloc, row)?;
     let fails = numbers_of(alloc, number_in(row, "fails"))?;
     Ok(MemorySource::new(bytes, MOST, fails))
 }

@@ -1,5 +1,5 @@
 #!/usr/bin/env python3
-"""Writes the table of runs in crates/vx_write_cases/data. The answers are written out by hand, by docs/FORMATS.md; only the bytes of block files are made,
+"""Writes the table of runs in crates/vx_write_cases/data. The answers are written out by hand, by docs/SHELL.md, docs/CSV.md and docs/FORMATS.md; only the bytes of block files are made,
 by crates/vx_cases/tables/block_files.py, over statistics that are written out too.
 
 usage: crates/vx_write_cases/tables/runs.py
@@ -69,7 +69,7 @@ BARE_CUT = file([], [(4, []), (1, [])], [])
 
 # ---- lines on standard error
 
-USAGE = "error: usage: write PATH [--rows N] [--force]\n"
+USAGE = "error: usage: write PATH [csv [--null TEXT] [--types TEXT]] [--rows N] [--force]\n"
 EXISTS = "error: the path leads to something: --force replaces it\n"
 
 
@@ -144,6 +144,116 @@ for name, words in [
     ("no words", []),
 ]:
     row(name, words, 2, errors=USAGE, input=TWO, fails=1)
+
+# ---- texts of CSV
+
+CSV = [*WRITE, "csv"]
+
+# types that are found, and a null in a column of numbers
+PRICES = "id,price,name\n1,12,a\n2,,b\n3,7,a\n"
+PRICES_FILE = file(
+    [("id", "i64"), ("price", "i64?"), ("name", "utf8")],
+    [(3, [[1, 2, 3], [12, None, 7], ["a", "b", "a"]])],
+    [(["id"], [1], [3], [0]), (["price"], [7], [12], [1]), (["name"], ["a"], ["b"], [0])],
+)
+PRICES_CUT = file(
+    [("id", "i64"), ("price", "i64?"), ("name", "utf8")],
+    [(2, [[1, 2], [12, None], ["a", "b"]]), (1, [[3], [7], ["a"]])],
+    [(["id"], [1, 3], [2, 3], [0, 0]), (["price"], [12, 7], [12, 7], [1, 0]), (["name"], ["a", "a"], ["b", "a"], [0, 0])],
+)
+# the same at given columns: numbers of other widths, and texts that may be null
+PRICES_GIVEN = file(
+    [("id", "u8"), ("price", "i16?"), ("name", "utf8?")],
+    [(3, [[1, 2, 3], [12, None, 7], ["a", "b", "a"]])],
+    [(["id"], [1], [3], [0]), (["price"], [7], [12], [1]), (["name"], ["a"], ["b"], [0])],
+)
+GIVEN = "id u8, price i16?, name utf8?"
+# truths, and a null text that isn't empty: an empty cell is a text then
+MARKED_FILE = file(
+    [("on", "bool?"), ("note", "utf8")],
+    [(3, [[True, None, False], ["", "x", ""]])],
+    [(["on"], [False], [True], [1]), (["note"], [""], ["x"], [0])],
+)
+# a mark of the byte order, lines ended by CR LF, a blank line, quotes, and a number with a 0 before it, which is a text
+QUOTED = "\ufeffname,\"a,b\"\r\n\"say \"\"hi\"\"\",007\r\n\r\n\"two\r\nlines\",8"
+QUOTED_FILE = file(
+    [("name", "utf8"), ("a,b", "utf8")],
+    [(2, [["say \"hi\"", "two\r\nlines"], ["007", "8"]])],
+    [(["name"], ["say \"hi\""], ["two\r\nlines"], [0]), (["a,b"], ["007"], ["8"], [0])],
+)
+# both ends of i64
+ENDS = "x\n-9223372036854775808\n9223372036854775807\n"
+ENDS_FILE = file([("x", "i64")], [(2, [[-(2**63), 2**63 - 1]])], [(["x"], [-(2**63)], [2**63 - 1], [0])])
+# a number past its range makes a column of texts
+PAST = "x\n9223372036854775808\n1\n"
+PAST_FILE = file([("x", "utf8")], [(2, [["9223372036854775808", "1"]])], [(["x"], ["1"], ["9223372036854775808"], [0])])
+# nulls alone are texts, and so is no row
+NULLS = "x,y\n,1\n,2\n"
+NULLS_FILE = file([("x", "utf8?"), ("y", "i64")], [(2, [[None, None], [1, 2]])], [(["x"], [None], [None], [2]), (["y"], [1], [2], [0])])
+HEAD_FILE = file([("x", "utf8"), ("y", "utf8")], [], [(["x"], [], [], []), (["y"], [], [], [])])
+# names that aren't words
+NAMED_FILE = file([("and", "bool"), ("a b", "i8")], [(1, [[True], [-3]])], [(["and"], [True], [True], [0]), (["a b"], [-3], [-3], [0])])
+
+kept("types that are found", CSV, PRICES, PRICES_FILE)
+kept("in blocks of two rows", [*CSV, "--rows", "2"], PRICES, PRICES_CUT)
+kept("given columns", [*CSV, "--types", GIVEN], PRICES, PRICES_GIVEN)
+kept("given columns, over what stands", [*CSV, "--force", "--types", GIVEN], PRICES, PRICES_GIVEN, files=OLD)
+kept("every option", [*CSV, "--types", GIVEN, "--rows", "3", "--null", "", "--force"], PRICES, PRICES_GIVEN)
+kept("a null text", [*CSV, "--null", "NA"], "on,note\ntrue,\nNA,x\nfalse,\n", MARKED_FILE)
+kept("a null text as an option", [*CSV, "--null", "--force"], "on,note\ntrue,\n--force,x\nfalse,\n", MARKED_FILE)
+kept("quotes, a mark and blank lines", CSV, QUOTED, QUOTED_FILE)
+kept("both ends of i64", CSV, ENDS, ENDS_FILE)
+kept("a number past i64", CSV, PAST, PAST_FILE)
+kept("nulls alone", CSV, NULLS, NULLS_FILE)
+kept("a line of names alone", CSV, "x,y\n", HEAD_FILE)
+kept("the same, in blocks of a row", [*CSV, "--rows", "1"], "x,y", HEAD_FILE)
+kept("names between quotes", [*CSV, "--types", '"and" bool,"a b" i8'], "and,a b\rtrue,-3\r", NAMED_FILE)
+kept("a path of this name", ["write", "csv", "csv"], PRICES, PRICES_FILE, path="csv")
+kept("a table as JSON under this name", ["write", "csv"], TWO, TWO_FILE, path="csv")
+
+row("a quote left open", CSV, 3, errors=untold("a quote is left open"), input='x\n"1\n')
+row("an empty text", CSV, 3, errors=untold("there is no line of names"), input="")
+row("blank lines alone", CSV, 3, errors=untold("there is no line of names"), input="\n\r\n")
+row("a name twice", CSV, 3, errors=untold("a name stands twice"), input="x,y,x\n1,2,3\n")
+row("a row of another length", CSV, 3, errors=untold("row 2 has 1 cells, and there are 2 names"), input="x,y\n1,2\n3\n")
+row("a name that isn't UTF-8", CSV, 3, errors=untold("row 0, column 2 isn't UTF-8"), digits="782cff0a310a")
+row("a cell that isn't UTF-8", CSV, 3, errors=untold("row 1, column 1 isn't UTF-8"), digits="780ac3280a")
+row("a length before a cell", CSV, 3, errors=untold("row 1 has 2 cells, and there are 1 names"), digits="780aff2cff0a")
+row("no number", [*CSV, "--types", "id i64, price i32"], 3, errors=untold('row 2, column 2: "12x" is no i32'), input="id,price\n1,5\n2,12x\n")
+row("a 0 before a number", [*CSV, "--types", "x u64"], 3, errors=untold('row 1, column 1: "007" is no u64'), input="x\n007\n")
+row("a number past its type", [*CSV, "--types", "x u8?"], 3, errors=untold('row 2, column 1: "256" is no u8'), input="x\n255\n256\n")
+row("no truth", [*CSV, "--types", "x bool"], 3, errors=untold('row 1, column 1: "True" is no bool'), input="x\nTrue\n")
+row("null where there is none", [*CSV, "--types", "x utf8"], 3, errors=untold('row 1, column 1: "" is no utf8'), input='x\n""\n')
+row("other names", [*CSV, "--types", "y i64"], 3, errors=untold("the names aren't those of --types"), input="x\n1\n")
+row("names in another order", [*CSV, "--types", "y i64, x i64"], 3, errors=untold("the names aren't those of --types"), input="x,y\n1,2\n")
+row("given names twice", [*CSV, "--types", "x i64, x i64"], 3, errors=untold("a name stands twice"), input="x,x\n1,2\n")
+row("a table as JSON in place of a text", CSV, 3, "0a0b", untold("row 1 has 1 cells, and there are 2 names"), input="[1,2]\n[3]\n", files=OLD)
+row("a text in place of a table as JSON", WRITE, 3, errors=untold("BadJson"), input=PRICES)
+row("what stands is left, a text too", CSV, 6, "0a0b", EXISTS, input=PRICES, files=OLD)
+row("a read of a text fails", CSV, 6, errors="error: a read failed\n", input=PRICES, fails=2)
+row("a text whose file can't be kept", CSV, 7, errors="error: the file can't be written\n", input=PRICES, unkept=True)
+
+for name, words in [
+    ("a null text without csv", [*WRITE, "--null", ""]),
+    ("types without csv", [*WRITE, "--types", "x i32"]),
+    ("csv behind an option", [*WRITE, "--force", "csv"]),
+    ("csv twice", [*CSV, "csv"]),
+    ("a null text twice", [*CSV, "--null", "", "--null", ""]),
+    ("types twice", [*CSV, "--types", "x i32", "--types", "x i32"]),
+    ("no types behind their word", [*CSV, "--types"]),
+    ("no null text behind its word", [*CSV, "--force", "--null"]),
+    ("no columns", [*CSV, "--types", ""]),
+    ("a name without a type", [*CSV, "--types", "x"]),
+    ("no such type", [*CSV, "--types", "x int"]),
+    ("a type that isn't plain", [*CSV, "--types", "x list(i64)"]),
+    ("a comma too much", [*CSV, "--types", "x i32,"]),
+    ("no comma", [*CSV, "--types", "x i32 y i32"]),
+    ("a mark twice", [*CSV, "--types", "x i32??"]),
+    ("a name that is a word of queries", [*CSV, "--types", "and bool"]),
+    ("a character of no token", [*CSV, "--types", "x i32;"]),
+    ("no rows, of a text", [*CSV, "--rows", "0"]),
+]:
+    row(name, words, 2, errors=USAGE, input=PRICES, fails=1)
 
 with open(os.path.join(HERE, "data", "writes.json"), "w", encoding="utf-8") as out:
     out.write("[\n" + ",\n".join(json.dumps(each) for each in ROWS) + "\n]\n")

@@ -10,6 +10,12 @@ use Rattle.vx_file_bytes.specs.declared.errors.WriteFileError.{WriteFileError}
 use Rattle.vx_file_bytes.specs.declared.errors.WriteFileError.TheVariants as writes
 use Rattle.vx_files.specs.declared.errors.KeepError.{KeepError}
 use Rattle.vx_files.specs.declared.errors.KeepError.TheVariants as keeps
+use Rattle.vx_csv.specs.Views.{refusal_view}
+use Rattle.vx_csv.specs.declared.errors.CsvError.{CsvError}
+use Rattle.vx_csv.specs.declared.errors.CsvError.TheVariants as texts
+use Rattle.vx_laws_writing.specs.Writing as told
+use Rattle.vx_writing.specs.declared.errors.InputFault.{InputFault}
+use Rattle.vx_writing.specs.declared.errors.InputFault.TheVariants as faults
 use Rattle.vx_writing.specs.declared.errors.Refusal.{Refusal}
 use Rattle.vx_writing.specs.declared.errors.Refusal.TheVariants as refusals
 
@@ -18,7 +24,7 @@ abbrev pub refusal_status : Refusal → ℕ
 refusal_status refusals.NoMemory = 8
 refusal_status refusals.Usage = 2
 refusal_status refusals.Unread = 6
-refusal_status (refusals.NoTable error) = 3
+refusal_status (refusals.NoTable fault) = 3
 refusal_status refusals.TooLong = 3
 refusal_status refusals.Exists = 6
 refusal_status refusals.NotKept = 7
@@ -35,7 +41,17 @@ input_refusal inputs.ReadFault = refusals.Unread
 
 abbrev pub table_refusal : RequestError → Refusal
 table_refusal requests.NoMemory = refusals.NoMemory
-table_refusal error = refusals.NoTable error
+table_refusal error = refusals.NoTable (faults.NoJson error)
+
+abbrev pub text_refusal : CsvError → Refusal
+text_refusal texts.NoMemory = refusals.NoMemory
+text_refusal (texts.Refused refusal) = refusals.NoTable (faults.NoCsv refusal)
+
+-- why an input tells no table, as data
+abbrev pub fault_view : InputFault → told.InputFault
+fault_view (faults.NoJson error) = told.no_json error
+fault_view faults.LongText = told.long_text
+fault_view (faults.NoCsv refusal) = told.no_csv (refusal_view refusal)
 
 abbrev pub keep_refusal : KeepError → Refusal
 keep_refusal keeps.NoMemory = refusals.NoMemory

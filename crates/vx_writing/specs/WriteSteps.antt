@@ -1,28 +1,41 @@
 -- What the steps of a run answer: the table that the standard input tells, and the file that is kept of it.
 use Rattle.std.specs.Prelude.{◌≡◌, ◌≤◌, ◌+◌, false, Result, Ok, Err}
-use Rattle.vx_dtype.specs.Types.{Bytes}
+use Rattle.std.proofs.Common.{Bor}
+use Rattle.vx_dtype.specs.Types.{Bytes, Fields}
 use Rattle.vx_io.specs.Counts.{one_more}
 use Rattle.vx_io.specs.Ends.{TookPart}
 use Rattle.vx_request.specs.Requests.{most_bytes}
 use Rattle.vx_request.specs.RequestViews.{told_view}
-use Rattle.vx_request.specs.Tables.{ToldTable, told_table}
+use Rattle.vx_request.specs.Tables.{ToldTable}
 use Rattle.vx_request.specs.declared.tables.ToldTable.{ToldTable as ToldCode}
 use Rattle.vx_files.specs.Kept.{MayStand}
 use Rattle.vx_files.specs.Keeping.{IsKept, KeepsNothing}
 use Rattle.vx_laws_shell.specs.Running.{End, IsTaken}
 use Rattle.vx_laws_writing.specs.WriteWords.{WriteAsk}
-use Rattle.vx_laws_writing.specs.Writing.{AreUntouched, FilesEnd, HasNoFile, IsFileOf}
+use Rattle.vx_laws_writing.specs.Writing.{AreUntouched, FilesEnd, HasNoFile, InputFault, IsFileOf, rows_cut, table_asked}
+use Rattle.vx_writing.specs.WriteRefusals.{fault_view}
 use Rattle.vx_writing.specs.declared.errors.Refusal.{Refusal}
 use Rattle.vx_writing.specs.declared.errors.Refusal.TheVariants.{NoMemory, Unread, NoTable, TooLong, Exists, NotKept}
 
--- the input tells a table, or why none was told
-abbrev pub TellsTable : End → End → Result ToldCode Refusal → Type 0
-TellsTable before after (Ok told) =
-    (input : Bytes) × IsTaken before after input × TookPart (most_bytes + 1) before.bytes after.bytes × (told_table input ≡ Ok (told_view told))
-TellsTable before after (Err NoMemory) = TookPart (most_bytes + 1) before.bytes after.bytes
-TellsTable before after (Err Unread) = TookPart (most_bytes + 1) before.bytes after.bytes × (one_more before.faults ≤ after.faults)
-TellsTable before after (Err (NoTable e)) = (input : Bytes) × IsTaken before after input × (told_table input ≡ Err e)
-TellsTable before after (Err _) = ⊥
+-- given columns as data
+abbrev pub fields_at : Bor Fields → Fields
+fields_at columns = columns.now
+
+-- the answer is the table that is told of an input, or why there is none; want of memory may be answered at any time
+abbrev pub AnswersInput : Result ToldTable InputFault → Result ToldCode Refusal → Type 0
+AnswersInput given (Ok told) = given ≡ Ok (told_view told)
+AnswersInput given (Err NoMemory) = Unit {0}
+AnswersInput given (Err (NoTable fault)) = given ≡ Err (fault_view fault)
+AnswersInput given (Err _) = ⊥
+
+-- the input tells the table that is asked, or why none was told
+abbrev pub TellsTable : WriteAsk → End → End → Result ToldCode Refusal → Type 0
+TellsTable ask before after (Ok told) =
+    (input : Bytes) × IsTaken before after input × TookPart (most_bytes + 1) before.bytes after.bytes × (table_asked ask input ≡ Ok (told_view told))
+TellsTable ask before after (Err NoMemory) = TookPart (most_bytes + 1) before.bytes after.bytes
+TellsTable ask before after (Err Unread) = TookPart (most_bytes + 1) before.bytes after.bytes × (one_more before.faults ≤ after.faults)
+TellsTable ask before after (Err (NoTable fault)) = (input : Bytes) × IsTaken before after input × (table_asked ask input ≡ Err (fault_view fault))
+TellsTable ask before after (Err _) = ⊥
 
 -- bytes are kept under the path that is asked, or why they aren't
 abbrev pub KeepsBytes : WriteAsk → Bytes → FilesEnd → FilesEnd → Result (Unit {0}) Refusal → Type 0
@@ -35,9 +48,9 @@ KeepsBytes ask bytes files now (Err _) = ⊥
 -- the file of a table is kept, or why it isn't
 abbrev pub KeepsTable : WriteAsk → ToldTable → FilesEnd → FilesEnd → Result (Unit {0}) Refusal → Type 0
 KeepsTable ask told files now (Ok done) =
-    (bytes : Bytes) × IsFileOf ask.rows told bytes × IsKept ask.path bytes ask.replaces files.kept now.kept × (now.faults ≡ files.faults)
+    (bytes : Bytes) × IsFileOf (rows_cut ask) told bytes × IsKept ask.path bytes ask.replaces files.kept now.kept × (now.faults ≡ files.faults)
 KeepsTable ask told files now (Err NoMemory) = AreUntouched files now
-KeepsTable ask told files now (Err TooLong) = HasNoFile ask.rows told × AreUntouched files now
+KeepsTable ask told files now (Err TooLong) = HasNoFile (rows_cut ask) told × AreUntouched files now
 KeepsTable ask told files now (Err Exists) = (ask.replaces ≡ false) × MayStand (files.kept ask.path) × AreUntouched files now
 KeepsTable ask told files now (Err NotKept) = KeepsNothing files.kept now.kept × (one_more files.faults ≤ now.faults)
 KeepsTable ask told files now (Err _) = ⊥

@@ -4,7 +4,9 @@ ghost use Rattle.vx_stats.specs.declared.errors.StatsError.TheVariants as stats;
 ghost use Rattle.vx_writing.specs.WriteRefusals.{cut_refusal, file_refusal, refusal_status, IsOfCutting, IsOfFile};
 ghost use Rattle.vx_writing.specs.declared.errors.Refusal.TheVariants.{NoMemory as OutOfMemory};
 
+use crate::lines::refusal_line;
 use std::alloc::{AllocError, AllocFailed, Global};
+use vx_csv::{CsvError, CsvRefusal};
 use vx_cutting::CutError;
 use vx_dtype::{Mem, NoMemory};
 use vx_file_bytes::WriteFileError;
@@ -12,6 +14,29 @@ use vx_files::KeepError;
 use vx_io::InputError;
 use vx_request::RequestError;
 use vx_stats::StatsError;
+
+/// Why the standard input tells no table.
+#[derive(Debug, Drop)]
+pub(crate) enum InputFault {
+    /// It is no table as JSON.
+    NoJson(RequestError),
+    /// It is a text of CSV of more bytes than an input may have.
+    LongText,
+    /// It is no text of CSV of a table.
+    NoCsv(CsvRefusal),
+}
+
+impl InputFault {
+    /// The line that is told of it.
+    fn line(&self, alloc: Global) -> Mem<String> {
+        let why = match self {
+            InputFault::NoJson(error) => format!(in alloc; "{error:?}")?,
+            InputFault::LongText => String::from_str(alloc, "more than 16777216 bytes")?,
+            InputFault::NoCsv(refusal) => refusal_line(alloc, refusal)?,
+        };
+        Ok(format!(in alloc; "error: stdin is no table: {why}\n")?)
+    }
+}
 
 /// Why a table isn't kept as a file.
 #[derive(Debug, Drop)]
@@ -23,7 +48,7 @@ pub(crate) enum Refusal {
     /// A read of the standard input failed.
     Unread,
     /// The standard input tells no table.
-    NoTable(RequestError),
+    NoTable(InputFault),
     /// Something in the table is too long for a file.
     TooLong,
     /// Something stands under the path.
@@ -49,9 +74,7 @@ impl Refusal {
     /// The line that is told on standard error.
     pub(crate) fn line(&self, alloc: Global) -> Mem<String> {
         match self {
-            Refusal::NoTable(error) => Ok(format!(in alloc;
-                "error: stdin is no table: {error:?}\n"
-            )?),
+            Refusal::NoTable(fault) => fault.line(alloc),
             _ => Ok(String::from_str(alloc, self.fixed_line())?),
         }
     }
@@ -59,7 +82,9 @@ impl Refusal {
     /// The line of a refusal that holds nothing.
     pub(crate) fn fixed_line(&self) -> &'static str {
         match self {
-            Refusal::Usage => "error: usage: write PATH [--rows N] [--force]\n",
+            Refusal::Usage => {
+                "error: usage: write PATH [csv [--null TEXT] [--types TEXT]] [--rows N] [--force]\n"
+            },
             Refusal::Unread => "error: a read failed\n",
             Refusal::TooLong => "error: the table is too long for a block file\n",
             Refusal::Exists => "error: the path leads to something: --force replaces it\n",
@@ -120,7 +145,20 @@ impl From<RequestError> for Refusal {
     fn from(error: RequestError) -> Refusal {
         match error {
             RequestError::NoMemory => Refusal::NoMemory,
-            other => Refusal::NoTable(other),
+            other => Refusal::NoTable(InputFault::NoJson(other)),
+        }
+    }
+}
+
+impl From<CsvError> for Refusal {
+    ghost use Rattle.vx_writing.specs.WriteRefusals.{text_refusal};
+
+    ghost from_gives = { λ error e. e ≡ text_refusal error };
+
+    fn from(error: CsvError) -> Refusal {
+        match error {
+            CsvError::NoMemory => Refusal::NoMemory,
+            CsvError::Refused(refusal) => Refusal::NoTable(InputFault::NoCsv(refusal)),
         }
     }
 }

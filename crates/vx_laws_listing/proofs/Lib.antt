@@ -1,0 +1,2 @@
+pub mod ListedFiles
+pub mod WrittenFiles

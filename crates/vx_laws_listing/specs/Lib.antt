@@ -1,0 +1,5 @@
+pub mod ListingWords
+pub mod ListingTexts
+pub mod Listing
+pub mod ListingLaws
+pub use Rattle.vx_laws_shell.specs.Running

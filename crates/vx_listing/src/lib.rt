@@ -1,0 +1,16 @@
+//! The words of `blocks`: the columns of a block file, and a line for each of its blocks with its rows and its statistics, in the form of JSON. Of the file
+//! its header is read.
+#![tactic(auto)]
+
+mod columns;
+mod errors;
+mod lines;
+mod listing;
+mod running;
+mod statistics;
+mod words;
+mod writing;
+
+pub use errors::ListingError;
+pub use listing::list_file;
+pub use running::blocks;

@@ -1,0 +1,13 @@
+pub mod AskedBlocks
+pub mod ReadNames
+pub mod RowLines
+pub mod BlockSums
+pub mod OrderedSteps
+pub mod SettledAnswers
+pub mod PartAnswers
+pub mod KeyedSteps
+pub mod PlanScans
+pub mod FileRuns
+pub mod FileAnswers
+pub mod ShellRuns
+pub mod StatementAnswers

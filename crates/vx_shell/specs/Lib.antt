@@ -1,0 +1,14 @@
+pub mod OriginViews
+pub mod KeptViews
+pub mod AskedBlocks
+pub mod Refusals
+pub mod WantViews
+pub mod Pieces
+pub mod CountViews
+pub mod Founds
+pub mod OrderedSteps
+pub mod KeyedSteps
+pub mod RunParts
+pub mod FileRuns
+pub use Rattle.vx_laws_shell.specs.Running
+pub use Rattle.vx_laws_shell.specs.Origins

@@ -1,0 +1,54 @@
+// Where the bytes of a table are, by its name.
+ghost use Rattle.std.specs.Prelude.{◌≡◌, IfOk};
+ghost use Rattle.std.specs.List.{list_any};
+ghost use Rattle.std.specs.String.{string_bytes};
+ghost use Rattle.vx_laws_shell.specs.Origins as spec;
+ghost use Rattle.vx_shell.specs.OriginViews.{origin_view};
+
+use std::alloc::Global;
+use vx_dtype::Mem;
+
+/// Where the bytes of a table are.
+#[derive(Debug, Drop)]
+pub enum Origin {
+    /// On the standard input, as JSON.
+    StandardInput,
+    /// In the block file of this path.
+    BlockFile(String),
+}
+
+/// Whether bytes are those of a path: `.` or `/` stands among them.
+fn is_path(bytes: &[u8]) -> bool
+    ensures { result ≡ list_any spec.is_of_path bytes.now }
+{
+    for byte in bytes {
+        if *byte == b'.' {
+            return true;
+        }
+        if *byte == b'/' {
+            return true;
+        }
+    }
+    false
+}
+
+/// The path that a name means: itself, or where neither `.` nor `/` stands in it, with the ending of block files.
+fn path_of(alloc: Global, name: &str) -> Mem<String>
+    ensures { IfOk result (λ path. string_bytes path ≡ spec.path_of name.now) }
+{
+    if is_path(name.as_bytes()) {
+        return Ok(String::from_str(alloc, name)?);
+    }
+    Ok(format!(in alloc; "{name}.vxb")?)
+}
+
+/// What the name of a table means: `stdin` the standard input, each other name the block file of its path. A name without `.` and `/` is that of the file
+/// with `.vxb` behind it.
+pub fn origin_of(alloc: Global, name: &str) -> Mem<Origin>
+    ensures { IfOk result (λ origin. origin_view origin ≡ spec.origin_of name.now) }
+{
+    if name == "stdin" {
+        return Ok(Origin::StandardInput);
+    }
+    Ok(Origin::BlockFile(path_of(alloc, name)?))
+}

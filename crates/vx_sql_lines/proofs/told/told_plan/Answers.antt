@@ -1,0 +1,9 @@
+use Rattle.vx_dtype.specs.TypeViews.{type_view}
+use Rattle.vx_laws_statements.specs.Statements.{plan_of}
+use Rattle.vx_sql_lines.proofs.ToldErrors.{error_told}
+use Rattle.vx_sql_lines.proofs.told.told_plan.Goals as goal
+
+pub returns-in-Err : goal.returns-in-Err
+returns-in-Err c =
+    let t = type_view c.args.columns.now in
+    error_told c.args.text.now t (plan_of t c.args.text.now) c.in-Err.error c.told_error.result c.in-Err.ensures c.told_error.ensures
