@@ -3,6 +3,8 @@
 
 mod processes;
 mod programs;
+mod telling;
+mod terminals;
 mod words;
 
 pub use processes::process;

@@ -1,0 +1,5 @@
+mod MarkLemmas
+mod TextLemmas
+mod WriteLemmas
+mod PlanLemmas
+mod RunLemmas

@@ -1,0 +1,21 @@
+use Rattle.std.proofs.Common.{refl, ◌∙◌, subst, Option}
+use Rattle.vx_dtype.specs.Types.{Bytes}
+use Rattle.vx_laws_listing.specs.Listing.{IsToldBy}
+use Rattle.vx_laws_shell.specs.Running.{end_by}
+use Rattle.vx_laws_explaining.specs.Explaining.{explained}
+use Rattle.vx_explaining.proofs.running.explain_sql.Goals as goal
+
+pub returns-in-Ok : goal.returns-in-Ok
+returns-in-Ok g c = record { end = explained; is = c.in-Ok.ensures; status_is = refl; told = refl }
+
+pub returns-in-Err : goal.returns-in-Err
+returns-in-Err g c =
+    let before = end_by g.E.Sink.written g.E.Sink.faults c.args.errors.now in
+    let after = end_by g.E.Sink.written g.E.Sink.faults c.tell.new.errors in
+    let answer = c.in-Err.ensures in
+    record {
+      end = answer.0;
+      is = answer.1;
+      status_is = c.status.ensures ∙ answer.2.status;
+      told = subst (λ (line : Option Bytes). IsToldBy before after line) answer.2.line c.tell.ensures;
+    }

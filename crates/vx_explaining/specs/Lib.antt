@@ -1,0 +1,14 @@
+pub mod ExplainedViews
+pub mod ExplainedParts
+pub mod OriginViews
+pub mod Refusals
+pub mod ExplainingSteps
+pub mod PlanSteps
+pub mod TableSteps
+pub use Rattle.vx_laws_explaining.specs.Explaining
+pub use Rattle.vx_laws_explaining.specs.Explanations
+pub use Rattle.vx_laws_explaining.specs.Explained
+pub use Rattle.vx_laws_explaining.specs.ExplainedTexts
+pub use Rattle.vx_laws_explaining.specs.ExplainedJson
+pub use Rattle.vx_laws_explaining.specs.ExplainedPictures
+pub use Rattle.vx_laws_explaining.specs.ExplainingWords

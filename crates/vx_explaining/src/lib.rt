@@ -1,0 +1,21 @@
+//! The words of `explain sql`: what a statement would read of a table, told from its zones alone. Of a block file the header is read, and no block.
+#![tactic(auto)]
+
+mod columns;
+mod deciders;
+mod errors;
+mod explained;
+mod json;
+mod marks;
+mod origins;
+mod pictures;
+mod pieces;
+mod plans;
+mod running;
+mod tables;
+mod texts;
+mod values;
+mod words;
+mod writing;
+
+pub use running::explain_sql;

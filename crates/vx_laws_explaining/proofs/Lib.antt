@@ -1,0 +1,2 @@
+pub mod SkippedBlocks
+pub mod TypedPlans

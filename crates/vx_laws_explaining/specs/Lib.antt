@@ -1,0 +1,10 @@
+pub mod ExplainingWords
+pub mod TableOrigins
+pub mod Explained
+pub mod ExplainedTexts
+pub mod ExplainedJson
+pub mod ExplainedPictures
+pub mod Explanations
+pub mod Explaining
+pub mod ExplainingLaws
+pub use Rattle.vx_laws_listing.specs.Listing
