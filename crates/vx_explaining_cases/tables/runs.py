@@ -149,7 +149,7 @@ asks("no condition and each column", "SELECT * FROM items", status=0, output=ALL
 asks("without statistics as JSON", "SELECT * FROM bare", "--json", status=0, output=BARE_JSON, files=[("bare.vxb", BARE)])
 asks("the column of the order is read", DEAR_WORDS + " ORDER BY note LIMIT 2", status=0, output=ORDERED)
 asks("a limit skips no block", "SELECT * FROM items LIMIT 0", status=0, output=ALL)
-asks("names with marks", "SELECT * FROM marked WHERE \"a<&>\"\"b\" > 'a'", "--svg", status=0, output=MARKED_PICTURE, files=[("marked.vxb", MARKED)])
+asks("names with marks", "SELECT * FROM marked WHERE \"a<&>\"\"b\" > '!'", "--svg", status=0, output=MARKED_PICTURE, files=[("marked.vxb", MARKED)])
 asks("a bound that isn't known", "SELECT n FROM stdin WHERE n > 9", status=0, output=GAPS_TEXT, input=GAPS)
 asks("a bound that isn't known as JSON", "SELECT n FROM stdin WHERE n > 9", "--json", status=0, output=GAPS_JSON, input=GAPS)
 asks("two statistics of one joined name", "SELECT a_b FROM stdin WHERE a_b > 5", status=0, output=DOUBLED_TEXT, input=DOUBLED)
