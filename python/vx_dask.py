@@ -388,4 +388,7 @@ def main():
 
 
 if __name__ == "__main__":
-    sys.exit(main())
+    # what is sent to workers is named by its module, which `rows` uploads to them
+    import vx_dask
+
+    sys.exit(vx_dask.main())
