@@ -115,6 +115,13 @@ class Answers(Clustered):
         self.assertEqual(wanted, b"".join(found))
         self.assertEqual((5, self.folder + "02.vxb", 3), (refused.exception.status, refused.exception.file, refused.exception.block))
 
+    def test_a_limit_that_ends_before_a_refusal(self):
+        text = "SELECT id, small + 10 AS more FROM '%s' LIMIT 11000"
+        here, there = self.over(text)
+        status, wanted = sql(there)
+        self.assertEqual(0, status)
+        self.assertEqual(wanted, b"".join(rows(self.client, here, run_rows=BLOCKS * ROWS)))
+
     def test_refusals_of_the_statement(self):
         for text, status in [("SELECT cost FROM '%s'", 4), ("SELECT id FROM '%s' ORDER BY id", 4), ("SELECT DISTINCT id FROM '%s'", 4), ("SELECT 1", 4)]:
             with self.assertRaises(Refused) as refused:

@@ -314,12 +314,13 @@ def rows(client, statement, vx=PROGRAM, run_rows=ROWS, progress=False):
     if statement.key is not None:
         yield from first_rows(client, vx, statement, runs, draw)
         return
-    given = 0
-    for line in lines_of(answers(client, vx, runs, statement.over, draw)):
-        if statement.limit is not None and given == statement.limit:
-            return
-        given += 1
+    if statement.limit == 0:
+        return
+    # behind the last row that is asked no refusal is met: a run over the whole table ends there
+    for given, line in enumerate(lines_of(answers(client, vx, runs, statement.over, draw)), 1):
         yield line
+        if given == statement.limit:
+            return
 
 
 def first_rows(client, vx, statement, runs, draw):
