@@ -1,7 +1,7 @@
 #!/usr/bin/env python3
 """Times how the built program keeps a text of CSV as a block file, beside Python's csv with the same conversion and sqlite3's .import, where that is installed.
 
-usage: bench/csv.py [ROWS] [SEED]       (first build the program: cd crates/vx && rt run; 350,000 rows and the seed 1 where none are named)
+usage: bench/csv_texts.py [ROWS] [SEED]       (first build the program: cd crates/vx && rt run; 350,000 rows and the seed 1 where none are named)
 
 The text has six columns: `id i64`, `price i32`, `name utf8`, `city utf8?`, `flag bool` and `day i32`; one city in eight is null, and one name in ten stands
 between quotes. An input of the program has at most 16,777,216 bytes, which are about 400,000 such rows. Python reads the text by csv.reader, converts each
