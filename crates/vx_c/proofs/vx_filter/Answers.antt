@@ -1,0 +1,9 @@
+use Rattle.vx_calls.specs.Answers.{answer_told, told_bytes}
+use Rattle.vx_c.proofs.vx_filter.Goals as goal
+
+pub returns : goal.returns
+returns c = record {
+  told = answer_told c.answer_of-told.result;
+  is_told = record { answer = told_bytes c.filter_bytes-called.result; answered = c.filter_bytes-called.ensures; tells = c.answer_of-told.ensures };
+  given = c.give.ensures;
+}

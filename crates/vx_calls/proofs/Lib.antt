@@ -1,0 +1,9 @@
+mod PredicateLemmas
+mod WireLemmas
+mod FilterLemmas
+mod ListLemmas
+mod StatisticLemmas
+mod CellLemmas
+mod ZoneLemmas
+mod RowLemmas
+mod HonestLemmas

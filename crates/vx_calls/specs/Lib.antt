@@ -1,0 +1,12 @@
+pub mod Schemas
+pub mod Predicates
+pub mod Filters
+pub mod Lists
+pub mod Asked
+pub mod Statistics
+pub mod BlockZones
+pub mod FilteredRows
+pub mod Refusals
+pub mod Answers
+pub mod CallLaws
+pub mod Steps
