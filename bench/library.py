@@ -52,7 +52,7 @@ def blocks():
     if not ((found == wanted).all() and (truths([bits], BLOCKS) == wanted).all()):
         sys.exit("rules_out: a block differs")
     figures = (BLOCKS, whole * 1e3, inside * 1e3, beside * 1e3)
-    print("rules_out over %d blocks: %.0f ms, of which %.0f ms in the call; numpy compares the bounds in %.1f ms" % figures)
+    print("rules_out over %d blocks: %.0f ms; the call by itself %.0f ms; numpy compares the bounds in %.1f ms" % figures)
 
 
 def rows(name, kind, column, arrays, compare):
@@ -67,7 +67,7 @@ def rows(name, kind, column, arrays, compare):
     if not ((found == wanted).all() and (truths(bits, ROWS) == wanted).all()):
         sys.exit("rows: a row differs")
     figures = (ROWS, name, whole * 1e3, inside * 1e3, beside * 1e3, whole / beside)
-    print("rows over %d %s: %.0f ms, of which %.0f ms in the calls; numpy %.0f ms, so that it takes %.0f times as long" % figures)
+    print("rows over %d %s: %.0f ms; the calls by themselves %.0f ms; numpy %.0f ms, so that the first takes %.0f times as long" % figures)
 
 
 def main():
