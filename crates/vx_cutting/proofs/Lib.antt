@@ -3,3 +3,4 @@ pub mod CutLaws
 mod JoinLemmas
 mod BareLemmas
 mod BlockLemmas
+pub mod PartLemmas

@@ -114,7 +114,7 @@ fn lengths_of(alloc: Global, rows: u64, most: u32, number: u32) -> Mem<Vec<u32>>
 }
 
 /// The zones of the same columns whose blocks have these lengths, without statistics.
-fn bare_zones(alloc: Global, zones: &ZoneMap, lengths: Vec<u32>) -> Mem<ZoneMap>
+pub(crate) fn bare_zones(alloc: Global, zones: &ZoneMap, lengths: Vec<u32>) -> Mem<ZoneMap>
     requires { length lengths.items < 2 ^ 32 }
     ensures { IfOk result (λ made. made ≡ bare_zones zones.now lengths.items) }
 {

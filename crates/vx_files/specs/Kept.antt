@@ -1,5 +1,5 @@
 -- What paths lead to, and what is opened of them.
-use Rattle.std.specs.Prelude.{◌≡◌, ℕ, List, Option, Some}
+use Rattle.std.specs.Prelude.{◌≡◌, ℕ, List, Option, Some, None}
 use Rattle.vx_dtype.specs.Types.{Bytes}
 
 -- what a path leads to: nothing that is known, no file that can be opened, or one of these bytes
@@ -7,6 +7,11 @@ pub data Kept : Type 0 where
   unknown : Kept
   absent : Kept
   holds : Bytes → Kept
+
+-- the same by the bytes that are found for it
+abbrev pub kept_as : Option Bytes → Kept
+kept_as None = absent
+kept_as (Some bytes) = holds bytes
 
 -- the source of a file that is opened tells the bytes that the path leads to, where these are known
 abbrev pub IsOpenedAs : Kept → Option (List ℕ) → Type 0

@@ -1,3 +1,5 @@
 pub mod Kept
 pub mod Keeping
+pub mod FolderKeeping
+pub mod Listed
 pub mod MemoryViews

@@ -1,11 +1,11 @@
-// Why a file isn't opened, and why it isn't kept.
+// Why a file isn't opened or a folder listed, and why a file isn't kept.
 
-/// Why a path isn't opened.
+/// Why a path isn't opened, or its folder isn't listed.
 #[derive(Clone, Copy, PartialEq, Eq, Debug)]
 pub enum OpenError {
     /// There was no memory.
     NoMemory,
-    /// The path can't be opened for reading.
+    /// The path can't be opened for reading, or the folder can't be listed.
     NotOpened,
 }
 

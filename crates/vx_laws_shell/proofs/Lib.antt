@@ -15,4 +15,5 @@ pub mod Parts
 pub mod FolderFiles
 pub mod FolderScans
 pub mod FolderAnswers
+pub mod FolderContents
 pub mod CutAnew

@@ -13,3 +13,4 @@ pub mod KeyedRuns
 pub mod PlanLaws
 pub mod Folders
 pub mod CutAnew
+pub mod FolderContents

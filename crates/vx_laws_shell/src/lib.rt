@@ -2,8 +2,10 @@
 //! function that does nothing.
 #![tactic(auto)]
 
+mod folder_laws;
 mod laws;
 
+pub use folder_laws::folders_hold_their_files;
 pub use laws::{
     cut_tables_keep_answers, damage_is_decided, files_are_answered_in_turn, files_are_one_table,
     limits_give_first_rows, parts_join, plans_can_be_run, runs_are_scans, runs_write_answers,

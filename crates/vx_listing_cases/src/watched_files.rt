@@ -1,11 +1,12 @@
 // Files of which a read fails that asks for more than the header.
 ghost use Rattle.std.specs.Prelude.{◌<◌, ◌^◌, ◌-◌, All, IfOk, Some};
 ghost use Rattle.vx_files.specs.Kept.{unknown};
+ghost use Rattle.vx_files.specs.Listed.{unlisted};
 
 use std::alloc::Global;
 use vx_dtype::Mem;
 use vx_file_ranges::{MemoryRange, RangeFailed, Ranged};
-use vx_files::{Files, KeepError, MemoryFiles, OpenError};
+use vx_files::{Files, KeepError, MemoryFiles, NamedBytes, OpenError};
 
 /// How many bytes a read gives at most: few, so that a header takes several.
 const MOST: usize = 7;
@@ -86,6 +87,8 @@ impl Files for WatchedFiles {
 
     ghost kept = { λ _ _. unknown };
 
+    ghost listed = { λ _ _. unlisted };
+
     ghost faults = { λ s. s.faults };
 
     fn open(&self, path: &str) -> Result<WatchedFile, OpenError> {
@@ -105,7 +108,21 @@ impl Files for WatchedFiles {
         }
     }
 
+    fn list(&self, path: &str) -> Result<Vec<String>, OpenError> {
+        self.files.list(path)
+    }
+
     fn keep(&mut self, _path: &str, _bytes: &[u8], _replaces: bool) -> Result<(), KeepError> {
+        self.faults = self.faults.saturating_add(1);
+        Err(KeepError::NotKept)
+    }
+
+    fn keep_folder(
+        &mut self,
+        _folder: &str,
+        _files: &[NamedBytes],
+        _replaces: bool,
+    ) -> Result<(), KeepError> {
         self.faults = self.faults.saturating_add(1);
         Err(KeepError::NotKept)
     }

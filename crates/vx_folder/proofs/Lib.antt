@@ -1,0 +1,15 @@
+pub mod JoinLemmas
+pub mod PlaceLemmas
+pub mod WholeLemmas
+pub mod RuleLemmas
+pub mod KeptLemmas
+pub mod StatLemmas
+pub mod GatherLemmas
+pub mod NameLemmas
+pub mod FolderLemmas
+pub mod ReadLemmas
+pub mod FetchLemmas
+pub mod OpenLemmas
+pub mod AddLemmas
+pub mod AlikeLemmas
+pub mod PartLemmas
