@@ -74,7 +74,8 @@ cell_plain columns q =
     left_plain q.1 (leaf_type columns q.0) (int_ty U64 Nullable) refl (λ t h. found_plain (type_at q.0 (row_type columns)) t h)
 
 -- so are those of columns of these types
-pub cells_plain : (columns : Fields) (qs : List Question) (cs : List Column) → column_types cs ≡ map (cell_type columns) qs → list_all (λ c. is_plain c.ty) cs ≡ true
+pub cells_plain : (columns : Fields) (qs : List Question) (cs : List Column) → column_types cs ≡ map (cell_type columns) qs
+    → list_all (λ c. is_plain c.ty) cs ≡ true
 cells_plain columns qs [] h = refl
 cells_plain columns [] (c ∷ cs) h = let no : ⊥ = cc in absurd no
 cells_plain columns (q ∷ qs) (c ∷ cs) h =

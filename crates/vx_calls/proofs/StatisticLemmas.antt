@@ -84,7 +84,8 @@ kept_all holds keeps (q ∷ qs) h =
     by-test true k r = and_from (holds q) (list_all holds (filter keeps qs)) k r
     by-test false k r = r
 
-needed_all : (holds : Question → Bool) (qs : List Question) (pruning : Option Pruning) → list_all holds qs ≡ true → list_all holds (needed_among qs pruning) ≡ true
+needed_all : (holds : Question → Bool) (qs : List Question) (pruning : Option Pruning) → list_all holds qs ≡ true
+    → list_all holds (needed_among qs pruning) ≡ true
 needed_all holds qs None h = refl
 needed_all holds qs (Some p) h = kept_all holds (λ q. list_any (same_statistic q) p.required) qs h
 
@@ -93,11 +94,13 @@ abbrev pub distinct_questions : List Question → Bool
 distinct_questions [] = true
 distinct_questions (q ∷ qs) = not (list_any (same_statistic q) qs) && distinct_questions qs
 
-none_kept : (q : Question) (keeps : Question → Bool) (qs : List Question) → list_any (same_statistic q) qs ≡ false → list_any (same_statistic q) (filter keeps qs) ≡ false
+none_kept : (q : Question) (keeps : Question → Bool) (qs : List Question) → list_any (same_statistic q) qs ≡ false
+    → list_any (same_statistic q) (filter keeps qs) ≡ false
 none_kept q keeps [] h = refl
 none_kept q keeps (r ∷ qs) h = by-test (keeps r) (same_statistic q r) h (none_kept q keeps qs) refl
   where
-    by-test : (b s : Bool) → (s || list_any (same_statistic q) qs) ≡ false → (list_any (same_statistic q) qs ≡ false → list_any (same_statistic q) (filter keeps qs) ≡ false)
+    by-test : (b s : Bool) → (s || list_any (same_statistic q) qs) ≡ false
+        → (list_any (same_statistic q) qs ≡ false → list_any (same_statistic q) (filter keeps qs) ≡ false)
         → same_statistic q r ≡ s → list_any (same_statistic q) (cond b (r ∷ filter keeps qs) (filter keeps qs)) ≡ false
     by-test true true k f e = let no : ⊥ = cc in absurd no
     by-test true false k f e = ap (λ (s : Bool). s || list_any (same_statistic q) (filter keeps qs)) e ∙ f k
@@ -145,7 +148,8 @@ pub needed_are_possible : (columns : Fields) (tree : Tree) → no_name_twice (ro
 needed_are_possible columns tree h k =
     let table = empty_table columns in
     let rules = follows_rules (built_zones table) (break_no_rule table h k) in
-    let built : list_all (is_possible columns) (map path_and_stat (built_stats table)) ≡ true = sym (all_seen (is_possible columns) (built_stats table)) ∙ rules.leads in
+    let built : list_all (is_possible columns) (map path_and_stat (built_stats table)) ≡ true =
+    sym (all_seen (is_possible columns) (built_stats table)) ∙ rules.leads in
     needed_all (is_possible columns) (possible_statistics columns) (pruning_over (paths_of (possible_statistics columns)) tree)
     (subst (λ (qs : List Question). list_all (is_possible columns) qs ≡ true) (built_are_possible table) built)
 

@@ -23,7 +23,8 @@ use Rattle.vx_zones.specs.Zoning.{are_shallow, broken_rule, counts_blocks, disti
 use Rattle.vx_laws_stats.specs.BuiltLaws.{path_and_stat}
 use Rattle.vx_calls.specs.BlockZones.{cell_scalar, cell_type, cell_types, told_statistic, zones_told}
 use Rattle.vx_calls.specs.Statistics.{needed_statistics}
-use Rattle.vx_calls.proofs.StatisticLemmas.{passed, distinct_questions, distinct_seen, all_seen, question_type, is_possible, needed_are_possible, needed_are_distinct}
+use Rattle.vx_calls.proofs.StatisticLemmas.{passed, distinct_questions, distinct_seen, all_seen, question_type, is_possible}
+use Rattle.vx_calls.proofs.StatisticLemmas.{needed_are_possible, needed_are_distinct}
 
 abbrev Cells : Fields → List Question → List Column → Type 0
 Cells columns qs cs = column_types cs ≡ map (cell_type columns) qs
@@ -54,7 +55,8 @@ scalars_have t w [] e = refl
 scalars_have t w (v ∷ vs) e =
     and_from (ty_eq t (nullable w)) (values_have (map (cell_scalar t) vs) (Some w)) ((ty_decides t (nullable w)).1 e) (scalars_have t w vs e)
 
-one_has : (t d : Ty) (o : Option Ty) (vs : List Val) → is_some o ≡ true → t ≡ unwrap_or (option_map nullable o) d → values_have (map (cell_scalar t) vs) o ≡ true
+one_has : (t d : Ty) (o : Option Ty) (vs : List Val) → is_some o ≡ true → t ≡ unwrap_or (option_map nullable o) d
+    → values_have (map (cell_scalar t) vs) o ≡ true
 one_has t d None vs h e = let no : ⊥ = cc in absurd no
 one_has t d (Some w) vs h e = scalars_have t w vs e
 

@@ -29,7 +29,8 @@ pub enum CallError {
     Schema(RequestError),
     /// Exactly where the predicate isn't UTF-8.
     NotUtf8,
-    /// Exactly where the statement whose WHERE the predicate is isn't taken over the schema's columns: the line that tells why, without an end of line.
+    /// Exactly where the statement whose WHERE the predicate is isn't taken over the schema's columns: the line that tells why, without an end of line. Its
+    /// places are those of the statement, in which the predicate begins at byte 22.
     Statement(String),
     /// Exactly where the statement is taken and has ORDER BY.
     Ordered,

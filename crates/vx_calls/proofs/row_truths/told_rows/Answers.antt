@@ -21,5 +21,6 @@ returns c =
     let cells = c.args.columns.items in
     let named = c.in_ok-names.ensures.cases ∙ c.names.ensures in
     let told = column (row_type fields) (rows_told fields c.args.rows cells) in
-    let answer = rows_answered fields c.in_ok-names.names cells c.args.rows c.struct_.result named c.requires.types c.requires.rows c.requires.names c.struct_.ensures in
+    let answer =
+    rows_answered fields c.in_ok-names.names cells c.args.rows c.struct_.result named c.requires.types c.requires.rows c.requires.names c.struct_.ensures in
     IfOk-weaker c.made.result (λ made. c.struct_.result ≡ Ok made) (λ made. made ≡ told) (λ made i. made_is c.struct_.result told made answer i) c.made.ensures

@@ -22,7 +22,8 @@ sound-requires c =
     let cells = c.args.cells.now in
     let fields = c.in_ok-fields.ensures.cases ∙ c.columns_of.ensures.columns in
     let stats = c.in_ok-statistics.ensures ∙ ap (λ qs. zip_rows told_statistic qs cells) c.requires.needed in
-    let made : Zones = record { columns = c.in_ok-fields.fields; lengths = c.in_ok-rows.rows.items; stats = map stat_view c.in_ok-statistics.statistics.items } in
+    let made : Zones =
+    record { columns = c.in_ok-fields.fields; lengths = c.in_ok-rows.rows.items; stats = map stat_view c.in_ok-statistics.statistics.items } in
     let same : made ≡ zones_told columns c.args.lengths.now typed.tree cells =
     λ i. record { columns = fields i; lengths = c.in_ok-rows.ensures.items i; stats = stats i } in
     let rules = columns_follow typed.zones c.columns_of.ensures.rules in
