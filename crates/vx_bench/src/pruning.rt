@@ -13,10 +13,10 @@ use std::alloc::Global;
 use std::time::Instant;
 use vx_block_pruning::ruled_out;
 use vx_column::ColumnRef;
-use vx_dtype::{CompareOperator, DType, Mem, Scalar, ScalarValue};
+use vx_dtype::{CompareOperator, DType, Mem, Scalar};
 use vx_eval::{ExprEval, slots_fit};
 use vx_expr::ExprRef;
-use vx_zones::{Scalars, ZoneMap, ZoneStat};
+use vx_zones::{Scalars, ZoneColumn, ZoneMap, ZoneStat};
 
 /// How many blocks a block of the request stands for: no request has many.
 const COPIES: u32 = 1000;
@@ -65,7 +65,7 @@ fn zones_of(alloc: Global, zones: &ZoneMap, lengths: Vec<u32>) -> Result<ZoneMap
     requires { length lengths.items < 2 ^ 32 }
 {
     let columns = fields(zones.dtype())?.clone()?;
-    let stats = many_stats(alloc, zones.stats())?;
+    let stats = many_stats(alloc, zones.stats(alloc)?.as_slice())?;
     match ZoneMap::try_new(alloc, columns, lengths, stats) {
         Ok(zones) => Ok(zones),
         Err(_) => bail!("no zones"),
@@ -111,7 +111,7 @@ fn many_values(alloc: Global, values: &[Scalar]) -> Mem<Scalars> {
     Ok(Scalars::new(made))
 }
 
-/// Times the column calls: the statistics as columns, a comparison of each with a constant, and these joined.
+/// Times the column calls: a comparison of each statistic with a constant, and these joined.
 fn time_calls(rt: &HostRuntime, zones: &ZoneMap) -> Result<()> {
     let start = Instant::now(rt)?;
     let _column = outside(rt.alloc(), zones)?;
@@ -120,7 +120,7 @@ fn time_calls(rt: &HostRuntime, zones: &ZoneMap) -> Result<()> {
 
 /// Where `x` isn't between 10 and 20, or `y` isn't `a`.
 fn outside(alloc: Global, zones: &ZoneMap) -> Result<ColumnRef> {
-    let [x_min, x_max, y_min, y_max] = zones.stats() else {
+    let [x_min, x_max, y_min, y_max] = zones.statistics() else {
         bail!("not four statistics")
     };
     let x = other_number(alloc, x_min, x_max)?;
@@ -128,14 +128,14 @@ fn outside(alloc: Global, zones: &ZoneMap) -> Result<ColumnRef> {
 }
 
 /// Where `x` isn't between 10 and 20.
-fn other_number(alloc: Global, least: &ZoneStat, greatest: &ZoneStat) -> Result<ColumnRef> {
+fn other_number(alloc: Global, least: &ZoneColumn, greatest: &ZoneColumn) -> Result<ColumnRef> {
     let below = bound(alloc, greatest, CompareOperator::Lte, Number(10))?;
     let above = bound(alloc, least, CompareOperator::Gte, Number(20))?;
     either(alloc, &below, &above)
 }
 
 /// Where `y` isn't `a`.
-fn other_text(alloc: Global, least: &ZoneStat, greatest: &ZoneStat) -> Result<ColumnRef> {
+fn other_text(alloc: Global, least: &ZoneColumn, greatest: &ZoneColumn) -> Result<ColumnRef> {
     let above = bound(alloc, least, CompareOperator::Gt, Text("a"))?;
     let below = bound(alloc, greatest, CompareOperator::Lt, Text("a"))?;
     either(alloc, &above, &below)
@@ -144,32 +144,9 @@ fn other_text(alloc: Global, least: &ZoneStat, greatest: &ZoneStat) -> Result<Co
 /// How a statistic compares with a constant.
 fn bound(
     alloc: Global,
-    stat: &ZoneStat,
+    stat: &ZoneColumn,
     operator: CompareOperator,
     constant: Constant,
 ) -> Result<ColumnRef> {
-    let column = column_of(alloc, stat)?;
-    compared(alloc, &column, operator, constant)
-}
-
-/// The values of a statistic as a column.
-fn column_of(alloc: Global, stat: &ZoneStat) -> Result<ColumnRef> {
-    let scalars = stat.values.as_slice();
-    let Some(first) = scalars.first() else {
-        bail!("no blocks")
-    };
-    let dtype = first.dtype().clone()?;
-    match ColumnRef::from_values(alloc, dtype, values_of(alloc, scalars)?.as_slice()) {
-        Ok(column) => Ok(column),
-        Err(_) => bail!("no column"),
-    }
-}
-
-/// What scalars hold.
-fn values_of(alloc: Global, scalars: &[Scalar]) -> Mem<Vec<ScalarValue>> {
-    let mut values = Vec::with_capacity(alloc, scalars.len())?;
-    for scalar in scalars {
-        values.push(scalar.value().clone()?)?;
-    }
-    Ok(values)
+    compared(alloc, stat.values(), operator, constant)
 }

@@ -34,7 +34,7 @@ fn time_table(
         time_call(rt, kernel, zones, blocks)?;
     }
     let built = built(rt.alloc(), zones, blocks)?;
-    println!(rt; "answer {}", sum(built.stats()))?;
+    println!(rt; "answer {}", sum(built.stats(rt.alloc())?.as_slice()))?;
     Ok(())
 }
 

@@ -13,10 +13,8 @@ use Rattle.vx_dtype.specs.Equal.{ty_eq}
 use Rattle.vx_dtype.specs.Values.{Typed}
 use Rattle.vx_semantics.specs.Tables.{ZoneStat, Zones, row_type}
 use Rattle.vx_semantics.specs.Pruning.{is_statistic}
-use Rattle.vx_zones.specs.declared.zones.ZoneStat.{ZoneStat as HeldStat}
 use Rattle.vx_zones.specs.declared.errors.ZoneError.{ZoneError}
 use Rattle.vx_zones.specs.declared.errors.ZoneError.TheVariants as errors
-use Rattle.vx_zones.specs.ZoneViews.{stat_view}
 use Rattle.vx_zones.specs.Zoning.{are_shallow, type_of_statistic, distinct_statistics, counts_blocks, values_have, has_its_type, broken_rule}
 use Rattle.vx_zones.specs.ZoneAnswers.{MakesZones}
 use Rattle.vx_scan.specs.Cutting.{first_zones, later_zones}
@@ -105,11 +103,11 @@ rules_between from up_to zones h = rules_later from (first_zones up_to zones) (r
 -- ---- the statistics one by one
 
 -- each has a value in each of so many blocks
-each_long : (lengths : List ℕ) (n : ℕ) (stats : List HeldStat) → n ≤ length lengths → list_all (counts_blocks lengths) (map stat_view stats) ≡ true
-    → AllByRecursion (λ (z : HeldStat). n ≤ length z.values) stats
+each_long : (lengths : List ℕ) (n : ℕ) (stats : List ZoneStat) → n ≤ length lengths → list_all (counts_blocks lengths) stats ≡ true
+    → AllByRecursion (λ (z : ZoneStat). n ≤ length z.values) stats
 each_long lengths n [] few h = tt
 each_long lengths n (z ∷ stats) few h =
-    let parts = and_parts (counts_blocks lengths (stat_view z)) (list_all (counts_blocks lengths) (map stat_view stats)) h in
+    let parts = and_parts (counts_blocks lengths z) (list_all (counts_blocks lengths) stats) h in
     let long : length z.values ≡ length lengths = eqb-true (length z.values) (length lengths) parts.0 in
     (omega (arith, long, few), each_long lengths n stats few parts.1)
 
@@ -122,24 +120,23 @@ counts_there zones h =
     let doubles = no_refusal (distinct_statistics zones.stats) errors.DuplicateStat _ paths.1 in
     (no_refusal (list_all (counts_blocks zones.lengths) zones.stats) errors.WrongStatCount _ doubles.1).0
 
-pub stats_long : (zones : Zones) (stats : List HeldStat) (n : ℕ) → broken_rule zones ≡ None → map stat_view stats ≡ zones.stats → n ≤ length zones.lengths
-    → All (λ (z : HeldStat). n ≤ length z.values) stats
+pub stats_long : (zones : Zones) (stats : List ZoneStat) (n : ℕ) → broken_rule zones ≡ None → stats ≡ zones.stats → n ≤ length zones.lengths
+    → All (λ (z : ZoneStat). n ≤ length z.values) stats
 stats_long zones stats n h e few =
-    All-from_recursion (λ (z : HeldStat). n ≤ length z.values) stats
+    All-from_recursion (λ (z : ZoneStat). n ≤ length z.values) stats
     (each_long zones.lengths n stats few (ap (list_all (counts_blocks zones.lengths)) e ∙ counts_there zones h))
 
 -- one more of those that were made
-pub one_stat_more : (from up_to : ℕ) (stats within : List HeldStat) (i : ℕ) (stat made : HeldStat) → i < length stats → stat ≡ get_or stats i stat
-    → stat_view made ≡ stat_between from up_to (stat_view stat) → map stat_view within ≡ map (stat_between from up_to) (map stat_view (take i stats))
-    → map stat_view (within ++ made ∷ []) ≡ map (stat_between from up_to) (map stat_view (take (i + 1) stats))
+pub one_stat_more : (from up_to : ℕ) (stats within : List ZoneStat) (i : ℕ) (stat made : ZoneStat) → i < length stats → stat ≡ get_or stats i stat
+    → made ≡ stat_between from up_to stat → within ≡ map (stat_between from up_to) (take i stats)
+    → within ++ made ∷ [] ≡ map (stat_between from up_to) (take (i + 1) stats)
 one_stat_more from up_to stats within i stat made below at here so_far =
     let cut = stat_between from up_to in
     let next = get_or stats i stat in
-    let whole : map cut (map stat_view (take (i + 1) stats)) ≡ map cut (map stat_view (take i stats)) ++ cut (stat_view next) ∷ [] =
-    ap (λ (zs : List HeldStat). map cut (map stat_view zs)) (take_more stats i stat below) ∙ ap (map cut) (map_push stat_view (take i stats) next)
-    ∙ map_push cut (map stat_view (take i stats)) (stat_view next) in
-    let last : stat_view made ≡ cut (stat_view next) = here ∙ ap (λ (z : HeldStat). cut (stat_view z)) at in
-    map_push stat_view within made ∙ (λ k. so_far k ++ last k ∷ []) ∙ sym whole
+    let whole : map cut (take (i + 1) stats) ≡ map cut (take i stats) ++ cut next ∷ [] =
+    ap (map cut) (take_more stats i stat below) ∙ map_push cut (take i stats) next in
+    let last : made ≡ cut next = here ∙ ap cut at in
+    (λ k. so_far k ++ last k ∷ []) ∙ sym whole
 
 stats_sliced : (from up_to : ℕ) (zs : List ZoneStat) → from ≤ up_to → map (stat_between from up_to) zs ≡ map (cut_stat (drop from)) (map (cut_stat (take up_to)) zs)
 stats_sliced from up_to [] h = refl

@@ -1,14 +1,13 @@
 // The statistics of some blocks, one behind another.
-ghost use Rattle.std.specs.Prelude.{◌≡◌, ◌≤◌, length, map, Ok, IfOk, IfErr, slice_range};
+ghost use Rattle.std.specs.Prelude.{◌≡◌, ◌≤◌, length, map, Ok, IfOk, IfErr};
 ghost use Rattle.std.specs.List.{All};
-ghost use Rattle.vx_zones.specs.ZoneViews.{stat_view};
 ghost use Rattle.vx_zones.specs.declared.errors.ZoneError.TheVariants.{NoMemory as OutOfMemory};
 ghost use Rattle.vx_block_parts.specs.Parts.{stat_between, zones_between};
 
 use std::alloc::Global;
-use vx_dtype::{Mem, NoMemory, Scalar};
+use vx_dtype::{Mem, NoMemory};
 use vx_tables::columns_of;
-use vx_zones::{Scalars, ZoneError, ZoneMap, ZoneStat};
+use vx_zones::{ZoneColumn, ZoneError, ZoneMap};
 
 /// The statistics of the blocks from one on, up to another one and without it. They break no rule, since those of all blocks break none.
 pub(crate) fn zones_between(
@@ -22,9 +21,9 @@ pub(crate) fn zones_between(
     ensures { IfOk result (λ within. within ≡ zones_between from up_to zones.now) }
 {
     let lengths = Vec::from_slice(alloc, &zones.lengths()[from..up_to])?;
-    let stats = stats_between(alloc, zones.stats(), from, up_to)?;
+    let stats = stats_between(alloc, zones.statistics(), from, up_to)?;
     let columns = columns_of(zones).clone()?;
-    made(ZoneMap::try_new(alloc, columns, lengths, stats))
+    made(ZoneMap::of_columns(alloc, columns, lengths, stats))
 }
 
 /// The statistics that were made, where nothing but want of memory can be in the way.
@@ -45,10 +44,15 @@ fn made(answer: Result<ZoneMap, ZoneError>) -> Mem<ZoneMap>
 }
 
 /// Each statistic in these blocks.
-fn stats_between(alloc: Global, stats: &[ZoneStat], from: usize, up_to: usize) -> Mem<Vec<ZoneStat>>
+fn stats_between(
+    alloc: Global,
+    stats: &[ZoneColumn],
+    from: usize,
+    up_to: usize,
+) -> Mem<Vec<ZoneColumn>>
     requires order { from ≤ up_to }
     requires within { All (λ z. up_to ≤ length z.values) stats.now }
-    ensures { IfOk result (λ within. map stat_view within.items ≡ map (stat_between from up_to) (map stat_view stats.now)) }
+    ensures { IfOk result (λ within. within.items ≡ map (stat_between from up_to) stats.now) }
 {
     let mut within = Vec::with_capacity(alloc, stats.len())?;
     for i in 0..stats.len() {
@@ -58,23 +62,10 @@ fn stats_between(alloc: Global, stats: &[ZoneStat], from: usize, up_to: usize) -
 }
 
 /// A statistic in these blocks.
-fn stat_between(alloc: Global, stat: &ZoneStat, from: usize, up_to: usize) -> Mem<ZoneStat>
+fn stat_between(alloc: Global, stat: &ZoneColumn, from: usize, up_to: usize) -> Mem<ZoneColumn>
     requires order { from ≤ up_to }
     requires within { up_to ≤ length stat.now.values }
-    ensures { IfOk result (λ within. stat_view within ≡ stat_between from up_to (stat_view stat.now)) }
+    ensures { IfOk result (λ within. within ≡ stat_between from up_to stat.now) }
 {
-    Ok(ZoneStat {
-        path: stat.path.clone()?,
-        stat: stat.stat,
-        values: values_between(alloc, stat.values.as_slice(), from, up_to)?,
-    })
-}
-
-/// The values of a statistic in these blocks.
-fn values_between(alloc: Global, values: &[Scalar], from: usize, up_to: usize) -> Mem<Scalars>
-    requires order { from ≤ up_to }
-    requires within { up_to ≤ length values.now }
-    ensures { IfOk result (λ within. within ≡ slice_range values.now from up_to) }
-{
-    Ok(Scalars::new(Vec::from_clones(alloc, &values[from..up_to])?))
+    stat.run(alloc, from, up_to - from)
 }

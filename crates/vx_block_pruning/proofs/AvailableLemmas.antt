@@ -17,27 +17,26 @@ flagged-mapped keeps [] = refl
 flagged-mapped keeps (x ∷ xs) = ap (λ ys. cond (keeps x) (x ∷ ys) ys) (flagged-mapped keeps xs)
 
 -- the item at a place, where it is flagged, and those behind it
-flagged-next : {X Y : Type 0} (see : X → Y) (bs : List Bool) (xs : List X) (i : ℕ) (x : X) (d : Bool) → length bs ≡ length xs → i < length xs → x ≡ get_or xs i x
-    → flagged (drop i bs) (map see (drop i xs))
-    ≡ cond (get_or bs i d) (see x ∷ flagged (drop (i + 1) bs) (map see (drop (i + 1) xs))) (flagged (drop (i + 1) bs) (map see (drop (i + 1) xs)))
-flagged-next see bs xs i x d many within is =
+flagged-next : {X : Type 0} (bs : List Bool) (xs : List X) (i : ℕ) (x : X) (d : Bool) → length bs ≡ length xs → i < length xs → x ≡ get_or xs i x
+    → flagged (drop i bs) (drop i xs) ≡ cond (get_or bs i d) (x ∷ flagged (drop (i + 1) bs) (drop (i + 1) xs)) (flagged (drop (i + 1) bs) (drop (i + 1) xs))
+flagged-next bs xs i x d many within is =
     let flags : drop i bs ≡ get_or bs i d ∷ drop (i + 1) bs = rw (add-one) (drop-cons bs i d (omega arith)) in
     let items : drop i xs ≡ x ∷ drop (i + 1) xs = rw (add-one) (drop-cons xs i x within ∙ ap (λ y. y ∷ drop (suc i) xs) (sym is)) in
-    λ j. flagged (flags j) (map see (items j))
+    λ j. flagged (flags j) (items j)
 
 -- what is made of the flagged items, one further on
-pub flagged-kept : {X Y Z : Type 0} (make : Y → Z) (see : X → Y) (bs : List Bool) (xs : List X) (i : ℕ) (x : X) (d : Bool) (before : List Z) → length bs ≡ length xs → i < length xs → x ≡ get_or xs i x
-    → get_or bs i d ≡ true → (before ++ make (see x) ∷ []) ++ map make (flagged (drop (i + 1) bs) (map see (drop (i + 1) xs))) ≡ before ++ map make (flagged (drop i bs) (map see (drop i xs)))
-flagged-kept make see bs xs i x d before many within is flag =
-    let rest = flagged (drop (i + 1) bs) (map see (drop (i + 1) xs)) in
-    let next = flagged-next see bs xs i x d many within is ∙ ap (λ (b : Bool). cond b (see x ∷ rest) rest) flag in
-    append_assoc before (make (see x) ∷ []) (map make rest) ∙ ap (λ ys. before ++ map make ys) (sym next)
+pub flagged-kept : {X Y : Type 0} (make : X → Y) (bs : List Bool) (xs : List X) (i : ℕ) (x : X) (d : Bool) (before : List Y) → length bs ≡ length xs → i < length xs → x ≡ get_or xs i x
+    → get_or bs i d ≡ true → (before ++ make x ∷ []) ++ map make (flagged (drop (i + 1) bs) (drop (i + 1) xs)) ≡ before ++ map make (flagged (drop i bs) (drop i xs))
+flagged-kept make bs xs i x d before many within is flag =
+    let rest = flagged (drop (i + 1) bs) (drop (i + 1) xs) in
+    let next = flagged-next bs xs i x d many within is ∙ ap (λ (b : Bool). cond b (x ∷ rest) rest) flag in
+    append_assoc before (make x ∷ []) (map make rest) ∙ ap (λ ys. before ++ map make ys) (sym next)
 
-pub flagged-left : {X Y Z : Type 0} (make : Y → Z) (see : X → Y) (bs : List Bool) (xs : List X) (i : ℕ) (x : X) (d : Bool) (before : List Z) → length bs ≡ length xs → i < length xs → x ≡ get_or xs i x
-    → get_or bs i d ≡ false → before ++ map make (flagged (drop (i + 1) bs) (map see (drop (i + 1) xs))) ≡ before ++ map make (flagged (drop i bs) (map see (drop i xs)))
-flagged-left make see bs xs i x d before many within is flag =
-    let rest = flagged (drop (i + 1) bs) (map see (drop (i + 1) xs)) in
-    let next = flagged-next see bs xs i x d many within is ∙ ap (λ (b : Bool). cond b (see x ∷ rest) rest) flag in
+pub flagged-left : {X Y : Type 0} (make : X → Y) (bs : List Bool) (xs : List X) (i : ℕ) (x : X) (d : Bool) (before : List Y) → length bs ≡ length xs → i < length xs → x ≡ get_or xs i x
+    → get_or bs i d ≡ false → before ++ map make (flagged (drop (i + 1) bs) (drop (i + 1) xs)) ≡ before ++ map make (flagged (drop i bs) (drop i xs))
+flagged-left make bs xs i x d before many within is flag =
+    let rest = flagged (drop (i + 1) bs) (drop (i + 1) xs) in
+    let next = flagged-next bs xs i x d many within is ∙ ap (λ (b : Bool). cond b (x ∷ rest) rest) flag in
     ap (λ ys. before ++ map make ys) (sym next)
 
 map-twice : {X Y Z : Type 0} (g : Y → Z) (f : X → Y) (xs : List X) → map g (map f xs) ≡ map (λ x. g (f x)) xs

@@ -1,4 +1,3 @@
-pub mod TruthLemmas
 pub mod AvailableLemmas
 pub mod RunLemmas
 pub mod ColumnLemmas

@@ -1,12 +1,14 @@
 -- The pruning expression of a filter over the table of statistics: it can be evaluated there, and what its column says.
-use Rattle.std.proofs.Common.{◌≡◌, ℕ, ◌<◌, refl, ap, sym, ◌∙◌, Bool, true, false, Option, Some, None, subst, List, [], ◌∷◌, map, Ok}
+use Rattle.std.proofs.Common.{◌≡◌, ℕ, ◌<◌, refl, ap, sym, ◌∙◌, Bool, true, false, Option, Some, None, subst, List, [], ◌∷◌, map, Result, Ok}
 use Rattle.std.specs.Prelude.{length, MatchOption}
 use Rattle.std.specs.List.{range_with_len}
+use Rattle.vx_dtype.specs.declared.Nullability.{Nullability}
 use Rattle.vx_dtype.specs.Types.{Ty, bool_ty}
+use Rattle.vx_dtype.specs.TypeRules.{is_bool_ty}
 use Rattle.vx_dtype.specs.Values.{Val}
 use Rattle.vx_dtype.specs.Logic.{is_true_val}
 use Rattle.vx_expr.specs.Trees.{Tree}
-use Rattle.vx_semantics.specs.Typing.{and_then, unless, type_mismatch}
+use Rattle.vx_semantics.specs.Typing.{Refusal, and_then, unless, type_mismatch}
 use Rattle.vx_semantics.specs.Meaning.{Slots, mean}
 use Rattle.vx_semantics.specs.Slots.{slots_fit}
 use Rattle.vx_semantics.specs.Breaks.{by_sum, by_cast}
@@ -14,6 +16,7 @@ use Rattle.vx_semantics.specs.Tables.{Zones, row_type}
 use Rattle.vx_passes.specs.Catalogs.{available_paths}
 use Rattle.vx_passes.specs.PruningTables.{Pruning, pruning_over, pruning_fields, pruning_row}
 use Rattle.vx_column.specs.Columns.{Column}
+use Rattle.vx_laws.proofs.Inverting.{Ok-same}
 use Rattle.vx_laws_pruning.specs.PruningLaws.{IsPrunable}
 use Rattle.vx_laws_pruning.specs.PruningTypes.{IsBooleanOver}
 use Rattle.vx_laws_pruning.proofs.Calmness.{is_calm, none_breaks}
@@ -40,7 +43,7 @@ pub gives-column : (zones : Zones) (slots : Slots) (e : Tree) (table : Column) (
 gives-column zones slots e table held h blocks p q =
     subst (λ (x : Ty × Slots). GivesColumn x.0 x.1 table.rows e) (λ i. (sym p i, sym q i))
     (record {
-      ty = bool_ty (h.typed blocks).null;
+      null = (h.typed blocks).null;
       typed =
           ap (λ r. and_then r (λ u. unless (slots_fit slots e) type_mismatch (Ok u))) (h.typed blocks).typed
           ∙ ap (λ (b : Bool). unless b type_mismatch (Ok (bool_ty (h.typed blocks).null))) h.fitting;
@@ -58,3 +61,7 @@ pub column-truths : (zones : Zones) (slots : Slots) (first count : ℕ) (e : Tre
 column-truths zones slots first count e table held rows p q r =
     ap (map is_true_val) (r ∙ (λ i. map (λ row. mean (p i).ty (q i) row e) (p i).rows))
     ∙ truths-mapped is_true_val (λ row. mean (row_type (pruning_fields zones)) slots row e) (pruning_row zones) (range_with_len first count)
+
+-- a column of an expression of a boolean type is boolean
+pub is-boolean : (answer : Result Ty Refusal) (t : Ty) (null : Nullability) → answer ≡ Ok (bool_ty null) → answer ≡ Ok t → is_bool_ty t ≡ true
+is-boolean answer t null h e = ap is_bool_ty (Ok-same answer t (bool_ty null) e h)

@@ -1,17 +1,11 @@
 -- Runs: so many items of a list from a place on, and so many numbers from one on.
 use Rattle.std.proofs.Common.{◌≡◌, ℕ, zero, suc, ◌+◌, ◌-◌, ◌<◌, ◌≤◌, refl, ap, sym, ◌∙◌, Bool, true, false, List, [], ◌∷◌, map, take, drop, length, length-take, length-drop, arith}
-use Rattle.std.specs.Prelude.{slice_get, slice_range}
-use Rattle.std.specs.List.{list_all, range_with_len}
+use Rattle.std.specs.Prelude.{slice_get}
+use Rattle.std.specs.List.{range_with_len}
 use Rattle.std.proofs.Math.ListN.{replicate}
-use Rattle.std.proofs.lemmas.Bool.{and_parts, and_from}
 use Rattle.vx_semantics.specs.Tables.{numbered_from}
 
 -- ---- items
-
-pub run-sliced : {X : Type 0} (xs : List X) (first count : ℕ) → slice_range xs first (first + count) ≡ take count (drop first xs)
-run-sliced {X} xs first count =
-    let long : first + count - first ≡ count = omega arith in
-    ap (λ (n : ℕ). take n (drop first xs)) long
 
 pub run-length : {X : Type 0} (xs : List X) (first count : ℕ) → first + count ≤ length xs → length (take count (drop first xs)) ≡ count
 run-length xs first count h =
@@ -33,22 +27,6 @@ dropped (suc n) (x ∷ xs) i (suc j) e = dropped n xs i j (omega (arith, e))
 
 pub run-get : {X : Type 0} (xs : List X) (first count i j : ℕ) → i < count → first + i ≡ j → slice_get (take count (drop first xs)) i ≡ slice_get xs j
 run-get xs first count i j h e = taken count (drop first xs) i h ∙ dropped first xs i j e
-
-all-taken : {X : Type 0} (holds : X → Bool) (n : ℕ) (xs : List X) → list_all holds xs ≡ true → list_all holds (take n xs) ≡ true
-all-taken holds zero xs h = refl
-all-taken holds (suc n) [] h = refl
-all-taken holds (suc n) (x ∷ xs) h =
-    let parts = and_parts (holds x) (list_all holds xs) h in
-    and_from (holds x) (list_all holds (take n xs)) parts.0 (all-taken holds n xs parts.1)
-
-all-dropped : {X : Type 0} (holds : X → Bool) (n : ℕ) (xs : List X) → list_all holds xs ≡ true → list_all holds (drop n xs) ≡ true
-all-dropped holds zero xs h = h
-all-dropped holds (suc n) [] h = refl
-all-dropped holds (suc n) (x ∷ xs) h = all-dropped holds n xs (and_parts (holds x) (list_all holds xs) h).1
-
--- what holds of all items holds of those of a run
-pub run-all : {X : Type 0} (holds : X → Bool) (xs : List X) (first count : ℕ) → list_all holds xs ≡ true → list_all holds (take count (drop first xs)) ≡ true
-run-all holds xs first count h = all-taken holds count (drop first xs) (all-dropped holds first xs h)
 
 -- ---- numbers
 

@@ -5,6 +5,7 @@ use Rattle.std.specs.List.{All, AllByRecursion, filter, list_all, range_with_len
 use Rattle.std.proofs.lemmas.Bool.{and_parts, and_from}
 use Rattle.std.proofs.lemmas.Bool.Decides.{Decides-eqb}
 use Rattle.std.proofs.lemmas.List.{length-map}
+use Rattle.std.proofs.lemmas.List.Elements.{All-from_recursion}
 use Rattle.vx_dtype.specs.declared.PType.TheVariants.{U64}
 use Rattle.vx_dtype.specs.declared.Nullability.TheVariants.{Nullable}
 use Rattle.vx_dtype.specs.Types.{Bytes, Ty, int_ty, Fields, field}
@@ -16,9 +17,7 @@ use Rattle.vx_dtype.specs.Zipped.{zipped}
 use Rattle.vx_semantics.specs.Tables.{Zones, ZoneStat, row_type}
 use Rattle.vx_semantics.specs.Pruning.{available}
 use Rattle.vx_passes.specs.PruningTables.{available_statistics, first_type, statistics_fields, statistics_members, value_or_null, pruning_fields, pruning_row}
-use Rattle.vx_zones.specs.Zoning.{scalars_fit, counts_blocks, values_have, has_its_type, type_of_statistic}
-use Rattle.vx_zones.specs.ZoneViews.{stat_view}
-use Rattle.vx_zones.specs.declared.zones.ZoneStat.{ZoneStat as HeldStat}
+use Rattle.vx_zones.specs.Zoning.{counts_blocks}
 use Rattle.vx_column.specs.declared.errors.ColumnError.{ColumnError}
 use Rattle.vx_column.specs.declared.errors.ColumnError.TheVariants.{WrongLength, DuplicateField}
 use Rattle.vx_column.specs.Columns.{Column, column}
@@ -26,9 +25,9 @@ use Rattle.vx_column.specs.Answers.{AnswersColumn, unless}
 use Rattle.vx_column.specs.StructColumns.{column_types, all_have_rows, lengths_agree, row_members, struct_row, made_struct, struct_column}
 use Rattle.vx_laws_pruning.specs.PruningLaws.{AreAccepted}
 use Rattle.vx_laws_pruning.proofs.Accepted.{follows_rules}
-use Rattle.vx_laws_pruning.proofs.ColumnTypes.{first-plain, distinct-row}
+use Rattle.vx_laws_pruning.proofs.ColumnTypes.{distinct-row}
 use Rattle.vx_block_pruning.specs.Available.{flagged, name_of, TellsAvailable}
-use Rattle.vx_block_pruning.specs.StatisticColumns.{column_type, column_of, IsUniform, HasRunOf}
+use Rattle.vx_block_pruning.specs.StatisticColumns.{column_type, column_of}
 use Rattle.vx_block_pruning.specs.PruningTruths.{pruning_table}
 use Rattle.vx_block_pruning.proofs.RunLemmas.{run-length, run-get, same-runs}
 
@@ -101,56 +100,20 @@ table-made zones first count fs cs a w e f =
     ∙ (ap (λ (b : Bool). unless b WrongLength (unless (distinct_names names) DuplicateField (Ok (made_struct names columns count None)))) agree
     ∙ (ap (λ (b : Bool). unless b DuplicateField (Ok (made_struct names columns count None))) distinct ∙ ap Ok same))
 
--- the values of a statistic are of one type
-one-type : (ss : List Typed) (o : Option Ty) → values_have ss o ≡ true → list_all (λ s. ty_eq s.ty (first_type ss (int_ty U64 Nullable))) ss ≡ true
-one-type ss None h = let no : ⊥ = cc in absurd no
-one-type [] (Some w) h = refl
-one-type (s ∷ ss) (Some w) h =
-    let parts = and_parts (ty_eq s.ty (with_nullability w Nullable)) (list_all (λ (x : Typed). ty_eq x.ty (with_nullability w Nullable)) ss) h in
-    let same = (ty_decides s.ty (with_nullability w Nullable)).0 parts.0 in
-    subst (λ (t : Ty). list_all (λ (x : Typed). ty_eq x.ty t) (s ∷ ss) ≡ true) (sym same) h
+-- each statistic of accepted zones has a value in each block of a run
+many-runs : (lengths : List ℕ) (zs : List ZoneStat) (first count : ℕ) → list_all (counts_blocks lengths) zs ≡ true → first + count ≤ length lengths
+    → AllByRecursion (λ (z : ZoneStat). first + count ≤ length z.values) zs
+many-runs lengths [] first count h w = tt
+many-runs lengths (z ∷ zs) first count h w =
+    let parts = and_parts (counts_blocks lengths z) (list_all (counts_blocks lengths) zs) h in
+    let same : length z.values ≡ length lengths = (Decides-eqb (length z.values) (length lengths)).0 parts.0 in
+    (omega (arith, same, w), many-runs lengths zs first count parts.1 w)
 
-all-uniform : (columns : Fields) (zs : List ZoneStat) → list_all (has_its_type columns) zs ≡ true → list_all (λ z. scalars_fit z.values) zs ≡ true → AllByRecursion IsUniform zs
-all-uniform columns [] h k = tt
-all-uniform columns (z ∷ zs) h k =
-    let types = and_parts (has_its_type columns z) (list_all (has_its_type columns) zs) h in
-    let fit = and_parts (scalars_fit z.values) (list_all (λ (x : ZoneStat). scalars_fit x.values) zs) k in (
-      record { one_type = one-type z.values (type_of_statistic columns z) types.0; fitting = fit.0; distinct = first-plain columns z types.0 },
-      all-uniform columns zs types.1 fit.1,
-    )
-
-at-each : {X Y : Type 0} (P : Y → Type 0) (f : X → Y) (xs : List X) → AllByRecursion P (map f xs) → All (λ x. P (f x)) xs
-at-each P f [] h k d below = absurd (omega (arith, below))
-at-each P f (x ∷ xs) h zero d below = h.0
-at-each P f (x ∷ xs) h (suc k) d below = at-each P f xs h.1 k d (omega (arith, below))
-
--- each statistic of accepted zones is so
-each-uniform : (zones : Zones) (stats : List HeldStat) → AreAccepted zones → map stat_view stats ≡ zones.stats → All (λ s. IsUniform (stat_view s)) stats
-each-uniform zones stats a e =
-    at-each IsUniform stat_view stats
-    (subst (λ (zs : List ZoneStat). AllByRecursion IsUniform zs) (sym e) (all-uniform zones.columns zones.stats (follows_rules zones a.lawful).have a.fitting))
-
--- and has a value in each block of a run
-many-runs : (lengths : List ℕ) (stats : List HeldStat) (first count : ℕ) → list_all (counts_blocks lengths) (map stat_view stats) ≡ true → first + count ≤ length lengths
-    → All (λ s. IsUniform (stat_view s)) stats → All (λ s. HasRunOf first count (stat_view s)) stats
-many-runs lengths stats first count h w uniform i d below =
-    record { uniform = uniform i d below; within = counted stats i d below h }
-  where
-    counted : (ss : List HeldStat) (j : ℕ) (x : HeldStat) → j < length ss → list_all (counts_blocks lengths) (map stat_view ss) ≡ true
-        → first + count ≤ length (stat_view (get_or ss j x)).values
-    counted [] j x l c = absurd (omega (arith, l))
-    counted (s ∷ ss) zero x l c =
-        let parts = and_parts (counts_blocks lengths (stat_view s)) (list_all (counts_blocks lengths) (map stat_view ss)) c in
-        let same : length (stat_view s).values ≡ length lengths = (Decides-eqb (length (stat_view s).values) (length lengths)).0 parts.0 in
-        subst (λ (n : ℕ). first + count ≤ n) (sym same) w
-    counted (s ∷ ss) (suc j) x l c =
-        let parts = and_parts (counts_blocks lengths (stat_view s)) (list_all (counts_blocks lengths) (map stat_view ss)) c in
-        counted ss j x (omega (arith, l)) parts.1
-
-pub each-has_run : (zones : Zones) (stats : List HeldStat) (first count : ℕ) → AreAccepted zones → map stat_view stats ≡ zones.stats → first + count ≤ length zones.lengths
-    → All (λ s. HasRunOf first count (stat_view s)) stats
+pub each-has_run : (zones : Zones) (stats : List ZoneStat) (first count : ℕ) → AreAccepted zones → stats ≡ zones.stats → first + count ≤ length zones.lengths
+    → All (λ (z : ZoneStat). first + count ≤ length z.values) stats
 each-has_run zones stats first count a e w =
-    many-runs zones.lengths stats first count (ap (list_all (counts_blocks zones.lengths)) e ∙ (follows_rules zones a.lawful).counts) w (each-uniform zones stats a e)
+    All-from_recursion (λ (z : ZoneStat). first + count ≤ length z.values) stats
+    (many-runs zones.lengths stats first count (ap (list_all (counts_blocks zones.lengths)) e ∙ (follows_rules zones a.lawful).counts) w)
 
 -- what is answered for the columns of the flagged statistics tells the table
 pub table-told : (zones : Zones) (zs : List ZoneStat) (flags : List Bool) (names : List Bytes) (cs : List Column) (first count : ℕ) (answer : Result Column ColumnError)

@@ -2,8 +2,9 @@
 -- The table of the available statistics in a run of blocks, a row for each, and the truths of an expression over it.
 use Rattle.std.specs.Prelude.{◌≡◌, ℕ, ◌<◌, Bool, true, false, List, map, length, Ok}
 use Rattle.std.specs.List.{range_with_len}
-use Rattle.vx_dtype.specs.Types.{Ty}
-use Rattle.vx_dtype.specs.Values.{Raw, raw_bool, Val}
+use Rattle.vx_dtype.specs.declared.Nullability.{Nullability}
+use Rattle.vx_dtype.specs.Types.{Ty, bool_ty}
+use Rattle.vx_dtype.specs.Values.{Val}
 use Rattle.vx_dtype.specs.Logic.{is_true_val}
 use Rattle.vx_expr.specs.Trees.{Tree}
 use Rattle.vx_semantics.specs.Meaning.{Slots, mean}
@@ -31,14 +32,9 @@ pub record IsEvaluable (zones : Zones) (slots : Slots) (e : Tree) : Type 0 where
   pub fitting : slots_fit slots e ≡ true
   pub unbroken : (c : Cause) (rows : List Val) → some_node_breaks c (row_type (pruning_fields zones)) slots rows e ≡ false
 
--- an expression that has a column over rows: it has a type, its slots fit, and no node breaks
+-- an expression that has a boolean column over rows: its type is boolean, its slots fit, and no node breaks
 pub record GivesColumn (t : Ty) (slots : Slots) (rows : List Val) (e : Tree) : Type 0 where
-  pub ty : Ty
-  pub typed : checked_type t slots e ≡ Ok ty
+  pub null : Nullability
+  pub typed : checked_type t slots e ≡ Ok (bool_ty null)
   pub summed : some_node_breaks by_sum t slots rows e ≡ false
   pub cast : some_node_breaks by_cast t slots rows e ≡ false
-
--- whether a raw value is the boolean true
-abbrev pub is_raw_true : Raw → Bool
-is_raw_true (raw_bool b) = b
-is_raw_true _ = false

@@ -5,22 +5,21 @@ ghost use Rattle.std.specs.Cmp.Lexicographic.{slice_cmp};
 ghost use Rattle.std.specs.List.{filter};
 ghost use Rattle.std.specs.Ordering.{nat_cmp};
 ghost use Rattle.vx_prune.specs.Standing.{is_once};
-ghost use Rattle.vx_zones.specs.ZoneViews.{stat_view};
 ghost use Rattle.vx_block_pruning.specs.Available.{name_of};
 
 use std::alloc::Global;
 use std::collections::BTreeMap;
 use vx_dtype::{FieldName, Mem};
-use vx_prune::{field_path_stat_field_name, stands_once};
-use vx_zones::ZoneStat;
+use vx_prune::stands_once;
+use vx_zones::ZoneColumn;
 
 /// The joined names of statistics, in order.
-pub(crate) fn joined_names(alloc: Global, stats: &[ZoneStat]) -> Mem<Vec<FieldName>>
-    ensures { IfOk result (λ names. names.items ≡ map name_of (map stat_view stats.now)) }
+pub(crate) fn joined_names(alloc: Global, stats: &[ZoneColumn]) -> Mem<Vec<FieldName>>
+    ensures { IfOk result (λ names. names.items ≡ map name_of stats.now) }
 {
     let mut names = Vec::with_capacity(alloc, stats.len())?;
     for stat in stats {
-        names.push(field_path_stat_field_name(alloc, &stat.path, stat.stat)?)?;
+        names.push(stat.name().clone()?)?;
     }
     Ok(names)
 }

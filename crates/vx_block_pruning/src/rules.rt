@@ -39,7 +39,7 @@ impl PruningRule {
         requires typed { (u : Ty) × (typed_of (row_type zones.now.columns) filter.now ≡ Ok u) }
         ensures { IfOk result (λ rule. IsRuleOf zones.now filter.now rule) }
     {
-        let joined = joined_names(alloc, zones.stats())?;
+        let joined = joined_names(alloc, zones.statistics())?;
         let all = joined.as_slice();
         let noted = standing(alloc, all)?;
         let available = alone(alloc, all, &noted)?;
@@ -89,7 +89,6 @@ impl PruningRule {
         requires blocks { first + count ≤ length zones.now.lengths }
         ensures { IfOk result (λ flags. flags.items ≡ pruning_truths zones.now slots.now first count pruning.now) }
     {
-        // Where the table has no blocks, statistics have no values to take their types from.
         if count == 0 {
             return Ok(Vec::new(alloc));
         }

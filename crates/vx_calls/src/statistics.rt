@@ -5,7 +5,6 @@ ghost use Rattle.std.specs.String.{string_bytes};
 ghost use Rattle.vx_dtype.specs.Types.{Bytes};
 ghost use Rattle.vx_passes.specs.PruningTables.{Pruning};
 ghost use Rattle.vx_prune.specs.Required.{PrunesBy, is_required};
-ghost use Rattle.vx_zones.specs.ZoneViews.{stat_view};
 ghost use Rattle.vx_laws_stats.specs.BuiltLaws.{path_and_stat};
 ghost use Rattle.vx_calls.specs.Answers.{told_bytes};
 ghost use Rattle.vx_calls.specs.Filters.{IsFilter};
@@ -24,7 +23,7 @@ use vx_expr::ExprRef;
 use vx_prune::{RequiredStats, checked_pruning_expr, is_required};
 use vx_stats::{StatsError, build_stats};
 use vx_tables::columns_of;
-use vx_zones::{ZoneMap, ZoneStat};
+use vx_zones::{ZoneColumn, ZoneMap};
 
 /// A statistic that the pruning of a filter needs.
 #[derive(Debug, Drop)]
@@ -61,17 +60,17 @@ fn possible_statistics(alloc: Global, zones: &ZoneMap) -> Mem<ZoneMap>
 /// Those of statistics that are required.
 fn required_among(
     alloc: Global,
-    statistics: &[ZoneStat],
+    statistics: &[ZoneColumn],
     required: &RequiredStats,
 ) -> Mem<Vec<Needed>>
     ensures { IfOk result (λ needed. map needed_view needed.items
-        ≡ filter (is_required required.now) (map path_and_stat (map stat_view statistics.now))) }
+        ≡ filter (is_required required.now) (map path_and_stat statistics.now)) }
 {
     let mut needed = Vec::new(alloc);
     for statistic in statistics {
-        if is_required(required, &statistic.path, statistic.stat) {
-            let path = statistic.path.clone()?;
-            let stat = statistic.stat;
+        if is_required(required, statistic.path(), statistic.stat()) {
+            let path = statistic.path().clone()?;
+            let stat = statistic.stat();
             needed.push(Needed { path, stat })?;
         }
     }
@@ -81,11 +80,11 @@ fn required_among(
 /// Those of statistics that a pruning expression and its making need, where there is one.
 fn needed_among(
     alloc: Global,
-    statistics: &[ZoneStat],
+    statistics: &[ZoneColumn],
     pruning: Option<(ExprRef, RequiredStats)>,
 ) -> Mem<Vec<Needed>>
     ensures { (told : Option Pruning) → PrunesBy told pruning
-        → IfOk result (λ needed. map needed_view needed.items ≡ spec.needed_among (map path_and_stat (map stat_view statistics.now)) told) }
+        → IfOk result (λ needed. map needed_view needed.items ≡ spec.needed_among (map path_and_stat statistics.now) told) }
 {
     match pruning {
         Some((_tree, required)) => required_among(alloc, statistics, &required),
@@ -100,7 +99,7 @@ pub(crate) fn needed_statistics(alloc: Global, typed: &TypedFilter) -> Mem<Vec<N
     let possible = possible_statistics(alloc, &typed.zones)?;
     let available = possible.available(alloc)?;
     let pruning = checked_pruning_expr(alloc, &typed.tree, &available)?;
-    needed_among(alloc, possible.stats(), pruning)
+    needed_among(alloc, possible.statistics(), pruning)
 }
 
 /// A statistic as a text: an object of the names of its path and of its own name.

@@ -8,7 +8,7 @@ ghost use Rattle.vx_column.specs.Columns.{row_at, zip_rows};
 ghost use Rattle.vx_column.specs.StructColumns.{all_have_rows, column_types};
 ghost use Rattle.vx_laws_pruning.specs.PruningTypes.{IsBooleanOver};
 ghost use Rattle.vx_semantics.specs.Tables.{row_type};
-ghost use Rattle.vx_zones.specs.LeafTypes.{leaf_in};
+ghost use Rattle.vx_zones.specs.LeafTypes.{plain_from};
 ghost use Rattle.vx_zones.specs.ZoneViews.{stat_view};
 ghost use Rattle.vx_arrays.specs.Bitmaps.{bitmap_of};
 ghost use Rattle.vx_block_pruning.specs.BlocksRuledOut.{blocks_ruled_out};
@@ -24,39 +24,34 @@ use crate::filters::{TypedFilter, typed_filter};
 use crate::statistics::{Needed, needed_statistics};
 use crate::zone_maps::sound;
 use std::alloc::Global;
-use std::collections::HashMap;
 use vx_arrays::bitmap;
 use vx_block_pruning::ruled_out;
 use vx_column::ColumnRef;
-use vx_dtype::{DType, FieldPath, Mem, NoMemory, Nullability, PType, Scalar};
+use vx_dtype::{DType, Mem, NoMemory, Nullability, PType, Scalar};
 use vx_expr::ExprRef;
 use vx_tables::columns_of;
-use vx_zones::{Scalars, ZoneMap, ZoneStat, leaf_types, type_of_values};
+use vx_zones::{Scalars, ZoneMap, ZoneStat, type_of_values};
 
 /// There may be fewer blocks than so many.
 const MOST_BLOCKS: usize = 4_294_967_296;
 
-/// The type of the cells of a statistic, by the plain types of paths.
-fn cell_type(leaves: &HashMap<FieldPath, DType>, needed: &Needed) -> Mem<DType>
-    ensures { IfOk result (λ dtype. type_view dtype ≡ cell_type_by (leaf_in leaves.now) (needed_view needed.now)) }
+/// The type of the cells of a statistic, by the row's type.
+fn cell_type(row: &DType, needed: &Needed) -> Mem<DType>
+    ensures { IfOk result (λ dtype. type_view dtype ≡ cell_type_by (plain_from (type_view row.now)) (needed_view needed.now)) }
 {
-    match type_of_values(leaves, &needed.path, needed.stat)? {
+    match type_of_values(row, &needed.path, needed.stat)? {
         Some(dtype) => Ok(dtype),
         None => Ok(DType::Primitive(PType::U64, Nullability::Nullable)),
     }
 }
 
-/// The types of the cells of statistics, by the plain types of paths.
-fn cell_types_by(
-    alloc: Global,
-    leaves: &HashMap<FieldPath, DType>,
-    needed: &[Needed],
-) -> Mem<Vec<DType>>
-    ensures { IfOk result (λ types. map type_view types.items ≡ map (cell_type_by (leaf_in leaves.now)) (map needed_view needed.now)) }
+/// The types of the cells of statistics, by the row's type.
+fn cell_types_by(alloc: Global, row: &DType, needed: &[Needed]) -> Mem<Vec<DType>>
+    ensures { IfOk result (λ types. map type_view types.items ≡ map (cell_type_by (plain_from (type_view row.now))) (map needed_view needed.now)) }
 {
     let mut types = Vec::new(alloc);
     for statistic in needed {
-        types.push(cell_type(leaves, statistic)?)?;
+        types.push(cell_type(row, statistic)?)?;
     }
     Ok(types)
 }
@@ -65,8 +60,7 @@ fn cell_types_by(
 fn cell_types(alloc: Global, zones: &ZoneMap, needed: &[Needed]) -> Mem<Vec<DType>>
     ensures { IfOk result (λ types. map type_view types.items ≡ map (cell_type zones.now.columns) (map needed_view needed.now)) }
 {
-    let leaves = leaf_types(alloc, columns_of(zones))?;
-    cell_types_by(alloc, &leaves, needed)
+    cell_types_by(alloc, zones.dtype(), needed)
 }
 
 /// The cell of a column of a plain type at a row as a scalar.

@@ -10,8 +10,8 @@ use vx_block_pruning::ruled_out;
 use vx_dtype::{DType, Mem};
 use vx_eval::{ExprEval, slots_fit};
 use vx_expr::{DisplayAs, ExprRef};
-use vx_prune::{RequiredStats, checked_pruning_expr, field_path_stat_field_name, is_required};
-use vx_zones::{ZoneMap, ZoneStat};
+use vx_prune::{RequiredStats, checked_pruning_expr, is_required};
+use vx_zones::{ZoneColumn, ZoneMap};
 
 /// The pruning expression of the filter over the available statistics, or `-`.
 pub(crate) fn pruning(alloc: Global, case: &Opened) -> Mem<String> {
@@ -26,18 +26,17 @@ pub(crate) fn pruning(alloc: Global, case: &Opened) -> Mem<String> {
 pub(crate) fn required(alloc: Global, case: &Opened) -> Mem<String> {
     let available = case.zones.available(alloc)?;
     match checked_pruning_expr(alloc, &case.filter, &available)? {
-        Some((_pruning, required)) => required_names(alloc, case.zones.stats(), &required),
+        Some((_pruning, required)) => required_names(alloc, case.zones.statistics(), &required),
         None => Ok(String::new(alloc)),
     }
 }
 
 /// The joined names of those statistics that are required, each ended by `;`.
-fn required_names(alloc: Global, stats: &[ZoneStat], required: &RequiredStats) -> Mem<String> {
+fn required_names(alloc: Global, stats: &[ZoneColumn], required: &RequiredStats) -> Mem<String> {
     let mut text = String::new(alloc);
     for stat in stats {
-        if is_required(required, &stat.path, stat.stat) {
-            let name = field_path_stat_field_name(alloc, &stat.path, stat.stat)?;
-            text.push_str(name.as_str())?;
+        if is_required(required, stat.path(), stat.stat()) {
+            text.push_str(stat.name().as_str())?;
             text.push_str(";")?;
         }
     }

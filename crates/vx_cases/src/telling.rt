@@ -6,9 +6,8 @@ use std::alloc::Global;
 use vx_column::ColumnRef;
 use vx_display::push_row;
 use vx_dtype::Mem;
-use vx_prune::field_path_stat_field_name;
 use vx_request::{RequestError, ToldTable, decode_table};
-use vx_zones::ZoneStat;
+use vx_zones::ZoneColumn;
 
 /// The table that the input of a case tells, or its refusal.
 pub(crate) fn table_of(alloc: Global, case: &Case<'_>) -> Result<String, CaseError> {
@@ -28,7 +27,7 @@ fn table_text(alloc: Global, table: &ToldTable) -> Mem<String> {
             push_columns(alloc, &mut text, columns.as_slice())?;
         }
     }
-    for stat in table.zones.stats() {
+    for stat in table.zones.statistics() {
         push_stat(alloc, &mut text, stat)?;
     }
     Ok(text)
@@ -44,10 +43,10 @@ fn push_columns(alloc: Global, text: &mut String, columns: &[ColumnRef]) -> Mem<
 }
 
 /// Adds the joined name and the values of a statistic.
-fn push_stat(alloc: Global, text: &mut String, stat: &ZoneStat) -> Mem<()> {
-    let name = field_path_stat_field_name(alloc, &stat.path, stat.stat)?;
-    text.push_str(format!(in alloc; " {name}")?.as_str())?;
-    for value in stat.values.as_slice() {
+fn push_stat(alloc: Global, text: &mut String, stat: &ZoneColumn) -> Mem<()> {
+    text.push_str(format!(in alloc; " {}", stat.name())?.as_str())?;
+    for block in 0..stat.blocks() {
+        let value = stat.scalar_at(alloc, block)?;
         text.push_str(" ")?;
         push_row(text, value.dtype(), value.value())?;
     }

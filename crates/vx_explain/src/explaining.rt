@@ -66,7 +66,7 @@ fn explanation(
 {
     let pruning = checked_pruning_expr(alloc, filter, &zones.available(alloc)?)?;
     let pruned = pruning_text(alloc, &pruning)?;
-    let required = required_text(alloc, zones.stats(), &pruning)?;
+    let required = required_text(alloc, zones.statistics(), &pruning)?;
     let filter_text = filter.compact(alloc)?;
     let filter_split = both.0.split();
     let filter_parts = parts_text(alloc, filter_split)?;

@@ -4,7 +4,6 @@ ghost use Rattle.std.specs.List.{filter};
 ghost use Rattle.std.specs.String.{string_bytes};
 ghost use Rattle.vx_dtype.specs.Texts.{quoted_text};
 ghost use Rattle.vx_semantics.specs.Tables.{joined_name};
-ghost use Rattle.vx_zones.specs.ZoneViews.{stat_view};
 ghost use Rattle.vx_display.specs.Spaced.{spaced};
 ghost use Rattle.vx_passes.specs.PruningTables.{Pruning};
 ghost use Rattle.vx_prune.specs.Required.{PrunesBy, is_required};
@@ -14,8 +13,8 @@ use std::alloc::Global;
 use vx_display::spaced;
 use vx_dtype::{Mem, Quoted};
 use vx_expr::ExprRef;
-use vx_prune::{RequiredStats, field_path_stat_field_name, is_required};
-use vx_zones::ZoneStat;
+use vx_prune::{RequiredStats, is_required};
+use vx_zones::ZoneColumn;
 
 /// The compact text of a pruning expression, or `-` where there is none.
 pub(crate) fn pruning_text(alloc: Global, pruning: &Option<(ExprRef, RequiredStats)>) -> Mem<String>
@@ -31,11 +30,11 @@ pub(crate) fn pruning_text(alloc: Global, pruning: &Option<(ExprRef, RequiredSta
 /// none or there is none.
 pub(crate) fn required_text(
     alloc: Global,
-    stats: &[ZoneStat],
+    stats: &[ZoneColumn],
     pruning: &Option<(ExprRef, RequiredStats)>,
 ) -> Mem<String>
     ensures { (told : Option Pruning) → PrunesBy told pruning.now
-        → IfOk result (λ text. string_bytes text ≡ spaced (required_names (map stat_view stats.now) told)) }
+        → IfOk result (λ text. string_bytes text ≡ spaced (required_names stats.now told)) }
 {
     match pruning {
         Some((_, required)) => spaced(alloc, needed_names(alloc, stats, required)?.as_slice()),
@@ -44,13 +43,13 @@ pub(crate) fn required_text(
 }
 
 /// The quoted joined names of those of these statistics that are required.
-fn needed_names(alloc: Global, stats: &[ZoneStat], required: &RequiredStats) -> Mem<Vec<String>>
+fn needed_names(alloc: Global, stats: &[ZoneColumn], required: &RequiredStats) -> Mem<Vec<String>>
     ensures { IfOk result (λ names. map string_bytes names.items
-        ≡ map (λ z. quoted_text (joined_name z.path z.stat)) (filter (λ z. is_required required.now (z.path, z.stat)) (map stat_view stats.now))) }
+        ≡ map (λ z. quoted_text (joined_name z.path z.stat)) (filter (λ z. is_required required.now (z.path, z.stat)) stats.now)) }
 {
     let mut names = Vec::new(alloc);
     for stat in stats {
-        if is_required(required, &stat.path, stat.stat) {
+        if is_required(required, stat.path(), stat.stat()) {
             names.push(quoted_name(alloc, stat)?)?;
         }
     }
@@ -58,9 +57,8 @@ fn needed_names(alloc: Global, stats: &[ZoneStat], required: &RequiredStats) -> 
 }
 
 /// The joined name of a statistic, quoted.
-fn quoted_name(alloc: Global, stat: &ZoneStat) -> Mem<String>
+fn quoted_name(alloc: Global, stat: &ZoneColumn) -> Mem<String>
     ensures { IfOk result (λ text. string_bytes text ≡ quoted_text (joined_name stat.now.path stat.now.stat)) }
 {
-    let name = field_path_stat_field_name(alloc, &stat.path, stat.stat)?;
-    Ok(format!(in alloc; "{}", Quoted(name.as_str()))?)
+    Ok(format!(in alloc; "{}", Quoted(stat.name().as_str()))?)
 }

@@ -1,7 +1,6 @@
 -- How what is explained is seen.
 use Rattle.std.specs.Prelude.{map}
 use Rattle.std.specs.String.{string_bytes}
-use Rattle.vx_zones.specs.ZoneViews.{stat_view}
 use Rattle.vx_laws_explaining.specs.Explained as spec
 use Rattle.vx_laws_explaining.specs.ExplainingWords as words
 use Rattle.vx_explaining.specs.declared.columns.Usage.{Usage}
@@ -22,7 +21,7 @@ abbrev pub column_view : UsedColumn → spec.UsedColumn
 column_view c = record { name = c.name.now; usage = usage_view c.usage }
 
 abbrev pub decider_view : Decider → spec.Decider
-decider_view d = record { name = string_bytes d.name; statistic = stat_view d.statistic.now }
+decider_view d = record { name = string_bytes d.name; statistic = d.statistic.now }
 
 abbrev pub explained_view : Explained → spec.Explained
 explained_view x = record {

@@ -1,27 +1,26 @@
 // The values of statistics that decide, in a block.
-ghost use Rattle.std.specs.Prelude.{◌≡◌, option_map, IfOk};
+ghost use Rattle.std.specs.Prelude.{◌≡◌, IfOk};
 ghost use Rattle.std.specs.String.{string_bytes};
-ghost use Rattle.vx_zones.specs.ZoneViews.{stat_view};
 ghost use Rattle.vx_laws_listing.specs.ListingTexts.{known_value, scalar_json};
 ghost use Rattle.vx_laws_explaining.specs.ExplainedTexts.{value_or};
 
 use std::alloc::Global;
 use vx_display::row_text;
 use vx_dtype::{Mem, Scalar};
-use vx_zones::ZoneStat;
+use vx_zones::ZoneColumn;
 
 /// The value of a statistic in a block, where it is known.
-fn known_value(statistic: &ZoneStat, block: usize) -> Option<&Scalar>
-    ensures { option_map (λ value. value.now) result ≡ known_value block (stat_view statistic.now) }
+fn known_value(alloc: Global, statistic: &ZoneColumn, block: usize) -> Mem<Option<Scalar>>
+    ensures { IfOk result (λ value. value ≡ known_value block statistic.now) }
 {
-    let values = statistic.values.as_slice();
-    if block >= values.len() {
-        return None;
+    if block >= statistic.blocks() {
+        return Ok(None);
     }
-    if values[block].is_null() {
-        return None;
+    let value = statistic.scalar_at(alloc, block)?;
+    if value.is_null() {
+        return Ok(None);
     }
-    Some(&values[block])
+    Ok(Some(value))
 }
 
 /// The text of a value.
@@ -35,13 +34,13 @@ fn scalar_text(alloc: Global, value: &Scalar) -> Mem<String>
 pub(crate) fn value_or(
     alloc: Global,
     unknown: &str,
-    statistic: &ZoneStat,
+    statistic: &ZoneColumn,
     block: usize,
 ) -> Mem<String>
-    ensures { IfOk result (λ text. string_bytes text ≡ value_or unknown.now (known_value block (stat_view statistic.now))) }
+    ensures { IfOk result (λ text. string_bytes text ≡ value_or unknown.now (known_value block statistic.now)) }
 {
-    match known_value(statistic, block) {
-        Some(value) => scalar_text(alloc, value),
+    match known_value(alloc, statistic, block)? {
+        Some(value) => scalar_text(alloc, &value),
         None => Ok(String::from_str(alloc, unknown)?),
     }
 }

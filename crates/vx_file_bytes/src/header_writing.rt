@@ -1,8 +1,7 @@
 // Writing headers.
-ghost use Rattle.std.specs.Prelude.{◌≡◌, ◌++◌, true, length, map, IfOk, IfErr, OnOk};
+ghost use Rattle.std.specs.Prelude.{◌≡◌, ◌++◌, true, length, IfOk, IfErr, OnOk};
 ghost use Rattle.vx_semantics.specs.Tables.{row_type};
 ghost use Rattle.vx_zones.specs.Zoning.{are_shallow};
-ghost use Rattle.vx_zones.specs.ZoneViews.{stat_view};
 ghost use Rattle.vx_wire_bytes.specs.Numbers.{number_bytes};
 ghost use Rattle.vx_wire_bytes.specs.Fields.{IsNumber, IsShort, IsText};
 ghost use Rattle.vx_wire_bytes.specs.TypeForms.{fields_number, fields_bytes, type_bytes, HasNames, HaveNames};
@@ -16,7 +15,7 @@ use std::alloc::Global;
 use vx_dtype::{Mem, Nullability, Stat, StructFields};
 use vx_tables::columns_of;
 use vx_wire_bytes::{LONG, has_short_names, write_number, write_type};
-use vx_zones::{ZoneMap, ZoneStat};
+use vx_zones::{ZoneColumn, ZoneMap};
 
 /// The byte of a struct's type in the wire form.
 const STRUCT: u8 = 4;
@@ -77,28 +76,35 @@ fn stat_byte(stat: Stat) -> u8
 }
 
 /// Writes a statistic at the end: its path, the byte of its kind, and its value in each block.
-fn write_statistic(out: &mut Vec<u8>, statistic: &ZoneStat) -> Result<(), WriteFileError>
-    ensures ok { OnOk result ((out.new.items ≡ out.old.items ++ statistic_bytes (stat_view statistic.now))
-        × StatisticTextsAre IsText (stat_view statistic.now)) }
-    ensures err { IfErr result (IsTooLong (StatisticTextsAre IsShort (stat_view statistic.now))) }
+fn write_statistic(
+    alloc: Global,
+    out: &mut Vec<u8>,
+    statistic: &ZoneColumn,
+) -> Result<(), WriteFileError>
+    ensures ok { OnOk result ((out.new.items ≡ out.old.items ++ statistic_bytes statistic.now) × StatisticTextsAre IsText statistic.now) }
+    ensures err { IfErr result (IsTooLong (StatisticTextsAre IsShort statistic.now)) }
 {
-    write_path(out, &statistic.path)?;
-    out.push(stat_byte(statistic.stat))?;
-    write_scalars(out, statistic.values.as_slice())
+    write_path(out, statistic.path())?;
+    out.push(stat_byte(statistic.stat()))?;
+    write_scalars(alloc, out, statistic)
 }
 
 /// Writes how many statistics there are and each of them at the end.
-fn write_statistics(out: &mut Vec<u8>, stats: &[ZoneStat]) -> Result<(), WriteFileError>
-    ensures ok { OnOk result ((out.new.items ≡ out.old.items ++ counted_bytes statistic_bytes (map stat_view stats.now))
-        × AreCounted (StatisticTextsAre IsText) (map stat_view stats.now)) }
-    ensures err { IfErr result (IsTooLong (AreCounted (StatisticTextsAre IsShort) (map stat_view stats.now))) }
+fn write_statistics(
+    alloc: Global,
+    out: &mut Vec<u8>,
+    stats: &[ZoneColumn],
+) -> Result<(), WriteFileError>
+    ensures ok { OnOk result ((out.new.items ≡ out.old.items ++ counted_bytes statistic_bytes stats.now)
+        × AreCounted (StatisticTextsAre IsText) stats.now) }
+    ensures err { IfErr result (IsTooLong (AreCounted (StatisticTextsAre IsShort) stats.now)) }
 {
     if stats.len() >= LONG {
         return Err(WriteFileError::TooLong);
     }
     write_number(out, stats.len() as u32)?;
     for i in 0..stats.len() {
-        write_statistic(out, &stats[i])?;
+        write_statistic(alloc, out, &stats[i])?;
     }
     Ok(())
 }
@@ -114,6 +120,6 @@ pub(crate) fn header_front(alloc: Global, zones: &ZoneMap) -> Result<Vec<u8>, Wr
     let mut out = Vec::new(alloc);
     write_row_type(&mut out, columns_of(zones))?;
     write_lengths(&mut out, zones.lengths())?;
-    write_statistics(&mut out, zones.stats())?;
+    write_statistics(alloc, &mut out, zones.statistics())?;
     Ok(out)
 }

@@ -12,8 +12,10 @@ ghost use Rattle.vx_laws_file.specs.FileForms.{counted_bytes, scalar_bytes, AreC
 ghost use Rattle.vx_file_bytes.specs.WritingParts.{IsTooLong};
 
 use crate::errors::WriteFileError;
+use std::alloc::Global;
 use vx_dtype::{DType, Field, FieldName, FieldPath, Mem, Scalar, ScalarValue};
 use vx_wire_bytes::{LONG, has_short_texts, write_number, write_value};
+use vx_zones::ZoneColumn;
 
 /// Whether a name is shorter than 2^32.
 pub(crate) fn is_short_name(name: &FieldName) -> bool
@@ -89,13 +91,18 @@ fn write_scalar(out: &mut Vec<u8>, scalar: &Scalar) -> Result<(), WriteFileError
 }
 
 /// Writes the values of a statistic at the end, one after the other.
-pub(crate) fn write_scalars(out: &mut Vec<u8>, scalars: &[Scalar]) -> Result<(), WriteFileError>
-    ensures ok { OnOk result ((out.new.items ≡ out.old.items ++ flat_map scalar_bytes scalars.now)
-        × AllByRecursion (λ s. TextsAre IsText s.value) scalars.now) }
-    ensures err { IfErr result (IsTooLong (AllByRecursion (λ s. TextsAre IsShort s.value) scalars.now)) }
+pub(crate) fn write_scalars(
+    alloc: Global,
+    out: &mut Vec<u8>,
+    statistic: &ZoneColumn,
+) -> Result<(), WriteFileError>
+    ensures ok { OnOk result ((out.new.items ≡ out.old.items ++ flat_map scalar_bytes statistic.now.values)
+        × AllByRecursion (λ s. TextsAre IsText s.value) statistic.now.values) }
+    ensures err { IfErr result (IsTooLong (AllByRecursion (λ s. TextsAre IsShort s.value) statistic.now.values)) }
 {
-    for i in 0..scalars.len() {
-        write_scalar(out, &scalars[i])?;
+    for block in 0..statistic.blocks() {
+        let scalar = statistic.scalar_at(alloc, block)?;
+        write_scalar(out, &scalar)?;
     }
     Ok(())
 }

@@ -5,15 +5,14 @@ ghost use Rattle.vx_dtype.specs.RawViews.{raw_view};
 ghost use Rattle.vx_dtype.specs.ScalarAnswers.{typed};
 ghost use Rattle.vx_dtype.specs.TypeViews.{type_view};
 ghost use Rattle.vx_wire_bytes.specs.Reading.{text_at};
-ghost use Rattle.vx_zones.specs.LeafTypes.{leaf_in};
+ghost use Rattle.vx_zones.specs.LeafTypes.{plain_from};
 ghost use Rattle.vx_zones.specs.ZoneViews.{stat_view};
 ghost use Rattle.vx_laws_file.specs.HeaderReading.{items_with, counted_with, stat_numbered, stat_at, scalar_at, statistic_by, statistic_at};
 
 use crate::fronts::{names_front, number_front, value_front};
 use std::alloc::Global;
-use std::collections::HashMap;
-use vx_dtype::{DType, FieldPath, Mem, Scalar, ScalarValue, Stat, StructFields};
-use vx_zones::{Scalars, ZoneStat, leaf_types, type_of_values};
+use vx_dtype::{DType, FieldPath, Mem, Nullability, Scalar, ScalarValue, Stat, StructFields};
+use vx_zones::{Scalars, ZoneStat, type_of_values};
 
 /// The path at the front: its names, with their number before them.
 #[tactic(auto, unfolding(vx_laws_file::specs::HeaderReading::counted_with))]
@@ -85,15 +84,15 @@ fn scalars_front<'a>(
     Ok(Some((scalars, rest)))
 }
 
-/// The statistic at the front, of a table whose paths lead to these plain types and with these lengths of blocks.
+/// The statistic at the front, of a table with rows of this type and with these lengths of blocks.
 #[tactic(auto, unfolding(vx_laws_file::specs::HeaderReading::statistic_by, vx_laws_file::specs::HeaderReading::scalars_with))]
 fn statistic_front<'a>(
     alloc: Global,
-    leaves: &HashMap<FieldPath, DType>,
+    row: &DType,
     lengths: &[u32],
     bytes: &'a [u8],
 ) -> Mem<Option<(ZoneStat, &'a [u8])>>
-    ensures { IfOk result (λ found. option_map (λ x. (stat_view x.0, x.1.now)) found ≡ statistic_by (leaf_in leaves.now) lengths.now bytes.now) }
+    ensures { IfOk result (λ found. option_map (λ x. (stat_view x.0, x.1.now)) found ≡ statistic_by (plain_from (type_view row.now)) lengths.now bytes.now) }
 {
     let Some((path, rest)) = path_front(alloc, bytes)? else {
         return Ok(None);
@@ -101,7 +100,7 @@ fn statistic_front<'a>(
     let Some((stat, rest)) = stat_front(rest) else {
         return Ok(None);
     };
-    let Some(dtype) = type_of_values(leaves, &path, stat)? else {
+    let Some(dtype) = type_of_values(row, &path, stat)? else {
         return Ok(None);
     };
     let Some((values, rest)) = scalars_front(alloc, &dtype, lengths.len(), rest)? else {
@@ -114,18 +113,18 @@ fn statistic_front<'a>(
 /// So many statistics at the front.
 fn some_statistics<'a>(
     alloc: Global,
-    leaves: &HashMap<FieldPath, DType>,
+    row: &DType,
     lengths: &[u32],
     number: u32,
     bytes: &'a [u8],
 ) -> Mem<Option<(Vec<ZoneStat>, &'a [u8])>>
     ensures { IfOk result (λ found. option_map (λ x. (map stat_view x.0.items, x.1.now)) found
-        ≡ items_with (statistic_by (leaf_in leaves.now) lengths.now) number bytes.now) }
+        ≡ items_with (statistic_by (plain_from (type_view row.now)) lengths.now) number bytes.now) }
 {
     let mut rest = bytes;
     let mut stats: Vec<ZoneStat> = Vec::new(alloc);
     for _ in 0..number {
-        let Some((stat, after)) = statistic_front(alloc, leaves, lengths, rest)? else {
+        let Some((stat, after)) = statistic_front(alloc, row, lengths, rest)? else {
             return Ok(None);
         };
         stats.push(stat)?;
@@ -134,8 +133,7 @@ fn some_statistics<'a>(
     Ok(Some((stats, rest)))
 }
 
-/// The statistics at the front, with their number before them, of a table with these columns and these lengths of blocks. One walk over
-/// the columns' types notes where paths lead, so that a statistic's path costs one look-up, however many columns there are.
+/// The statistics at the front, with their number before them, of a table with these columns and these lengths of blocks.
 #[tactic(auto, unfolding(vx_laws_file::specs::HeaderReading::counted_with))]
 pub(crate) fn statistics_front<'a>(
     alloc: Global,
@@ -149,6 +147,6 @@ pub(crate) fn statistics_front<'a>(
     let Some((number, rest)) = number_front(bytes) else {
         return Ok(None);
     };
-    let leaves = leaf_types(alloc, columns)?;
-    some_statistics(alloc, &leaves, lengths, number, rest)
+    let row = DType::Struct(columns.clone()?, Nullability::NonNullable);
+    some_statistics(alloc, &row, lengths, number, rest)
 }

@@ -10,7 +10,7 @@ ghost use Rattle.vx_folder.specs.FolderAnswers.{AreOfForm, growing_view, gathere
 use std::alloc::Global;
 use vx_dtype::{FieldPath, Mem, NoMemory, Scalar, Stat, StructFields};
 use vx_tables::columns_of;
-use vx_zones::{Scalars, ZoneError, ZoneMap, ZoneStat};
+use vx_zones::{Scalars, ZoneColumn, ZoneError, ZoneMap, ZoneStat};
 
 /// A statistic with its values in the blocks of the files so far.
 #[derive(Drop)]
@@ -41,7 +41,7 @@ impl Gathered {
         Ok(Gathered {
             columns: columns_of(zones).clone()?,
             lengths: Vec::from_slice(alloc, zones.lengths())?,
-            stats: growing_stats(alloc, zones.stats())?,
+            stats: growing_stats(alloc, zones.stats(alloc)?.as_slice())?,
             begins,
         })
     }
@@ -53,7 +53,7 @@ impl Gathered {
         if columns_of(zones) != &self.columns {
             return false;
         }
-        are_alike(self.stats.as_slice(), zones.stats())
+        are_alike(self.stats.as_slice(), zones.statistics())
     }
 
     /// Puts the blocks of a file behind those of the files so far, which are alike.
@@ -65,7 +65,8 @@ impl Gathered {
     {
         self.begins.push(self.lengths.len())?;
         self.lengths.extend_from_slice(zones.lengths())?;
-        add_stats(alloc, &mut self.stats, zones.stats())
+        let stats = zones.stats(alloc)?;
+        add_stats(alloc, &mut self.stats, stats.as_slice())
     }
 }
 
@@ -92,8 +93,8 @@ fn growing_stat(alloc: Global, stat: &ZoneStat) -> Mem<GrowingStat>
 }
 
 /// Whether statistics are of the same paths and kinds, in the same order.
-fn are_alike(growing: &[GrowingStat], stats: &[ZoneStat]) -> bool
-    ensures { Decides result (map path_and_stat (map stat_view stats.now) ≡ map path_and_stat (map growing_view growing.now)) }
+fn are_alike(growing: &[GrowingStat], stats: &[ZoneColumn]) -> bool
+    ensures { Decides result (map path_and_stat stats.now ≡ map path_and_stat (map growing_view growing.now)) }
 {
     if growing.len() != stats.len() {
         return false;
@@ -107,13 +108,13 @@ fn are_alike(growing: &[GrowingStat], stats: &[ZoneStat]) -> bool
 }
 
 /// Whether a statistic is of the same path and kind.
-fn is_alike(growing: &GrowingStat, stat: &ZoneStat) -> bool
-    ensures { Decides result (path_and_stat (stat_view stat.now) ≡ path_and_stat (growing_view growing.now)) }
+fn is_alike(growing: &GrowingStat, stat: &ZoneColumn) -> bool
+    ensures { Decides result (path_and_stat stat.now ≡ path_and_stat (growing_view growing.now)) }
 {
-    if stat.path != growing.path {
+    if stat.path() != &growing.path {
         return false;
     }
-    stat.stat == growing.stat
+    stat.stat() == growing.stat
 }
 
 /// Puts the values of the statistics of a file behind those so far.

@@ -8,13 +8,14 @@ ghost use Rattle.vx_folder.specs.FolderParts.{parts_view, held_of, AreParts, IsF
 use crate::errors::FileFault;
 use crate::part_files::{PartFile, open_part};
 use crate::parts::{FolderParts, file_number};
+use std::alloc::Global;
 use vx_column::ColumnRef;
-use vx_dtype::FieldName;
+use vx_dtype::{FieldName, Mem, NoMemory};
 use vx_file_open::{Layout, read_column};
 use vx_file_ranges::{PieceError, Ranged};
 use vx_files::Files;
 use vx_tables::columns_of;
-use vx_zones::{ZoneMap, ZoneStat};
+use vx_zones::{ZoneColumn, ZoneMap};
 
 /// A file of a folder that is open, with its number, which is counted from 0.
 #[derive(Drop)]
@@ -98,20 +99,31 @@ fn open_again<F: Files>(
         IsFileAt (parts_view (F.kept parts.now.files.now) parts.now) part.number (F.File.bytes part.file.source) part.file.layout) }
 {
     let name = parts.names[number].as_str();
-    match open_part(parts.alloc, parts.files, parts.folder.as_str(), name) {
-        Ok(file) if is_as_before(&parts.zones, parts.begins[number], &file.layout) => {
-            Ok(OpenPart { number, file })
-        }
-        Err(FileFault::NoMemory) => Err(PieceError::NoMemory),
-        _ => Err(PieceError::ReadFault),
+    let file = match open_part(parts.alloc, parts.files, parts.folder.as_str(), name) {
+        Ok(file) => file,
+        Err(FileFault::NoMemory) => return Err(PieceError::NoMemory),
+        Err(_) => return Err(PieceError::ReadFault),
+    };
+    match is_as_before(
+        parts.alloc,
+        &parts.zones,
+        parts.begins[number],
+        &file.layout,
+    ) {
+        Ok(true) => Ok(OpenPart { number, file }),
+        Ok(false) => Err(PieceError::ReadFault),
+        Err(NoMemory) => Err(PieceError::NoMemory),
     }
 }
 
 /// Whether the layout of a file has the columns of a folder, and the blocks that stand there behind so many, with the same statistics.
-fn is_as_before(zones: &ZoneMap, begin: usize, layout: &Layout) -> bool
-    ensures { result ≡ true → AgreesAt zones.now begin layout.now.zones }
+fn is_as_before(alloc: Global, zones: &ZoneMap, begin: usize, layout: &Layout) -> Mem<bool>
+    ensures { IfOk result (λ same. same ≡ true → AgreesAt zones.now begin layout.now.zones) }
 {
-    has_blocks(zones, begin, layout.zones()) && tells_the_same(zones, begin, layout.zones())
+    if !has_blocks(zones, begin, layout.zones()) {
+        return Ok(false);
+    }
+    tells_the_same(alloc, zones, begin, layout.zones())
 }
 
 /// Whether the file has the columns of the folder, and blocks of as many rows as those behind so many.
@@ -128,25 +140,34 @@ fn has_blocks(zones: &ZoneMap, begin: usize, file: &ZoneMap) -> bool
 }
 
 /// Whether the file has the statistics of the folder, each with the values of its blocks, which stand behind so many.
-fn tells_the_same(zones: &ZoneMap, begin: usize, file: &ZoneMap) -> bool {
-    if file.stats().len() != zones.stats().len() {
-        return false;
+fn tells_the_same(alloc: Global, zones: &ZoneMap, begin: usize, file: &ZoneMap) -> Mem<bool> {
+    let (told, own) = (file.statistics(), zones.statistics());
+    if told.len() != own.len() {
+        return Ok(false);
     }
-    for i in 0..file.stats().len() {
-        if !is_same(&zones.stats()[i], begin, &file.stats()[i]) {
-            return false;
+    for i in 0..told.len() {
+        if !is_same(alloc, &own[i], begin, &told[i])? {
+            return Ok(false);
         }
     }
-    true
+    Ok(true)
 }
 
 /// Whether a statistic of the file is that of the folder, with the values of its blocks.
-fn is_same(stat: &ZoneStat, begin: usize, file: &ZoneStat) -> bool {
-    if file.path != stat.path || file.stat != stat.stat {
-        return false;
+fn is_same(alloc: Global, stat: &ZoneColumn, begin: usize, file: &ZoneColumn) -> Mem<bool> {
+    if file.path() != stat.path() || file.stat() != stat.stat() {
+        return Ok(false);
     }
-    match stat.values.as_slice().get(begin..) {
-        Some(behind) => behind.starts_with(file.values.as_slice()),
-        None => false,
+    if begin > stat.blocks() {
+        return Ok(false);
     }
+    if file.blocks() > stat.blocks() - begin {
+        return Ok(false);
+    }
+    for block in 0..file.blocks() {
+        if file.scalar_at(alloc, block)? != stat.scalar_at(alloc, begin + block)? {
+            return Ok(false);
+        }
+    }
+    Ok(true)
 }

@@ -1,7 +1,6 @@
 // The lines of a table.
-ghost use Rattle.std.specs.Prelude.{◌≡◌, ◌++◌, map, IfOk, OnOk};
+ghost use Rattle.std.specs.Prelude.{◌≡◌, ◌++◌, IfOk, OnOk};
 ghost use Rattle.std.specs.String.{string_bytes};
-ghost use Rattle.vx_zones.specs.ZoneViews.{stat_view};
 ghost use Rattle.vx_laws_listing.specs.ListingTexts.{block_front, block_line, columns_line};
 
 use crate::columns::push_fields;
@@ -9,7 +8,7 @@ use crate::statistics::{known_in, push_statistics};
 use std::alloc::Global;
 use std::fmt::Write;
 use vx_dtype::{Mem, Quoted, StructFields};
-use vx_zones::ZoneStat;
+use vx_zones::ZoneColumn;
 
 /// The line of the columns.
 pub(crate) fn columns_line(alloc: Global, fields: &StructFields) -> Mem<String>
@@ -36,11 +35,11 @@ fn push_front(out: &mut String, path: &str, block: usize, rows: u32) -> Mem<()>
 pub(crate) fn block_line(
     alloc: Global,
     path: &str,
-    statistics: &[ZoneStat],
+    statistics: &[ZoneColumn],
     block: usize,
     rows: u32,
 ) -> Mem<String>
-    ensures { IfOk result (λ line. string_bytes line ≡ block_line path.now (map stat_view statistics.now) block rows) }
+    ensures { IfOk result (λ line. string_bytes line ≡ block_line path.now statistics.now block rows) }
 {
     let known = known_in(alloc, block, statistics)?;
     let mut line = String::new(alloc);

@@ -1,9 +1,8 @@
 // The statistics of a block that are known, as a request writes them.
-ghost use Rattle.std.specs.Prelude.{◌≡◌, [], ◌++◌, map, option_map, IfOk, OnOk};
+ghost use Rattle.std.specs.Prelude.{◌≡◌, [], ◌++◌, map, IfOk, OnOk};
 ghost use Rattle.std.specs.String.{string_bytes};
 ghost use Rattle.vx_dtype.specs.PathViews.{part_name};
 ghost use Rattle.vx_dtype.specs.Texts.{quoted_text};
-ghost use Rattle.vx_zones.specs.ZoneViews.{stat_view};
 ghost use Rattle.vx_laws_listing.specs.ListingTexts.{kind_json, known_in, known_value, scalar_json, stat_json, with_commas};
 ghost use Rattle.vx_listing.specs.StatViews.{known_view};
 
@@ -11,40 +10,40 @@ use std::alloc::Global;
 use std::fmt::Write;
 use vx_display::push_row;
 use vx_dtype::{Field, FieldPath, Mem, Quoted, Scalar, Stat};
-use vx_zones::ZoneStat;
+use vx_zones::ZoneColumn;
 
 /// A statistic of a block whose value is known.
-#[derive(Clone, Copy, Debug)]
+#[derive(Debug, Drop)]
 pub(crate) struct KnownStat<'z> {
-    pub(crate) statistic: &'z ZoneStat,
-    pub(crate) value: &'z Scalar,
+    pub(crate) statistic: &'z ZoneColumn,
+    pub(crate) value: Scalar,
 }
 
 /// The value of a statistic in a block, where it is known.
-fn known_value(statistic: &ZoneStat, block: usize) -> Option<&Scalar>
-    ensures { option_map (λ value. value.now) result ≡ known_value block (stat_view statistic.now) }
+fn known_value(alloc: Global, statistic: &ZoneColumn, block: usize) -> Mem<Option<Scalar>>
+    ensures { IfOk result (λ value. value ≡ known_value block statistic.now) }
 {
-    let values = statistic.values.as_slice();
-    if block >= values.len() {
-        return None;
+    if block >= statistic.blocks() {
+        return Ok(None);
     }
-    if values[block].is_null() {
-        return None;
+    let value = statistic.scalar_at(alloc, block)?;
+    if value.is_null() {
+        return Ok(None);
     }
-    Some(&values[block])
+    Ok(Some(value))
 }
 
 /// The statistics of a block that are known, in their order.
 pub(crate) fn known_in<'z>(
     alloc: Global,
     block: usize,
-    statistics: &'z [ZoneStat],
+    statistics: &'z [ZoneColumn],
 ) -> Mem<Vec<KnownStat<'z>>>
-    ensures { IfOk result (λ known. map known_view known.items ≡ known_in block (map stat_view statistics.now)) }
+    ensures { IfOk result (λ known. map known_view known.items ≡ known_in block statistics.now) }
 {
     let mut known = Vec::new(alloc);
     for statistic in statistics {
-        if let Some(value) = known_value(statistic, block) {
+        if let Some(value) = known_value(alloc, statistic, block)? {
             known.push(KnownStat { statistic, value })?;
         }
     }
@@ -96,13 +95,13 @@ fn push_scalar(out: &mut String, scalar: &Scalar) -> Mem<()>
 }
 
 /// Writes a statistic at the end, as far as there is memory: an object of its path, its kind, and its value as the only one.
-fn push_statistic(out: &mut String, known: KnownStat<'_>) -> Mem<()>
-    ensures { OnOk result (string_bytes out.new ≡ string_bytes out.old ++ stat_json (known_view known.entry)) }
+fn push_statistic(out: &mut String, known: &KnownStat<'_>) -> Mem<()>
+    ensures { OnOk result (string_bytes out.new ≡ string_bytes out.old ++ stat_json (known_view known.now)) }
 {
     out.push_str("{\"path\":[")?;
-    push_path(out, &known.statistic.path)?;
-    push_kind(out, known.statistic.stat)?;
-    push_scalar(out, known.value)?;
+    push_path(out, known.statistic.path())?;
+    push_kind(out, known.statistic.stat())?;
+    push_scalar(out, &known.value)?;
     Ok(out.push_str("]}")?)
 }
 
@@ -113,7 +112,7 @@ pub(crate) fn push_statistics(out: &mut String, known: &[KnownStat<'_>]) -> Mem<
     let mut separator = "";
     for i in 0..known.len() {
         out.push_str(separator)?;
-        push_statistic(out, known[i])?;
+        push_statistic(out, &known[i])?;
         separator = ",";
     }
     Ok(())

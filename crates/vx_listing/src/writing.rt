@@ -1,6 +1,4 @@
 // Writing the lines of a table, one after another.
-ghost use Rattle.std.specs.Prelude.{map};
-ghost use Rattle.vx_zones.specs.ZoneViews.{stat_view};
 ghost use Rattle.vx_laws_shell.specs.Running.{end_by};
 ghost use Rattle.vx_laws_listing.specs.Listing.{AreSoundZones};
 ghost use Rattle.vx_laws_listing.specs.ListingTexts.{block_line, block_lines, columns_line, listing_lines};
@@ -11,7 +9,7 @@ use crate::lines::{block_line, columns_line};
 use std::alloc::Global;
 use vx_io::{Sink, write_whole};
 use vx_tables::columns_of;
-use vx_zones::{ZoneMap, ZoneStat};
+use vx_zones::{ZoneColumn, ZoneMap};
 
 /// Writes a line.
 fn write_line<O: Sink>(output: &mut O, line: &str) -> Result<(), LineError>
@@ -27,13 +25,13 @@ fn write_line<O: Sink>(output: &mut O, line: &str) -> Result<(), LineError>
 fn write_block<O: Sink>(
     alloc: Global,
     path: &str,
-    statistics: &[ZoneStat],
+    statistics: &[ZoneColumn],
     block: usize,
     rows: u32,
     output: &mut O,
 ) -> Result<(), LineError>
     ensures { let end = end_by O.written O.faults in
-        WritesText (block_line path.now (map stat_view statistics.now) block rows) (end output.old) (end output.new) result }
+        WritesText (block_line path.now statistics.now block rows) (end output.old) (end output.new) result }
 {
     match block_line(alloc, path, statistics, block, rows) {
         Ok(line) => write_line(output, line.as_str()),
@@ -45,12 +43,12 @@ fn write_block<O: Sink>(
 fn write_blocks<O: Sink>(
     alloc: Global,
     path: &str,
-    statistics: &[ZoneStat],
+    statistics: &[ZoneColumn],
     lengths: &[u32],
     output: &mut O,
 ) -> Result<(), LineError>
     ensures { let end = end_by O.written O.faults in
-        WritesText (block_lines path.now (map stat_view statistics.now) 0 lengths.now) (end output.old) (end output.new) result }
+        WritesText (block_lines path.now statistics.now 0 lengths.now) (end output.old) (end output.new) result }
 {
     for block in 0..lengths.len() {
         match write_block(alloc, path, statistics, block, lengths[block], output) {
@@ -84,7 +82,7 @@ pub(crate) fn write_lines<O: Sink>(
 {
     let lengths = zones.lengths();
     match write_columns(alloc, zones, output) {
-        Ok(()) => write_blocks(alloc, path, zones.stats(), lengths, output),
+        Ok(()) => write_blocks(alloc, path, zones.statistics(), lengths, output),
         Err(error) => Err(error),
     }
 }

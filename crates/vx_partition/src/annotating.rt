@@ -94,11 +94,7 @@ impl<F: AnnotationFn> FoldSteps for Visit<'_, F> {
         Ok(Some(number))
     }
 
-    fn up(&mut self, alloc: Global, node: &ExprRef, results: Vec<usize>) -> Mem<usize>
-        requires { (start : _) × HasVisitedBelow F.Annotation.eq F.annotated start node.now results.items self.old }
-        ensures { (start : _) → HasVisitedBelow F.Annotation.eq F.annotated start node.now results.items self.old →
-            IfOk result (λ number. HasVisited F.Annotation.eq F.annotated start (node.now ∷ []) (number ∷ []) self.new) }
-    {
+    fn up(&mut self, alloc: Global, node: &ExprRef, results: &[usize]) -> Mem<usize> {
         let number = visit_over(alloc, node, results, &mut self.found)?;
         Ok(number)
     }
@@ -126,11 +122,11 @@ fn visit_alone<A: Annotation>(
 fn visit_over<A: Annotation>(
     alloc: Global,
     expr: &ExprRef,
-    below: Vec<usize>,
+    below: &[usize],
     found: &mut NumberedAnnotations<A>,
 ) -> Mem<usize>
     requires sound { IsSound found.old }
-    requires below { AreNumbersOf (known found.old.numbers) below.items (children_of expr.now) }
+    requires below { AreNumbersOf (known found.old.numbers) below.now (children_of expr.now) }
     ensures entries { OnOk result (numbered_entries found.new ≡ annotated_up A.eq expr.now (numbered_entries found.old)) }
     ensures extended { OnOk result (Extends found.old found.new) }
     ensures number { IfOk result (λ number. slice_get (known found.new.numbers) number ≡ Some expr.now) }

@@ -46,9 +46,9 @@ impl<A: Annotation> NumberedAnnotations<A> {
     }
 
     /// The number of an expression whose children have these numbers; a new one where it has none.
-    pub(crate) fn number(&mut self, alloc: Global, expr: &ExprRef, below: Vec<usize>) -> Mem<usize>
+    pub(crate) fn number(&mut self, alloc: Global, expr: &ExprRef, below: &[usize]) -> Mem<usize>
         requires sound { IsSound self.old }
-        requires below { AreNumbersOf (known self.old.numbers) below.items (children_of expr.now) }
+        requires below { AreNumbersOf (known self.old.numbers) below.now (children_of expr.now) }
         ensures entries { OnOk result (numbered_entries self.new ≡ numbered_entries self.old) }
         ensures extended { OnOk result (Extends self.old self.new) }
         ensures number { IfOk result (λ number. slice_get (known self.new.numbers) number ≡ Some expr.now) }

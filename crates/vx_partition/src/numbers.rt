@@ -50,16 +50,16 @@ impl Numbers {
     }
 
     /// The number of an expression whose children have these numbers; a new one where it has none.
-    pub(crate) fn number(&mut self, alloc: Global, expr: &ExprRef, below: Vec<usize>) -> Mem<usize>
+    pub(crate) fn number(&mut self, alloc: Global, expr: &ExprRef, below: &[usize]) -> Mem<usize>
         requires numbering { IsNumbering self.old.nodes.entries }
-        requires below { AreNumbersOf (known self.old) below.items (children_of expr.now) }
+        requires below { AreNumbersOf (known self.old) below.now (children_of expr.now) }
         ensures number { IfOk result (λ number. slice_get (known self.new) number ≡ Some expr.now) }
         ensures grown { OnOk result (Grows self.old self.new) }
     {
-        let key = over_numbers(alloc, expr, below.as_slice())?;
+        let key = over_numbers(alloc, expr, below)?;
         match self.nodes.get_full(&key) {
             Some((number, _, _)) => Ok(number),
-            None => self.add(key, expr.clone()?, below),
+            None => self.add(key, expr.clone()?, Vec::from_slice(alloc, below)?),
         }
     }
 
@@ -104,11 +104,7 @@ impl FoldSteps for Numbers {
         Ok(None)
     }
 
-    fn up(&mut self, alloc: Global, node: &ExprRef, results: Vec<usize>) -> Mem<usize>
-        requires { (start : _) × HasNumbered start (children_of node.now) results.items self.old }
-        ensures { (start : _) → HasNumbered start (children_of node.now) results.items self.old →
-            IfOk result (λ number. HasNumbered start (node.now ∷ []) (number ∷ []) self.new) }
-    {
+    fn up(&mut self, alloc: Global, node: &ExprRef, results: &[usize]) -> Mem<usize> {
         let number = self.number(alloc, node, results)?;
         Ok(number)
     }

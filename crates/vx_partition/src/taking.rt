@@ -88,13 +88,9 @@ impl<A: Annotation> FoldSteps for Taking<'_, A> {
         &mut self,
         alloc: Global,
         node: &ExprRef,
-        results: Vec<Option<ExprRef>>,
-    ) -> Mem<Option<ExprRef>>
-        requires { (start : _) × TakesBelow A.eq A.text start node.now results.items self.old }
-        ensures { (start : _) → TakesBelow A.eq A.text start node.now results.items self.old →
-            IfOk result (λ made. Takes A.eq A.text start node.now made self.new) }
-    {
-        let made = with_made(alloc, node, results.as_slice())?;
+        results: &[Option<ExprRef>],
+    ) -> Mem<Option<ExprRef>> {
+        let made = with_made(alloc, node, results)?;
         Ok(made)
     }
 }

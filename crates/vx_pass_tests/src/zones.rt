@@ -131,6 +131,6 @@ fn many(alloc: Global) -> Mem<Vec<ZoneStat>> {
 fn four_hundred_thousand_statistics(rt: HostRuntime) -> Result<(), Fail> {
     let alloc = rt.alloc();
     let zones = ZoneMap::try_new(alloc, wide(alloc)?, Vec::new(alloc), many(alloc)?)?;
-    assert!(rt; zones.stats().len() == 402_432);
+    assert!(rt; zones.statistics().len() == 402_432);
     Ok(())
 }

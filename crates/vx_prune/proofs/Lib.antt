@@ -1,6 +1,5 @@
 pub mod ElementLemmas
 pub mod FindingLemmas
-pub mod JoinedLemmas
 pub mod RelationLemmas
 pub mod RequiredLemmas
 pub mod StandingLemmas

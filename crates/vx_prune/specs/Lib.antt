@@ -3,7 +3,6 @@ pub mod Elements
 pub mod Finding
 pub mod Relations
 pub mod Required
-pub mod Separators
 pub mod Standing
 pub mod Steps
 pub use Rattle.vx_passes.specs.Catalogs

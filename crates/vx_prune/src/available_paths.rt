@@ -5,12 +5,12 @@ ghost use Rattle.vx_passes.specs.Catalogs.{is_alone_among};
 ghost use Rattle.vx_semantics.specs.Tables.{joined_path};
 ghost use Rattle.vx_prune.specs.Standing.{NotesStanding};
 
-use crate::joined_names::joined_name;
 use crate::name_counts::{standing, stands_once};
 use std::alloc::Global;
 use std::collections::BTreeMap;
 use std::marker::Model;
 use vx_dtype::{FieldName, FieldPath, FieldPathSet, Mem};
+use vx_zones::joined_name;
 
 /// The paths of available statistics. They are seen as their list.
 #[derive(Debug, Drop)]

@@ -9,12 +9,12 @@ ghost use Rattle.vx_prune.specs.CatalogViews.{available_members, scope_questions
 ghost use Rattle.vx_prune.specs.Required.{Requires};
 
 use crate::available_paths::AvailablePaths;
-use crate::joined_names::{field_path_stat_field_name, statistic_path};
 use crate::relations::{Relation, RequiredStats};
 use std::alloc::Global;
 use vx_build::{get_item, root};
 use vx_dtype::{FieldPath, FieldPathSet, Mem, Stat};
 use vx_expr::ExprRef;
+use vx_zones::{field_path_stat_field_name, statistic_path};
 
 /// A catalog of statistics, which notes what it is asked.
 pub trait StatsCatalog {

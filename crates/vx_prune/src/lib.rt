@@ -8,7 +8,6 @@ mod bounds;
 mod catalogs;
 mod comparisons;
 mod falsify;
-mod joined_names;
 mod joins;
 mod lists;
 mod name_counts;
@@ -18,8 +17,7 @@ mod relations;
 
 pub use analysis::AnalysisExpr;
 pub use catalogs::{ScopeStatsCatalog, StatsCatalog, TrackingStatsCatalog};
-pub use joined_names::field_path_stat_field_name;
 pub use name_counts::{standing, stands_once};
 pub use pruning::checked_pruning_expr;
 pub use relations::{Relation, RequiredStats, is_required};
-pub use vx_zones::{Scalars, ZoneError, ZoneMap, ZoneStat};
+pub use vx_zones::{Scalars, ZoneColumn, ZoneError, ZoneMap, ZoneStat, field_path_stat_field_name};

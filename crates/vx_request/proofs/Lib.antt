@@ -5,3 +5,6 @@ mod TypeLemmas
 mod MemberLemmas
 mod ColumnLemmas
 mod TextLemmas
+mod StatLemmas
+mod RefusalLemmas
+mod HeadLemmas

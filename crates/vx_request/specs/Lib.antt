@@ -7,3 +7,4 @@ pub mod Tables
 pub mod RequestViews
 pub mod FileRequests
 pub mod FileRequestViews
+pub mod ReadStatistics

@@ -52,7 +52,7 @@ pub(crate) fn are_rectangles(columns: usize, blocks: &[Block<'_>]) -> bool
 
 /// The column of a type that cells are. A name stands twice in no type of sound zones.
 #[tactic(auto, using(crate::proofs::ColumnLemmas::never_other))]
-fn column_in(alloc: Global, dtype: &DType, cells: &[Value]) -> Mem<Option<ColumnRef>>
+pub(crate) fn column_in(alloc: Global, dtype: &DType, cells: &[Value]) -> Mem<Option<ColumnRef>>
     ensures { IfOk result (λ column. column ≡ column_in (type_view dtype.now) (items_view cells.now)) }
 {
     let Some(values) = raws_in(alloc, dtype, cells)? else {

@@ -13,12 +13,12 @@ use crate::columns::{are_rectangles, blocks_of};
 use crate::errors::{Place, RequestError, Side, TableRefusal};
 use crate::objects::has_members;
 use crate::request_members::{Block, Statistic, blocks_in, columns_in, stats_in};
-use crate::stats::stats_of;
+use crate::stats::{refusal_of, stats_of};
 use hex::FromHexError;
 use serde_json::Value;
 use std::alloc::Global;
 use vx_column::ColumnRef;
-use vx_dtype::{Mem, NoMemory, StructFields};
+use vx_dtype::{DType, Mem, NoMemory, Nullability, StructFields};
 use vx_zones::{ZoneError, ZoneMap};
 
 /// The most bytes of a request.
@@ -114,9 +114,12 @@ pub(crate) fn sound_zones(
     requires { length blocks.now < 2 ^ 32 }
     ensures { MakesZones (zones_of columns (map block_view blocks.now) (map stat_view stats.now)) result }
 {
-    let stats = stats_of(alloc, &columns, stats)?;
     let lengths = lengths_of(alloc, blocks)?;
-    ZoneMap::try_new(alloc, columns, lengths, stats)
+    let row = DType::Struct(columns.clone()?, Nullability::NonNullable);
+    match stats_of(alloc, &row, stats)? {
+        Some(made) => ZoneMap::of_columns(alloc, columns, lengths, made),
+        None => Err(refusal_of(alloc, &columns, lengths.as_slice(), stats)?),
+    }
 }
 
 /// The columns of each block: each list of cells has its column's length, and then each cell is a value of its column's type.

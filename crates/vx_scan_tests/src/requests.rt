@@ -37,7 +37,8 @@ const REQUEST: &str =
 
 /// Whether a request has that block, statistic and texts.
 fn is_whole(request: &ScanRequest) -> bool {
-    let is_zoned = request.zones.lengths() == [2u32].as_slice() && request.zones.stats().len() == 1;
+    let is_zoned = request.zones.lengths() == [2u32].as_slice()
+        && request.zones.statistics().len() == 1;
     let is_asked = request.filter.as_slice() == [0u8, 255].as_slice()
         && request.projection.is_empty();
     is_zoned && is_asked && request.blocks.len() == 1

@@ -1,5 +1,5 @@
 //! Folds that say what they do to a whole tree, and the one loop of them.
-ghost use Rattle.std.specs.Prelude.{◌≡◌, ◌<◌, ◌≤◌, List, IfOk, OnOk, length};
+ghost use Rattle.std.specs.Prelude.{◌≡◌, ◌<◌, ◌≤◌, List, [], IfOk, OnOk, length};
 ghost use Rattle.vx_traversal.specs.FoldTurns.{StepsDown};
 ghost use Rattle.vx_traversal.specs.FoldPending.{HasOneResultMore, NextPending, Pending};
 
@@ -35,10 +35,10 @@ pub trait FoldSteps {
         &mut self,
         alloc: Global,
         node: &Self::NodeTy,
-        results: Vec<Self::Result>,
+        results: &[Self::Result],
     ) -> Mem<Self::Result>
-        requires { (start : Self) × gathers start node.now results.items self.old }
-        ensures { (start : Self) → gathers start node.now results.items self.old → IfOk result (λ given. folds start node.now given self.new) };
+        requires { (start : Self) × gathers start node.now results.now self.old }
+        ensures { (start : Self) → gathers start node.now results.now self.old → IfOk result (λ given. folds start node.now given self.new) };
 }
 
 // A node whose children are folded in turn, how many they are, and their results so far.
@@ -50,7 +50,8 @@ pub(crate) struct TurnFrame<'a, N, R> {
 }
 
 // Folds a tree. The nodes whose children are folded stand in a vector, so that a tree takes the stack
-// of one node however deep it is. The turns are counted, since a measure of them would say nothing
+// of one node however deep it is. The vector of a node's results is used again for a later node's, so
+// that at most as many are made as the tree is deep. The turns are counted, since a measure of them would say nothing
 // more: no machine takes all of them.
 pub(crate) fn fold_tree<F: FoldSteps>(
     tree: &F::NodeTy,
@@ -64,13 +65,14 @@ pub(crate) fn fold_tree<F: FoldSteps>(
         return Ok(given);
     }
     let mut outer = Vec::new(alloc);
+    let mut spare = Vec::new(alloc);
     let mut frame = TurnFrame {
         node: tree,
         count: tree.children_count(),
         results: Vec::new(alloc),
     };
     for _ in 0..u64::MAX {
-        if let Some(given) = turn(&mut frame, alloc, &mut outer, steps)? {
+        if let Some(given) = turn(&mut frame, alloc, &mut outer, &mut spare, steps)? {
             return Ok(given);
         }
     }
@@ -83,6 +85,7 @@ fn turn<'a, F: FoldSteps>(
     frame: &mut TurnFrame<'a, F::NodeTy, F::Result>,
     alloc: Global,
     outer: &mut Vec<TurnFrame<'a, F::NodeTy, F::Result>>,
+    spare: &mut Vec<Vec<F::Result>>,
     steps: &mut F,
 ) -> Mem<Option<F::Result>>
     requires { (start : F) × (tree : F.NodeTy) × Pending F.NodeTy.children F.ready F.folds F.gathers (F.folds start tree) outer.old.items frame.old steps.old }
@@ -90,10 +93,10 @@ fn turn<'a, F: FoldSteps>(
         IfOk result (λ end. NextPending F.NodeTy.children F.ready F.folds F.gathers (F.folds start tree) outer.new.items frame.new end steps.new) }
 {
     if frame.results.len() < frame.count {
-        turn_down(frame, alloc, outer, steps)?;
+        turn_down(frame, alloc, outer, spare, steps)?;
         return Ok(None);
     }
-    turn_up(frame, alloc, outer, steps)
+    turn_up(frame, alloc, outer, spare, steps)
 }
 
 // Down on the frame's next child, and up on it at once where it has no children.
@@ -101,6 +104,7 @@ fn turn_down<'a, F: FoldSteps>(
     frame: &mut TurnFrame<'a, F::NodeTy, F::Result>,
     alloc: Global,
     outer: &mut Vec<TurnFrame<'a, F::NodeTy, F::Result>>,
+    spare: &mut Vec<Vec<F::Result>>,
     steps: &mut F,
 ) -> Mem<()>
     requires within { length frame.old.results.items < length (F.NodeTy.children frame.old.node.now) }
@@ -115,14 +119,14 @@ fn turn_down<'a, F: FoldSteps>(
     }
     let count = child.children_count();
     if count == 0 {
-        let given = steps.up(alloc, child, Vec::new(alloc))?;
+        let given = steps.up(alloc, child, &[])?;
         add_result(frame, given)?;
         return Ok(());
     }
     let below = TurnFrame {
         node: child,
         count,
-        results: Vec::new(alloc),
+        results: emptied(spare, alloc),
     };
     let above = mem::replace(frame, below);
     outer.push(above)?;
@@ -134,6 +138,7 @@ fn turn_up<'a, F: FoldSteps>(
     frame: &mut TurnFrame<'a, F::NodeTy, F::Result>,
     alloc: Global,
     outer: &mut Vec<TurnFrame<'a, F::NodeTy, F::Result>>,
+    spare: &mut Vec<Vec<F::Result>>,
     steps: &mut F,
 ) -> Mem<Option<F::Result>>
     requires past { length (F.NodeTy.children frame.old.node.now) ≤ length frame.old.results.items }
@@ -141,12 +146,12 @@ fn turn_up<'a, F: FoldSteps>(
     ensures { (start : F) (tree : F.NodeTy) → Pending F.NodeTy.children F.ready F.folds F.gathers (F.folds start tree) outer.old.items frame.old steps.old →
         IfOk result (λ end. NextPending F.NodeTy.children F.ready F.folds F.gathers (F.folds start tree) outer.new.items frame.new end steps.new) }
 {
-    let results = mem::replace(&mut frame.results, Vec::new(alloc));
-    let given = steps.up(alloc, frame.node, results)?;
+    let given = steps.up(alloc, frame.node, frame.results.as_slice())?;
     match outer.pop() {
         None => Ok(Some(given)),
         Some(above) => {
-            *frame = above;
+            let done = mem::replace(frame, above);
+            keep_spare(spare, done)?;
             add_result(frame, given)?;
             Ok(None)
         }
@@ -158,5 +163,30 @@ fn add_result<N, R: Drop>(frame: &mut TurnFrame<'_, N, R>, given: R) -> Mem<()>
     ensures { OnOk result (HasOneResultMore frame.old given frame.new) }
 {
     frame.results.push(given)?;
+    Ok(())
+}
+
+// A vector without any results: a spare one, where there is one.
+fn emptied<R: Drop>(spare: &mut Vec<Vec<R>>, alloc: Global) -> Vec<R>
+    ensures { result.items ≡ [] }
+{
+    match spare.pop() {
+        None => Vec::new(alloc),
+        Some(mut results) => {
+            results.clear();
+            results
+        }
+    }
+}
+
+// Keeps the vector of a frame that is done with, and drops the results in it.
+fn keep_spare<N, R: Drop>(spare: &mut Vec<Vec<R>>, frame: TurnFrame<'_, N, R>) -> Mem<()> {
+    let TurnFrame {
+        node: _node,
+        count: _count,
+        mut results,
+    } = frame;
+    results.clear();
+    spare.push(results)?;
     Ok(())
 }

@@ -54,16 +54,12 @@ impl<S: UpStep> FoldSteps for UpSteps<'_, S, S::Error> {
         &mut self,
         alloc: Global,
         node: &S::NodeTy,
-        results: Vec<Option<S::NodeTy>>,
-    ) -> Mem<Option<S::NodeTy>>
-        requires { (start : _) × GathersTree S.NodeTy.children S.NodeTy.is_with S.makes S.NodeTy.height start node.now results.items self.old }
-        ensures { (start : _) → GathersTree S.NodeTy.children S.NodeTy.is_with S.makes S.NodeTy.height start node.now results.items self.old →
-            IfOk result (λ made. MakesTree S.NodeTy.children S.NodeTy.is_with S.makes S.NodeTy.height start node.now made self.new) }
-    {
+        results: &[Option<S::NodeTy>],
+    ) -> Mem<Option<S::NodeTy>> {
         if self.refused.is_some() {
             return Ok(None);
         }
-        let over = over_made(node, alloc, results.as_slice())?;
+        let over = over_made(node, alloc, results)?;
         match self.step.at(alloc, made_or(&over, node)) {
             Ok(Some(made)) => Ok(Some(made)),
             Ok(None) => Ok(over),

@@ -1,4 +1,9 @@
 pub mod DepthLemmas
 pub mod DistinctLemmas
-pub mod LeafLemmas
-pub mod ValueLemmas
+pub mod JoinedLemmas
+pub mod HeadLemmas
+pub mod PlainLemmas
+pub mod TypedLemmas
+pub mod ViewLemmas
+pub mod RunLemmas
+pub mod ZoneLemmas

@@ -1,21 +1,19 @@
--- Maps that have the plain type of each path of a table, and the types of statistics by them.
-use Rattle.std.specs.Prelude.{◌≡◌, List, Option, option_map}
-use Rattle.std.specs.HashMap.{HashMap, get}
-use Rattle.vx_dtype.specs.declared.DType.{DType}
+-- The plain types that paths lead to from a row's type on, and the types of statistics by them.
+use Rattle.std.specs.Prelude.{List, Option}
+use Rattle.std.specs.Option.{option_and_then}
 use Rattle.vx_dtype.specs.declared.Nullability.TheVariants.{Nullable}
-use Rattle.vx_dtype.specs.Equal.{names_eq}
-use Rattle.vx_dtype.specs.TypeViews.{type_view}
-use Rattle.vx_dtype.specs.Types.{Bytes, Ty, Fields}
+use Rattle.vx_dtype.specs.Types.{Bytes, Ty}
 use Rattle.vx_dtype.specs.TypeRules.{with_nullability}
-use Rattle.vx_zones.specs.Zoning.{leaf_type}
+use Rattle.vx_semantics.specs.Tables.{ZoneStat}
+use Rattle.vx_zones.specs.Zoning.{type_at, plain_only, statistic_type}
 
--- the type that a map has at a path
-abbrev pub leaf_in : {S : Type 0} → HashMap (List Bytes) DType S → List Bytes → Option Ty
-leaf_in leaves q = option_map type_view (get names_eq leaves q)
+-- the plain type that a path leads to, from a type on through fields of structs
+abbrev pub plain_from : Ty → List Bytes → Option Ty
+plain_from t path = option_and_then plain_only (type_at path t)
 
--- a map has the plain type of each path of a table
-abbrev pub HasLeaves : {S : Type 0} → Fields → HashMap (List Bytes) DType S → Type 0
-HasLeaves columns leaves = (q : List Bytes) → leaf_in leaves q ≡ leaf_type columns q
+-- the type of a statistic, by the plain types that paths lead to
+abbrev pub type_by : (List Bytes → Option Ty) → ZoneStat → Option Ty
+type_by types z = option_and_then (statistic_type z.stat) (types z.path)
 
 -- a type, made nullable
 abbrev pub nullable : Ty → Ty

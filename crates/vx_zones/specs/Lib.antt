@@ -3,5 +3,9 @@ pub mod ZoneViews
 pub mod ZoneCodes
 pub mod ZoneAnswers
 pub mod LeafTypes
-pub mod Leaves
 pub mod OwnNames
+pub mod Heads
+pub mod Separators
+pub mod StatColumns
+pub mod TypedColumns
+pub use Rattle.vx_column.specs.Columns

@@ -2,7 +2,7 @@
 ghost use Rattle.std.specs.Prelude.{◌≡◌, ◌∷◌, [], option_map};
 ghost use Rattle.vx_dtype.specs.PathViews.{part_name};
 ghost use Rattle.vx_dtype.specs.TypeViews.{type_view};
-ghost use Rattle.vx_zones.specs.Leaves.{plain_from};
+ghost use Rattle.vx_zones.specs.LeafTypes.{plain_from};
 ghost use Rattle.vx_zones.specs.Zoning.{plain_only, type_at};
 
 use vx_dtype::{DType, Field, FieldPath};

@@ -1,11 +1,11 @@
 use Rattle.std.proofs.Common.{◌≤◌, sym, subst, length}
-use Rattle.vx_zones.specs.declared.zones.ZoneStat.{ZoneStat as HeldStat}
+use Rattle.vx_semantics.specs.Tables.{ZoneStat}
 use Rattle.vx_block_parts.proofs.RuleLemmas.{one_stat_more}
 use Rattle.vx_block_parts.proofs.part_zones.stats_between.Goals as goal
 
 pub stat_between-requires-clause-within : goal.stat_between-requires-clause-within
 stat_between-requires-clause-within c =
-    subst (λ (z : HeldStat). c.args.up_to ≤ length z.values) (sym c.index-stats-i.is) (c.requires.within c.loop-i.i c.index-stats-i.result c.loop-i-test.true)
+    subst (λ (z : ZoneStat). c.args.up_to ≤ length z.values) (sym c.index-stats-i.is) (c.requires.within c.loop-i.i c.index-stats-i.result c.loop-i-test.true)
 
 pub loop-i-preserved : goal.loop-i-preserved
 loop-i-preserved c =

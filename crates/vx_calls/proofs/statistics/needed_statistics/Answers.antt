@@ -4,7 +4,6 @@ use Rattle.vx_dtype.specs.Types.{Bytes}
 use Rattle.vx_passes.specs.Falsifying.{Question}
 use Rattle.vx_passes.specs.PruningTables.{pruning_over}
 use Rattle.vx_prune.specs.Required.{PrunesBy}
-use Rattle.vx_zones.specs.ZoneViews.{stat_view}
 use Rattle.vx_laws_stats.specs.BuiltLaws.{path_and_stat}
 use Rattle.vx_calls.specs.Statistics.{needed_among, paths_of, possible_statistics}
 use Rattle.vx_calls.specs.Steps.{needed_view}
@@ -19,6 +18,6 @@ returns c =
     let answer = c.in_ok-pruning.pruning in
     let paths = c.in_ok-available.ensures ∙ paths_stand c.in_ok-possible.possible.stats ∙ ap paths_of c.in_ok-possible.ensures in
     let prunes : PrunesBy told answer = subst (λ (ps : List (List Bytes)). PrunesBy (pruning_over ps typed.tree) answer) paths c.in_ok-pruning.ensures in
-    let own : map path_and_stat (map stat_view c.stats.result.now) ≡ possible = ap (map path_and_stat) c.stats.ensures.stats ∙ c.in_ok-possible.ensures in
+    let own : map path_and_stat c.statistics.result.now ≡ possible = ap (map path_and_stat) c.statistics.ensures.stats ∙ c.in_ok-possible.ensures in
     subst (λ (qs : List Question). IfOk c.needed_among.result (λ needed. map needed_view needed.items ≡ needed_among qs told)) own
     (c.needed_among.ensures told prunes)

@@ -22,7 +22,7 @@ returns c =
     subst (λ (paths : List (List Bytes)). PrunesBy (pruning_over paths f) answer) c.in_ok-available.ensures c.in_ok-pruning.ensures in
     let pruned : string_bytes c.in_ok-pruned.pruned ≡ pruning_text (pruning_of zones f) = c.in_ok-pruned.ensures (pruning_of zones f) prunes in
     let required : string_bytes c.in_ok-required.required ≡ spaced (required_names zones.stats (pruning_of zones f)) =
-    c.in_ok-required.ensures (pruning_of zones f) prunes ∙ ap (λ (zs : List ZoneStat). spaced (required_names zs (pruning_of zones f))) c.stats.ensures.stats in
+    c.in_ok-required.ensures (pruning_of zones f) prunes ∙ ap (λ (zs : List ZoneStat). spaced (required_names zs (pruning_of zones f))) c.statistics.ensures.stats in
     let filter_parts : string_bytes c.in_ok-filter_parts.filter_parts ≡ parts_text (parts_of zones.columns f) =
     c.in_ok-filter_parts.ensures ∙ ap (λ s. split_text (split_view s)) c.split-filter_split.ensures ∙ parts_told zones.columns [] f c.args.both.now.0 c.requires.filter in
     let projection_parts : string_bytes c.in_ok-projection_parts.projection_parts ≡ parts_text (parts_of zones.columns p) =

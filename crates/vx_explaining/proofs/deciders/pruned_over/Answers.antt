@@ -15,5 +15,5 @@ returns c =
     let answer = c.in_ok-pruning.pruning in
     let prunes : PrunesBy (pruning_of zones f) answer =
     subst (λ (paths : List (List Bytes)). PrunesBy (pruning_over paths f) answer) c.in_ok-available.ensures c.in_ok-pruning.ensures in
-    subst (λ (zs : List ZoneStat). IfOk c.pruned_with.result (HoldsPruning zs (pruning_of zones f))) c.stats.ensures.stats
+    subst (λ (zs : List ZoneStat). IfOk c.pruned_with.result (HoldsPruning zs (pruning_of zones f))) c.statistics.ensures.stats
     (c.pruned_with.ensures (pruning_of zones f) prunes)

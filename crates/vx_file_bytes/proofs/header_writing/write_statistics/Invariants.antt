@@ -1,12 +1,11 @@
 use Rattle.std.proofs.Common.{◌++◌, length}
-use Rattle.vx_zones.specs.ZoneViews.{stat_view}
 use Rattle.vx_wire_bytes.specs.Numbers.{number_bytes}
 use Rattle.vx_wire_bytes.specs.Fields.{IsShort, IsText}
 use Rattle.vx_laws_file.specs.FileForms.{statistic_bytes}
 use Rattle.vx_laws_file.specs.Lengths.{StatisticTextsAre}
-use Rattle.vx_file_bytes.proofs.WritingLoops.{IsWritingSeen}
+use Rattle.vx_file_bytes.proofs.WritingLoops.{IsWriting}
 use Rattle.vx_file_bytes.proofs.header_writing.write_statistics.Given as goal
 
 abbrev pub invariant-loop-i : goal.invariant-loop-i
 invariant-loop-i l =
-    IsWritingSeen stat_view statistic_bytes (StatisticTextsAre IsText) (StatisticTextsAre IsShort) (l.fn.out.items ++ number_bytes (length l.stats)) l.out.items l.stats l.i
+    IsWriting statistic_bytes (StatisticTextsAre IsText) (StatisticTextsAre IsShort) (l.fn.out.items ++ number_bytes (length l.stats)) l.out.items l.stats l.i

@@ -1,8 +1,7 @@
 use Rattle.std.proofs.Common.{◌≡◌, map, ap, ◌∙◌, subst}
 use Rattle.std.specs.Prelude.{IfOk, option_map}
-use Rattle.vx_zones.specs.LeafTypes.{leaf_in}
 use Rattle.vx_zones.specs.ZoneViews.{stat_view}
-use Rattle.vx_laws_file.specs.HeaderReading.{items_with, statistic_by, statistic_at}
+use Rattle.vx_laws_file.specs.HeaderReading.{items_with, statistic_at}
 use Rattle.vx_file_bytes.proofs.HeaderSteps.{not_counted, counted_are}
 use Rattle.vx_file_bytes.proofs.statistics_reading.statistics_front.Goals as goal
 
@@ -13,7 +12,7 @@ pub returns : goal.returns
 returns c =
     let lengths = c.args.lengths.now in
     let read = statistic_at c.args.columns.now lengths in
-    let by_map : statistic_by (leaf_in c.in_ok-leaves.leaves) lengths ≡ read = λ i. statistic_by (λ q. c.in_ok-leaves.ensures q i) lengths in
+    let by_row = ap (λ fs. statistic_at fs lengths) c.in_ok-clone.ensures.cases in
     subst (λ r. IfOk c.some_statistics.result (λ found. option_map (λ x. (map stat_view x.0.items, x.1.now)) found ≡ r))
-    (ap (λ r. items_with r c.in-Some.number c.in-Some.rest.now) by_map ∙ counted_are read c.args.bytes.now c.in-Some.number c.in-Some.rest.now c.in-Some.ensures)
+    (ap (λ r. items_with r c.in-Some.number c.in-Some.rest.now) by_row ∙ counted_are read c.args.bytes.now c.in-Some.number c.in-Some.rest.now c.in-Some.ensures)
     c.some_statistics.ensures

@@ -1,6 +1,5 @@
-use Rattle.std.proofs.Common.{rules, ◌≡◌, ◌+◌, ◌<◌, ◌≤◌, [], length, drop, map, refl}
+use Rattle.std.proofs.Common.{rules, ◌≡◌, ◌+◌, ◌<◌, ◌≤◌, [], length, drop, refl}
 use Rattle.std.proofs.Math.ListN.{get_or}
-use Rattle.vx_zones.specs.ZoneViews.{stat_view}
 use Rattle.vx_laws_listing.specs.ListingTexts.{block_line, block_lines}
 use Rattle.vx_listing.proofs.TextLemmas.{lines_end, lines_step}
 use Rattle.vx_listing.proofs.WriteLemmas.{all_written, more_cut, more_written, none_written}
@@ -12,7 +11,7 @@ loop-block-init g c = ([], none_written _, refl)
 pub loop-block-preserved : goal.loop-block-preserved
 loop-block-preserved g c =
     let path = c.args.path.now in
-    let stats = map stat_view c.args.statistics.now in
+    let stats = c.args.statistics.now in
     let lengths = c.args.lengths.now in
     let i = c.loop-block.block in
     let n = get_or lengths i 0 in
@@ -24,7 +23,7 @@ loop-block-preserved g c =
 pub returns-in-Err : goal.returns-in-Err
 returns-in-Err g c =
     let path = c.args.path.now in
-    let stats = map stat_view c.args.statistics.now in
+    let stats = c.args.statistics.now in
     let lengths = c.args.lengths.now in
     let i = c.loop-block.block in
     let n = get_or lengths i 0 in
@@ -36,7 +35,7 @@ returns-in-Err g c =
 pub returns : goal.returns
 returns g c =
     let path = c.args.path.now in
-    let stats = map stat_view c.args.statistics.now in
+    let stats = c.args.statistics.now in
     let lengths = c.args.lengths.now in
     let i = c.loop-block.block in
     let past : length lengths ≤ i = search rules in

@@ -1,5 +1,3 @@
-use Rattle.std.proofs.Common.{map}
-use Rattle.vx_zones.specs.ZoneViews.{stat_view}
 use Rattle.vx_laws_listing.specs.ListingTexts.{block_lines, columns_line}
 use Rattle.vx_listing.proofs.WriteLemmas.{blocks_as, text_cut, text_then}
 use Rattle.vx_listing.proofs.writing.write_lines.Goals as goal
@@ -9,7 +7,7 @@ returns-in-Ok-clause-writes g c =
     let path = c.args.path.now in
     let zones = c.args.zones.now in
     let blocks =
-    blocks_as path (map stat_view c.stats.result.now) zones.stats c.lengths-lengths.result.now zones.lengths _ _ _ c.stats.ensures.stats c.lengths-lengths.ensures.lengths c.write_blocks.ensures in
+    blocks_as path c.statistics.result.now zones.stats c.lengths-lengths.result.now zones.lengths _ _ _ c.statistics.ensures.stats c.lengths-lengths.ensures.lengths c.write_blocks.ensures in
     text_then (columns_line zones.columns) (block_lines path zones.stats 0 zones.lengths) _ _ _ _ c.in-Ok.ensures blocks
 
 pub returns-in-Err-clause-writes : goal.returns-in-Err-clause-writes

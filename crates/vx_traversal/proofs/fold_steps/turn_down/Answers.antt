@@ -30,7 +30,7 @@ returns-then-count-eq0 g c = λ start tree.
     let none : length (g.F.NodeTy.Node.children child) ≡ 0 = search rules in
     let turns = subst (λ o. StepsDown g.F.FoldSteps.ready g.F.FoldSteps.folds g.F.NodeTy.Node.children g.F.FoldSteps.gathers c.args.steps.now child o c.down.new.self) c.in_default.is c.in_ok-given.ensures in
     let gathered = leaf-ready g.F.NodeTy.Node.children g.F.FoldSteps.ready g.F.FoldSteps.folds g.F.FoldSteps.gathers frame child at c.args.steps.now c.down.new.self (nil_from_length (g.F.NodeTy.Node.children child) none) turns in
-    let folded = c.in_ok-given-2.ensures c.args.steps.now (subst (λ rs. g.F.FoldSteps.gathers c.args.steps.now child rs c.down.new.self) (sym c.new.ensures.items) gathered) in
+    let folded = c.in_ok-given-2.ensures c.args.steps.now gathered in
     child-folded g.F.NodeTy.Node.children g.F.FoldSteps.ready g.F.FoldSteps.folds g.F.FoldSteps.gathers frame child at c.args.steps.now c.in_ok-given-2.given c.up.new.self c.add_result-then-count-eq0.new.frame folded c.in_ok-add_result-2.ensures (g.F.FoldSteps.folds start tree) c.args.outer.now.items
 
 pub returns : goal.returns
@@ -42,4 +42,4 @@ returns g c = λ start tree.
     let turns = subst (λ o. StepsDown g.F.FoldSteps.ready g.F.FoldSteps.folds g.F.NodeTy.Node.children g.F.FoldSteps.gathers c.args.steps.now child o c.down.new.self) c.in_default.is c.in_ok-given.ensures in
     let pushed = c.in_ok-push.ensures.items ∙ ap (λ f. c.args.outer.now.items ++ f ∷ []) c.replace-above.ensures.value in
     λ pending. subst (λ f. Pending g.F.NodeTy.Node.children g.F.FoldSteps.ready g.F.FoldSteps.folds g.F.FoldSteps.gathers (g.F.FoldSteps.folds start tree) c.push.new.self.items f c.down.new.self) (sym c.replace-above.ensures.after)
-    (child-goes g.F.NodeTy.Node.children g.F.FoldSteps.ready g.F.FoldSteps.folds g.F.FoldSteps.gathers frame child at c.args.steps.now c.down.new.self (record { node = c.node_child-child.result; count = c.children_count-count.result; results = c.new-2.result }) refl c.children_count-count.ensures c.new-2.ensures.items turns (g.F.FoldSteps.folds start tree) c.args.outer.now.items c.push.new.self.items pushed pending)
+    (child-goes g.F.NodeTy.Node.children g.F.FoldSteps.ready g.F.FoldSteps.folds g.F.FoldSteps.gathers frame child at c.args.steps.now c.down.new.self (record { node = c.node_child-child.result; count = c.children_count-count.result; results = c.emptied.result }) refl c.children_count-count.ensures c.emptied.ensures turns (g.F.FoldSteps.folds start tree) c.args.outer.now.items c.push.new.self.items pushed pending)

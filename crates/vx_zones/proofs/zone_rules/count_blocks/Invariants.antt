@@ -1,9 +1,10 @@
-use Rattle.std.proofs.Common.{◌≡◌, map, drop}
+use Rattle.std.proofs.Common.{◌≡◌, map, drop, length}
+use Rattle.std.specs.Prelude.{◌==◌}
 use Rattle.std.specs.List.{list_all}
-use Rattle.vx_zones.specs.ZoneViews.{stat_view}
-use Rattle.vx_zones.specs.Zoning.{counts_blocks}
+use Rattle.vx_zones.specs.ZoneViews.{head_view}
 use Rattle.vx_zones.proofs.zone_rules.count_blocks.Given as goal
 
 -- what is left to test
-abbrev pub invariant-loop-stat : goal.invariant-loop-stat
-invariant-loop-stat l = list_all (counts_blocks l.fn.lengths) (map stat_view l.fn.stats) ≡ list_all (counts_blocks l.fn.lengths) (map stat_view (drop l.stat-index l.fn.stats))
+abbrev pub invariant-loop-head : goal.invariant-loop-head
+invariant-loop-head l =
+    list_all (λ h. h.count == length l.fn.lengths) (map head_view l.fn.heads) ≡ list_all (λ h. h.count == length l.fn.lengths) (map head_view (drop l.head-index l.fn.heads))

@@ -15,5 +15,5 @@ returns c =
     subst (λ truths. IfOk c.truths-2.result (λ flags. flags.items ≡ truths))
     (column-truths c.args.zones.now c.args.slots.now c.args.first c.args.count c.args.pruning.now (scope_rows c.with_slots-scope.result) (scope_slots c.with_slots-scope.result)
     c.in_ok-evaluated.field-0.rows (c.with_slots-scope.ensures.rows ∙ (c.new-2.ensures.rows ∙ c.in_ok-table.ensures)) (c.with_slots-scope.ensures.slots ∙ c.in_ok-copied.ensures)
-    c.in_ok-evaluated.ensures)
+    c.in_ok-evaluated.ensures.rows)
     c.truths-2.ensures

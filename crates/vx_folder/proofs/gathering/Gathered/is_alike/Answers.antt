@@ -16,5 +16,5 @@ returns c =
     let form = gathered_zones c.args.self.now in
     let zones = c.args.zones.now in
     let same = columns_agree c.columns_of.result.now c.args.self.now.columns c.ne.result c.ne.ensures c.if-ne.false in
-    let stats : Decides c.are_alike.result (kinds_of zones.stats ≡ kinds_of form.stats) = search (rules, c.are_alike.ensures, c.stats.ensures.stats, c.as_slice.ensures.value) in
+    let stats : Decides c.are_alike.result (kinds_of zones.stats ≡ kinds_of form.stats) = search (rules, c.are_alike.ensures, c.statistics.ensures.stats, c.as_slice.ensures.value) in
     of_form form zones c.are_alike.result (sym c.columns_of.ensures.columns ∙ same) stats

@@ -12,5 +12,5 @@ pub returns : goal.returns
 returns g c = λ start below.
     let old = c.args.self.now in
     let made = c.in_ok-number.ensures in
-    visited_over g.F.Annotation.PartialEq.eq g.F.AnnotationFn.annotated start c.args.node.now c.args.results.items old (record { rule = old.rule; found = c.visit_over.new.found }) c.in_ok-number.number
+    visited_over g.F.Annotation.PartialEq.eq g.F.AnnotationFn.annotated start c.args.node.now c.args.results.now old (record { rule = old.rule; found = c.visit_over.new.found }) c.in_ok-number.number
     below refl made.entries made.extended made.number

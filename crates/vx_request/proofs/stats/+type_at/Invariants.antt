@@ -1,6 +1,0 @@
-use Rattle.std.proofs.Common.{length}
-use Rattle.vx_request.proofs.stats.+type_at.Given as goal
-
--- the names that are left
-abbrev pub decreases-type_at : goal.decreases-type_at
-decreases-type_at l = length l.names.now
