@@ -16,8 +16,9 @@ use Rattle.vx_laws_file.specs.Opening.{IsOpened, FileRefusal, IsRefusedFile}
 use Rattle.vx_file_open.specs.Layouts.{content_at, IsFileWith}
 use Rattle.vx_file_open.specs.OpenAnswers.{refusal_of}
 use Rattle.vx_laws_shell.specs.Folders.{TableFile, zones_before, HasItsZones, IsOfForm}
-use Rattle.vx_laws_shell.specs.FolderContents.{WhereEachKept, contents_joined, file_held, AreOpened, HoldTogether, kept_in, ArePassed, IsUnlikeThem, HaveTooManyBlocks, IsFolderFault, unopened_file, no_block_file}
-use Rattle.vx_laws_shell.specs.Running.{Kept, unknown, absent, holds, WhereKept}
+use Rattle.vx_laws_shell.specs.Paths.{WhereEachKept}
+use Rattle.vx_laws_shell.specs.FolderContents.{contents_joined, file_held, AreOpened, HoldTogether, kept_in, ArePassed, IsUnlikeThem, HaveTooManyBlocks, IsFolderFault, unopened_file, no_block_file}
+use Rattle.vx_laws_shell.specs.Paths.{Kept, unknown, absent, holds, WhereKept}
 use Rattle.vx_folder.specs.FolderStates.{WhereHeld}
 use Rattle.vx_folder.specs.FolderParts.{contents_kept, all_joined, Parts, held_of, HaveBegins, AreOfContent}
 use Rattle.vx_folder.specs.PathViews.{kept_by}

@@ -13,8 +13,9 @@ use Rattle.vx_laws_file.specs.Opening.{IsOpened, FileRefusal}
 use Rattle.vx_laws_file.proofs.HeaderReaders.{answer_is_computed}
 use Rattle.vx_laws_file.proofs.Openings.{one_content, opened_is_not_refused}
 use Rattle.vx_file_open.specs.Layouts.{WhereBytes}
-use Rattle.vx_laws_shell.specs.FolderContents.{WhereEachKept, AreOpened}
-use Rattle.vx_laws_shell.specs.Running.{Kept, unknown, absent, holds, WhereKept}
+use Rattle.vx_laws_shell.specs.Paths.{WhereEachKept}
+use Rattle.vx_laws_shell.specs.FolderContents.{AreOpened}
+use Rattle.vx_laws_shell.specs.Paths.{Kept, unknown, absent, holds, WhereKept}
 use Rattle.vx_folder.specs.PathViews.{kept_view}
 use Rattle.vx_folder.specs.FolderParts.{content_in, content_kept, with_content, contents_kept}
 

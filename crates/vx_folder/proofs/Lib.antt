@@ -13,3 +13,4 @@ pub mod OpenLemmas
 pub mod AddLemmas
 pub mod AlikeLemmas
 pub mod PartLemmas
+pub mod FaultLemmas

@@ -9,16 +9,19 @@ use Rattle.vx_zones.specs.Zoning.{broken_rule}
 use Rattle.vx_laws_file.specs.FileForms.{Header}
 use Rattle.vx_file_open.specs.Layouts.{IsFileWith}
 use Rattle.vx_laws_shell.specs.Folders.{zones_before}
-use Rattle.vx_laws_shell.specs.FolderContents.{WhereEachKept, Listed, unlisted, no_folder, lists, WhereListed, AreFileNames, kept_in, ArePassed, IsUnlikeThem, HaveTooManyBlocks, IsFolderFault, unlike_file}
-use Rattle.vx_laws_shell.specs.Running.{Kept, WhereKept}
-use Rattle.vx_laws_shell.specs.FolderContents.{Paths, WhereFiles}
+use Rattle.vx_laws_shell.specs.Paths.{WhereEachKept, Listed, unlisted, no_folder, lists, WhereListed}
+use Rattle.vx_laws_shell.specs.FolderContents.{AreFileNames, kept_in, ArePassed, IsUnlikeThem, HaveTooManyBlocks, IsFolderFault, unlike_file}
+use Rattle.vx_laws_shell.specs.Paths.{Kept, WhereKept}
+use Rattle.vx_laws_shell.specs.Paths.{Paths}
+use Rattle.vx_laws_shell.specs.FolderContents.{WhereFiles}
 use Rattle.vx_folder.specs.PathViews.{kept_by}
 use Rattle.vx_folder.specs.FolderParts.{Parts, held_of, AreParts}
 use Rattle.vx_folder.specs.FolderAnswers.{HoldsFiles, AreRefused, IsRefusedFolder, IsUnlisted, IsHeaderFault, IsNext, IsUnlike, GathersNext, AreGathered, IsLawful, gathered_zones}
+use Rattle.vx_folder.specs.FolderTables.{Ascend, FilesTable, HasPlaces, HoldTable, IsTableOfFolder}
 use Rattle.vx_folder.specs.declared.gathering.Gathered.{Gathered}
 use Rattle.vx_folder.specs.declared.errors.FolderError.{FolderError}
 use Rattle.vx_folder.specs.declared.errors.FolderError.TheVariants as errors
-use Rattle.vx_folder.proofs.GatherLemmas.{first_gathered, gathered_more, unlike_more, are_passed, too_many, holds_files, parts_held, header_refused}
+use Rattle.vx_folder.proofs.GatherLemmas.{first_gathered, gathered_more, unlike_more, are_passed, too_many, hold_together, holds_files, parts_held, header_refused}
 use Rattle.vx_folder.proofs.KeptLemmas.{where_each_so, where_kept_so, where_each_more}
 
 -- ---- lists of names
@@ -96,19 +99,32 @@ front_stays : (begins : List ℕ) (n : ℕ) → slice_get begins 0 ≡ Some 0 �
 front_stays [] n e = absurd (none-some 0 e)
 front_stays (begin ∷ begins) n e = e
 
+-- numbers that ascend to one, with that one behind them
+ascend_more : (low high higher : ℕ) (ns : List ℕ) → Ascend low ns high → high ≤ higher → Ascend low (ns ++ high ∷ []) higher
+ascend_more low high higher [] h k = (h, k)
+ascend_more low high higher (n ∷ ns) h k = (h.0, ascend_more n high higher ns h.1 k)
+
 pub lawful_first : (g : Gathered) (zones : Zones) → gathered_zones g ≡ zones → broken_rule zones ≡ None → g.begins.items ≡ 0 ∷ [] → IsLawful g 1
 lawful_first g zones is rules begins = record {
   rules = ap broken_rule is ∙ rules;
   paired = ap length begins;
   front = ap (λ (bs : List ℕ). slice_get bs 0) begins;
+  ascend = subst (λ (bs : List ℕ). Ascend 0 bs (length g.lengths.items)) (sym begins) (omega arith, omega arith);
 }
 
-pub lawful_next : (g now : Gathered) (i n : ℕ) → IsLawful g i → broken_rule (gathered_zones now) ≡ None → now.begins.items ≡ g.begins.items ++ n ∷ []
-    → IsLawful now (i + 1)
-lawful_next g now i n h rules more = record {
+-- the blocks with those of one more file are as many at least
+pub blocks_grow : (kept : Kept) (before after : Zones) → IsNext kept before after → length before.lengths ≤ length after.lengths
+blocks_grow kept before after next =
+    omega (arith, ap (λ (z : Zones). length z.lengths) next.after_is, length-append before.lengths next.header.zones.lengths)
+
+pub lawful_next : (g now : Gathered) (i : ℕ) → IsLawful g i → broken_rule (gathered_zones now) ≡ None
+    → now.begins.items ≡ g.begins.items ++ length g.lengths.items ∷ [] → length g.lengths.items ≤ length now.lengths.items → IsLawful now (i + 1)
+lawful_next g now i h rules more later = record {
   rules = rules;
-  paired = ap length more ∙ length-append g.begins.items (n ∷ []) ∙ ap (λ (k : ℕ). k + 1) h.paired;
-  front = ap (λ (bs : List ℕ). slice_get bs 0) more ∙ front_stays g.begins.items n h.front;
+  paired = ap length more ∙ length-append g.begins.items (length g.lengths.items ∷ []) ∙ ap (λ (k : ℕ). k + 1) h.paired;
+  front = ap (λ (bs : List ℕ). slice_get bs 0) more ∙ front_stays g.begins.items (length g.lengths.items) h.front;
+  ascend = subst (λ (bs : List ℕ). Ascend 0 bs (length now.lengths.items)) (sym more)
+      (ascend_more 0 (length g.lengths.items) (length now.lengths.items) g.begins.items h.ascend later);
 }
 
 module _ (kept : Bytes → Kept) (folder : Bytes) {X : Type 0} (f : X → Bytes) (xs : List X) (x : X) (name : Bytes) (is : name ≡ f x) where
@@ -154,12 +170,37 @@ next_unread kept name before after (errors.NoBlockFile told error) h = h
 next_unread kept name before after (errors.Unlike told) h = absurd h
 next_unread kept name before after errors.TooManyBlocks h = absurd h
 
--- ---- the parts of a folder
+-- ---- the table of a folder
 
 pub gathered_as : (ks : List Kept) (zones other : Zones) (begins others : List ℕ) → other ≡ zones → others ≡ begins → WhereEachKept ks (AreGathered zones begins)
     → WhereEachKept ks (AreGathered other others)
 gathered_as ks zones other begins others z b h =
     subst (λ (zs : Zones). WhereEachKept ks (AreGathered zs others)) (sym z) (subst (λ (bs : List ℕ). WhereEachKept ks (AreGathered zones bs)) (sym b) h)
+
+-- the blocks of each file have their places in it
+pub table_places : (g : Gathered) (files : ℕ) (table : FilesTable) → IsLawful g files → table.zones ≡ gathered_zones g → table.begins ≡ g.begins.items
+    → length table.names ≡ files → HasPlaces table
+table_places g files table h zones begins names = record {
+  front = ap (λ (bs : List ℕ). slice_get bs 0) begins ∙ h.front;
+  paired = ap length begins ∙ h.paired ∙ sym names;
+  ascend = subst (λ (bs : List ℕ). Ascend 0 bs (length table.zones.lengths)) (sym begins)
+      (subst (λ (zs : Zones). Ascend 0 g.begins.items (length zs.lengths)) (sym zones) h.ascend);
+}
+
+-- it is what the files hold together
+pub table_held : (ks : List Kept) (table : FilesTable) → length table.zones.lengths < 2 ^ 32 → WhereEachKept ks (AreGathered table.zones table.begins)
+    → WhereEachKept ks (HoldTable table)
+table_held ks table few h =
+    where_each_so ks (AreGathered table.zones table.begins) (HoldTable table)
+    (λ read g. record {
+      first = g.first;
+      contents = g.contents;
+      together = hold_together table.zones table.begins read few g;
+      zones_are = g.zones_are;
+      placed = g.placed;
+    }) h
+
+-- ---- the parts of a folder
 
 module _ (parts : Parts) (path : Bytes) (at : parts.folder ≡ path) (few : length parts.zones.lengths < 2 ^ 32)
     (h : WhereEachKept (kept_in (kept_by parts.kept) path parts.names) (AreGathered parts.zones parts.begins)) where
@@ -192,6 +233,14 @@ pub where_files : (paths : Paths) (path : Bytes) (names : List Bytes) (P : List 
 where_files paths path names P listed h =
     where_listed_so (paths.listed path) (λ standing. AreFileNames standing names) (λ standing. (ns : List Bytes) × AreFileNames standing ns × P ns)
     (λ standing are. (names, are, h)) listed
+
+-- the table of the block files of these names is that of the folder
+pub folder_table_is : (paths : Paths) (path : Bytes) (names : List Bytes) (table : FilesTable) → WhereListed (paths.listed path) (λ standing. AreFileNames standing names)
+    → table.names ≡ names → length table.zones.lengths < 2 ^ 32 → WhereEachKept (kept_in paths.kept path names) (AreGathered table.zones table.begins)
+    → IsTableOfFolder paths path table
+folder_table_is paths path names table listed same few h =
+    where_files paths path names (λ ns. (table.names ≡ ns) × WhereEachKept (kept_in paths.kept path ns) (HoldTable table)) listed
+    (same, table_held (kept_in paths.kept path names) table few h)
 
 pub folder_refused : (paths : Paths) (path : Bytes) (names : List Bytes) (error : FolderError) → WhereListed (paths.listed path) (λ standing. AreFileNames standing names)
     → AreRefused paths.kept path names error → IsRefusedFolder paths path error

@@ -7,7 +7,7 @@ use Rattle.vx_file_open.specs.Layouts.{WhereBytes}
 use Rattle.vx_file_open.specs.OpenAnswers.{refusal_of, IsRefusedBy}
 use Rattle.vx_file_open.specs.declared.errors.FileError.{FileError}
 use Rattle.vx_file_open.specs.declared.errors.FileError.TheVariants as errors
-use Rattle.vx_laws_shell.specs.Running.{WhereKept, CannotOpen}
+use Rattle.vx_laws_shell.specs.Paths.{WhereKept, CannotOpen}
 use Rattle.vx_folder.specs.PathViews.{kept_view}
 use Rattle.vx_folder.specs.FolderAnswers.{TellsRefusal, IsFileFault, IsPartFault}
 use Rattle.vx_folder.specs.declared.errors.FileFault.{FileFault}

@@ -12,13 +12,16 @@ use Rattle.vx_laws_file.specs.FileLaws.{AreBytes}
 use Rattle.vx_laws_file.specs.Opening.{FileRefusal, IsRefusedFile}
 use Rattle.vx_file_open.specs.Layouts.{WhereBytes, IsFileWith}
 use Rattle.vx_file_open.specs.OpenAnswers.{refusal_of}
-use Rattle.vx_laws_shell.specs.FolderContents.{Listed, WhereEachKept, CannotList, is_file_name, contents_joined, AreOpened, AreAlike, HoldTogether}
-use Rattle.vx_laws_shell.specs.Running.{Kept, WhereKept, CannotOpen}
+use Rattle.vx_laws_shell.specs.Paths.{Listed, WhereEachKept, CannotList}
+use Rattle.vx_laws_shell.specs.FolderContents.{is_file_name, contents_joined, AreOpened, AreAlike, HoldTogether}
+use Rattle.vx_laws_shell.specs.Paths.{Kept, WhereKept, CannotOpen}
 use Rattle.vx_laws_shell.specs.FolderContents.{no_file, unopened_file, no_block_file, unlike_file, too_many_blocks, kept_in, IsFolderFault}
 use Rattle.vx_laws_shell.specs.Folders.{zones_before}
-use Rattle.vx_laws_shell.specs.FolderContents.{Paths, WhereFiles}
+use Rattle.vx_laws_shell.specs.Paths.{Paths}
+use Rattle.vx_laws_shell.specs.FolderContents.{WhereFiles}
 use Rattle.vx_folder.specs.FolderStates.{FolderState}
 use Rattle.vx_folder.specs.FolderParts.{HaveBegins}
+use Rattle.vx_folder.specs.FolderTables.{Ascend}
 use Rattle.vx_folder.specs.declared.errors.FolderError.{FolderError}
 use Rattle.vx_folder.specs.declared.errors.FolderError.TheVariants as errors
 use Rattle.vx_folder.specs.declared.errors.FileFault.{FileFault}
@@ -120,6 +123,7 @@ pub record IsLawful (g : Gathered) (files : ℕ) : Type 0 where
   pub rules : broken_rule (gathered_zones g) ≡ None
   pub paired : length g.begins.items ≡ files
   pub front : slice_get g.begins.items 0 ≡ Some 0
+  pub ascend : Ascend 0 g.begins.items (length g.lengths.items)
 
 -- a file whose path leads to this was put behind those before it, whose statistics are these: it is alike, and its statistics stand behind them
 pub record IsNext (kept : Kept) (before after : Zones) : Type 0 where

@@ -12,7 +12,7 @@ use Rattle.vx_laws_file.specs.FileReading.{opened_of}
 use Rattle.vx_files.specs.Kept as files
 use Rattle.vx_file_open.specs.Layouts.{WhereBytes, IsFileWith}
 use Rattle.vx_laws_shell.specs.FolderContents.{kept_in, contents_joined, HoldTogether}
-use Rattle.vx_laws_shell.specs.Running.{Kept, holds}
+use Rattle.vx_laws_shell.specs.Paths.{Kept, holds}
 use Rattle.vx_folder.specs.PathViews.{kept_by}
 use Rattle.vx_folder.specs.declared.parts.FolderParts.{FolderParts}
 use Rattle.vx_folder.specs.FolderStates.{WhereHeld}

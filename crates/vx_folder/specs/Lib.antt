@@ -4,11 +4,15 @@ pub mod FolderMoves
 pub mod FolderCodes
 pub mod FolderParts
 pub mod FolderAnswers
+pub mod FolderTexts
+pub mod FolderTables
 pub use Rattle.vx_files.specs.Kept
 pub use Rattle.vx_files.specs.Listed
 pub use Rattle.vx_file_open.specs.Layouts
 pub use Rattle.vx_file_open.specs.OpenAnswers
 pub use Rattle.vx_scan.specs.Stores
 pub use Rattle.vx_scan.specs.StoreViews
+pub use Rattle.vx_laws_shell.specs.Paths
 pub use Rattle.vx_laws_shell.specs.FolderContents
+pub use Rattle.vx_laws_shell.specs.FolderLines
 pub use Rattle.vx_laws_shell.specs.Running

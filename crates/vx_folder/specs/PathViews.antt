@@ -2,9 +2,9 @@
 use Rattle.vx_dtype.specs.Types.{Bytes}
 use Rattle.vx_files.specs.Kept as files
 use Rattle.vx_files.specs.Listed as folders
-use Rattle.vx_laws_shell.specs.FolderContents.{Listed, unlisted, no_folder, lists}
-use Rattle.vx_laws_shell.specs.Running.{Kept, unknown, absent, holds}
-use Rattle.vx_laws_shell.specs.FolderContents.{Paths}
+use Rattle.vx_laws_shell.specs.Paths.{Listed, unlisted, no_folder, lists}
+use Rattle.vx_laws_shell.specs.Paths.{Kept, unknown, absent, holds}
+use Rattle.vx_laws_shell.specs.Paths.{Paths}
 
 -- what a path leads to
 abbrev pub kept_view : files.Kept → Kept

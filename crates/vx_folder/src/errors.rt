@@ -1,8 +1,10 @@
 // Why a folder isn't opened.
-ghost use Rattle.std.specs.Prelude.{◌≡◌};
+ghost use Rattle.std.specs.Prelude.{◌≡◌, ◌++◌, IfOk};
+ghost use Rattle.std.specs.String.{string_bytes};
+ghost use Rattle.vx_folder.specs.FolderTexts.{error_text, unfiled_text};
 
-use std::alloc::{AllocError, AllocFailed};
-use vx_dtype::NoMemory;
+use std::alloc::{AllocError, AllocFailed, Global};
+use vx_dtype::{Mem, NoMemory};
 use vx_file_open::FileError;
 
 /// Why the block files of a folder aren't opened together. Where it is known what stands in the folder and what each file is, the refusals from NoFile on come
@@ -54,6 +56,71 @@ impl From<NoMemory> for FolderError {
 
     fn from(_error: NoMemory) -> FolderError {
         FolderError::NoMemory
+    }
+}
+
+impl FolderError {
+    /// What is told of the error: where it is one of the folder's files their fault, which names the file.
+    pub fn text(&self, alloc: Global) -> Mem<String>
+        ensures { IfOk result (λ text. string_bytes text ≡ error_text self.now) }
+    {
+        match self {
+            FolderError::NoMemory => owned(alloc, "there is no memory"),
+            FolderError::ReadFault => owned(alloc, "a read failed"),
+            FolderError::NotListed => owned(alloc, "the folder can't be listed"),
+            FolderError::NoFile => owned(alloc, "the folder has no block file"),
+            FolderError::NotOpened(name) => behind(alloc, name.as_str(), " can't be opened"),
+            FolderError::NoBlockFile(name, error) => unfiled_text(alloc, name.as_str(), error),
+            FolderError::Unlike(name) => behind(
+                alloc,
+                name.as_str(),
+                " hasn't the columns and statistics of the files before it",
+            ),
+            FolderError::TooManyBlocks => owned(
+                alloc,
+                "the files of the folder have more than 4294967295 blocks",
+            ),
+        }
+    }
+}
+
+/// A text of its own.
+fn owned(alloc: Global, text: &str) -> Mem<String>
+    ensures { IfOk result (λ own. string_bytes own ≡ text.now) }
+{
+    Ok(String::from_str(alloc, text)?)
+}
+
+/// A name with a text behind it.
+fn behind(alloc: Global, name: &str, text: &str) -> Mem<String>
+    ensures { IfOk result (λ own. string_bytes own ≡ name.now ++ text.now) }
+{
+    Ok(format!(in alloc; "{name}{text}")?)
+}
+
+/// Why the file of a name is no block file.
+fn unfiled_text(alloc: Global, name: &str, error: &FileError) -> Mem<String>
+    ensures { IfOk result (λ text. string_bytes text ≡ unfiled_text name.now error.now) }
+{
+    match error {
+        FileError::NoMemory => owned(alloc, "there is no memory"),
+        FileError::ReadFault => owned(alloc, "a read failed"),
+        FileError::BadMagic => behind(
+            alloc,
+            name,
+            ": no block file: it doesn't begin with the mark",
+        ),
+        FileError::BadHeader => behind(alloc, name, ": no block file: it has no header"),
+        FileError::BadZones(_) => behind(
+            alloc,
+            name,
+            ": no block file: a name or a statistic stands twice in its header",
+        ),
+        FileError::BadEnd => behind(
+            alloc,
+            name,
+            ": no block file: it doesn't end where its last column does",
+        ),
     }
 }
 

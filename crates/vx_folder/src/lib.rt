@@ -1,4 +1,4 @@
-//! The block files of a folder as one store: opening them together, and reading their columns.
+//! The block files of a folder as one store: opening them together, and reading their columns; or as one table by their headers alone.
 #![tactic(auto)]
 
 mod errors;
@@ -9,7 +9,9 @@ mod opening;
 mod part_files;
 mod parts;
 mod reading;
+mod tables;
 
 pub use errors::FolderError;
 pub use folders::Folder;
-pub use opening::open_folder;
+pub use opening::{folder_table, open_folder};
+pub use tables::FolderTable;

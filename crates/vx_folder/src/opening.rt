@@ -1,14 +1,16 @@
 // Opening the block files of a folder together.
-ghost use Rattle.std.specs.Prelude.{◌≡◌, ◌∷◌, ◌++◌, [], map, length, None, IfOk, IfErr};
+ghost use Rattle.std.specs.Prelude.{◌≡◌, ◌<◌, ◌^◌, ◌∷◌, ◌++◌, [], map, length, None, IfOk, IfErr};
 ghost use Rattle.std.specs.String.{string_bytes};
 ghost use Rattle.vx_zones.specs.Zoning.{broken_rule};
-ghost use Rattle.vx_laws_shell.specs.FolderContents.{WhereEachKept, WhereListed, AreFileNames, kept_in};
-ghost use Rattle.vx_laws_shell.specs.Running.{WhereKept};
+ghost use Rattle.vx_laws_shell.specs.Paths.{WhereEachKept, WhereListed};
+ghost use Rattle.vx_laws_shell.specs.FolderContents.{AreFileNames, kept_in};
+ghost use Rattle.vx_laws_shell.specs.Paths.{WhereKept};
 ghost use Rattle.vx_file_open.specs.Layouts.{IsFileWith};
 ghost use Rattle.vx_folder.specs.PathViews.{kept_by, paths_by, listed_view};
 ghost use Rattle.vx_folder.specs.FolderStates.{IsNewFolder, WhereHeld, IsKeptFolder};
 ghost use Rattle.vx_folder.specs.FolderParts.{AreParts, held_of, parts_view};
 ghost use Rattle.vx_folder.specs.FolderAnswers.{OpensFolder, HoldsFiles, IsRefusedFolder, AreRefused};
+ghost use Rattle.vx_folder.specs.FolderTables.{HasPlaces, IsTableOfFolder, table_view};
 ghost use Rattle.vx_folder.specs.FolderAnswers.{IsUnlisted, IsHeaderFault, gathered_zones, AreGathered, IsLawful, GathersNext};
 
 use crate::errors::{FileFault, FolderError};
@@ -17,6 +19,7 @@ use crate::gathering::{Gathered, zones_of};
 use crate::names::file_names;
 use crate::part_files::{PartFile, open_part};
 use crate::parts::FolderParts;
+use crate::tables::FolderTable;
 use std::alloc::Global;
 use vx_file_open::Layout;
 use vx_files::{Files, OpenError};
@@ -42,6 +45,24 @@ pub fn open_folder<'f, F: Files>(
     let names = listed_names(alloc, files, path)?;
     let parts = opened_parts(alloc, files, path, names)?;
     Ok(Folder::of_parts(parts))
+}
+
+/// Reads the headers of the block files in the folder of a path, which ends in `/`, and answers them as one table. It opens the files and refuses them as
+/// [`open_folder`] does.
+///
+/// Where it is known what stands in the folder and what each file is, the table is what the files hold together.
+pub fn folder_table<F: Files>(
+    alloc: Global,
+    files: &F,
+    path: &str,
+) -> Result<FolderTable, FolderError>
+    ensures table { IfOk result (λ table. IsTableOfFolder (paths_by (F.kept files.now) (F.listed files.now)) path.now (table_view table)) }
+    ensures places { IfOk result (λ table. HasPlaces (table_view table)) }
+    ensures refused { IfErr result (IsRefusedFolder (paths_by (F.kept files.now) (F.listed files.now)) path.now) }
+{
+    let names = listed_names(alloc, files, path)?;
+    let table = table_of(alloc, files, path, names)?;
+    Ok(table)
 }
 
 /// The names of the block files in a folder.
@@ -70,15 +91,42 @@ fn opened_parts<'f, F: Files>(
         (HoldsFiles (held_of (parts_view (F.kept files.now) parts)))) }
     ensures refused { IfErr result (AreRefused (kept_by (F.kept files.now)) path.now (map string_bytes names.items)) }
 {
+    let table = table_of(alloc, files, path, names)?;
+    let FolderTable {
+        names,
+        begins,
+        zones,
+    } = table;
+    Ok(FolderParts {
+        alloc,
+        files,
+        folder: String::from_str(alloc, path)?,
+        names,
+        begins,
+        zones,
+    })
+}
+
+/// The block files of these names in a folder as one table.
+fn table_of<F: Files>(
+    alloc: Global,
+    files: &F,
+    path: &str,
+    names: Vec<String>,
+) -> Result<FolderTable, FolderError>
+    ensures names { IfOk result (λ table. table.names.items ≡ names.items) }
+    ensures gathered { IfOk result (λ table. WhereEachKept (kept_in (kept_by (F.kept files.now)) path.now (map string_bytes names.items))
+        (AreGathered table.zones table.begins.items)) }
+    ensures places { IfOk result (λ table. HasPlaces (table_view table)) }
+    ensures few { IfOk result (λ table. length table.zones.lengths < 2 ^ 32) }
+    ensures refused { IfErr result (AreRefused (kept_by (F.kept files.now)) path.now (map string_bytes names.items)) }
+{
     let gathered = gathered_files(alloc, files, path, names.as_slice())?;
     if gathered.lengths.len() >= MOST_BLOCKS {
         return Err(FolderError::TooManyBlocks);
     }
     let (zones, begins) = zones_of(alloc, gathered)?;
-    Ok(FolderParts {
-        alloc,
-        files,
-        folder: String::from_str(alloc, path)?,
+    Ok(FolderTable {
         names,
         begins,
         zones,

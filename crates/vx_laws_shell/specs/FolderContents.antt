@@ -15,38 +15,7 @@ use Rattle.vx_laws_file.specs.Opening.{IsOpened, FileRefusal, IsRefusedFile}
 use Rattle.vx_laws_file.specs.Ranges.{IsDamaged}
 use Rattle.vx_laws_shell.specs.Damage.{is_damaged_in}
 use Rattle.vx_laws_shell.specs.Folders.{TableFile, zones_before, table_of_files, AreOneFolder}
-use Rattle.vx_laws_shell.specs.Running.{Kept, unknown, absent, holds, WhereKept, CannotOpen}
-
--- ---- what paths lead to
-
--- what stands in a folder: nothing that is known, no folder that can be listed, or things of these names
-pub data Listed : Type 0 where
-  unlisted : Listed
-  no_folder : Listed
-  lists : List Bytes → Listed
-
--- the files that can be opened: what each path leads to, and what stands in each folder
-pub record Paths : Type 0 where
-  pub kept : Bytes → Kept
-  pub listed : Bytes → Listed
-
--- what holds of the bytes of files that are opened, one after another, where they are all known
-abbrev pub WhereEachKept : List Kept → (List Bytes → Type 0) → Type 0
-WhereEachKept [] P = P []
-WhereEachKept (unknown ∷ kept) P = Unit {0}
-WhereEachKept (absent ∷ kept) P = ⊥
-WhereEachKept (holds bytes ∷ kept) P = WhereEachKept kept (λ files. P (bytes ∷ files))
-
--- what holds of the names in a folder that is listed, as far as they are known
-abbrev pub WhereListed : Listed → (List Bytes → Type 0) → Type 0
-WhereListed unlisted P = Unit {0}
-WhereListed no_folder P = ⊥
-WhereListed (lists names) P = P names
-
--- a folder that can't be listed
-abbrev pub CannotList : Listed → Type 0
-CannotList (lists names) = ⊥
-CannotList _ = Unit {0}
+use Rattle.vx_laws_shell.specs.Paths.{Kept, WhereKept, CannotOpen, Paths, WhereEachKept, WhereListed}
 
 -- ---- the files of a folder
 

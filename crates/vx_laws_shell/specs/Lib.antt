@@ -6,11 +6,13 @@ pub mod Lines
 pub mod Wants
 pub mod Answers
 pub mod Damage
+pub mod Paths
+pub mod Folders
+pub mod FolderContents
+pub mod FolderLines
 pub mod Running
 pub mod AnswerLaws
 pub mod OrderedRuns
 pub mod KeyedRuns
 pub mod PlanLaws
-pub mod Folders
 pub mod CutAnew
-pub mod FolderContents

@@ -1,5 +1,5 @@
 -- The lines that a run writes: of each row, and of what was counted.
-use Rattle.std.specs.Prelude.{ℕ, List, ◌++◌, codes, decimal}
+use Rattle.std.specs.Prelude.{ℕ, ◌/◌, ◌%◌, List, [], ◌++◌, codes, decimal, Option, Some, None}
 use Rattle.std.specs.List.{flat_map}
 use Rattle.vx_dtype.specs.Types.{Bytes}
 use Rattle.vx_dtype.specs.Values.{Val}
@@ -21,8 +21,18 @@ pub record Counts : Type 0 where
   pub columns_read : ℕ
   pub rows : ℕ
 
--- the line of what was counted
-abbrev pub counts_line : Counts → Bytes
-counts_line c =
+-- how many seconds so many milliseconds are, with three digits behind the point
+abbrev pub seconds_text : ℕ → Bytes
+seconds_text ms =
+    codes ", seconds " ++ (decimal (ms / 1000) ++ (codes "." ++ (decimal (ms / 100 % 10) ++ (decimal (ms / 10 % 10) ++ decimal (ms % 10)))))
+
+-- so where they are known, else nothing
+abbrev pub seconds_known : Option ℕ → Bytes
+seconds_known None = []
+seconds_known (Some ms) = seconds_text ms
+
+-- the line of what was counted, and of how many milliseconds a run took, where that is known
+abbrev pub counts_line : Counts → Option ℕ → Bytes
+counts_line c milliseconds =
     codes "blocks skipped " ++ (decimal c.skipped ++ (codes " of " ++ (decimal c.blocks ++ (codes ", columns read " ++ (decimal c.columns_read
-    ++ (codes " of " ++ (decimal c.columns ++ (codes ", rows " ++ (decimal c.rows ++ codes "\n")))))))))
+    ++ (codes " of " ++ (decimal c.columns ++ (codes ", rows " ++ (decimal c.rows ++ (seconds_known milliseconds ++ codes "\n"))))))))))

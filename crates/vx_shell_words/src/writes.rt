@@ -23,10 +23,10 @@ pub enum InputForm {
     },
 }
 
-/// What words ask of the table on the standard input: to be kept as a block file.
+/// What words ask of the table on the standard input: to be kept as a block file, or as block files of a folder.
 #[derive(Debug, Drop)]
 pub struct WriteAsk {
-    /// The path of the file.
+    /// The path of the file, or that of the folder where it ends in `/`.
     pub path: String,
     /// The form of the input.
     pub form: InputForm,
@@ -249,9 +249,9 @@ fn write_behind(alloc: Global, words: &[String]) -> Mem<Option<WriteAsk>>
     }
 }
 
-/// What words ask: `write`, the path of a block file, the word `csv` where the input is a text of CSV, and behind them options, in any order, each at most once:
-/// `--rows N`, `--force`, and with `csv` `--null TEXT` and `--types TEXT`. N is decimal digits, of which no 0 stands before others, at least 1 and at most
-/// 1,048,576; the text of the types is one that [`columns_of_text`] reads. None where the words have not this form.
+/// What words ask: `write`, the path of a block file or of a folder, the word `csv` where the input is a text of CSV, and behind them options, in any order,
+/// each at most once: `--rows N`, `--force`, and with `csv` `--null TEXT` and `--types TEXT`. N is decimal digits, of which no 0 stands before others, at least
+/// 1 and at most 1,048,576; the text of the types is one that [`columns_of_text`] reads. None where the words have not this form.
 #[tactic(auto, unfolding(vx_laws_writing::specs::WriteWords::write_asked_of))]
 pub fn write_asked_of(alloc: Global, words: &[String]) -> Mem<Option<WriteAsk>>
     ensures { IfOk result (λ found. option_map write_view found ≡ spec.write_asked_of (map string_bytes words.now)) }

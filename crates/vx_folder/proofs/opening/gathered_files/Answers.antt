@@ -4,7 +4,7 @@ use Rattle.std.proofs.lemmas.Result.{err_from_is_err_and}
 use Rattle.vx_folder.specs.FolderAnswers.{gathered_zones}
 use Rattle.vx_folder.specs.PathViews.{kept_by}
 use Rattle.vx_folder.proofs.FetchLemmas.{got}
-use Rattle.vx_folder.proofs.OpenLemmas.{some_stand, lawful_first, lawful_next, first_so_far, more_so_far, first_refused_at, refused_at}
+use Rattle.vx_folder.proofs.OpenLemmas.{some_stand, lawful_first, lawful_next, blocks_grow, first_so_far, more_so_far, first_refused_at, refused_at}
 use Rattle.vx_folder.proofs.opening.gathered_files.Goals as goal
 
 pub returns-in_err-first-clause-refused : goal.returns-in_err-first-clause-refused
@@ -50,7 +50,8 @@ loop-i-preserved g c =
     let before = c.loop-i.gathered in
     let after = c.gather.new.gathered in
     let here : slice_get names i ≡ Some own = got names i own own c.loop-i-test.true c.index-names-i.is in (
-      lawful_next before after i (length before.lengths.items) c.loop-i.invariant.0 c.in_ok-gather.ensures.lawful c.in_ok-gather.ensures.begins,
+      lawful_next before after i c.loop-i.invariant.0 c.in_ok-gather.ensures.lawful c.in_ok-gather.ensures.begins
+          (blocks_grow _ (gathered_zones before) (gathered_zones after) c.in_ok-gather.ensures.gathers),
       more_so_far kept c.args.path.now string_bytes names own c.as_str-in-loop-i.result.now c.as_str-in-loop-i.ensures.value i
           (gathered_zones before) (gathered_zones after) before.begins.items after.begins.items here c.in_ok-gather.ensures.begins c.loop-i.invariant.1 c.in_ok-gather.ensures.gathers,
     )
