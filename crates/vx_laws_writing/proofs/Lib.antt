@@ -2,3 +2,5 @@ pub mod WordLemmas
 pub mod TextTables
 pub mod WrittenTables
 pub mod CutTables
+pub mod FolderTables
+pub mod FileNames

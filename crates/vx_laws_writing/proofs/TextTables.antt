@@ -12,7 +12,6 @@ use Rattle.vx_laws_csv.specs.Sheets.{form_refusal, records_of}
 use Rattle.vx_laws_csv.specs.CsvTables.{CsvTable, cut, row_val, table_with, number_refusal, given_refusal, found_columns, found_behind, found_in, found_table, typed_behind, typed_in, typed_table}
 use Rattle.vx_laws_csv.proofs.Cutting.{cutting_keeps_rows}
 use Rattle.vx_laws_csv.proofs.Whole.{tables_are_whole, tables_hold_the_cells}
-use Rattle.vx_laws_file.specs.FileForms.{most_rows}
 use Rattle.vx_cutting.specs.CutLaws.{all_rows}
 use Rattle.vx_laws_shell.specs.ToldTables.{table_told}
 use Rattle.vx_laws_shell.proofs.ToldTables.{told_tables_are_tables}
@@ -41,33 +40,33 @@ named-holds P (Some r) names next h = tt
 abbrev IsOfText : Bytes → Option Fields → ℕ → Bytes → CsvTable → Type 0
 IsOfText null given size text table = IsTableOfText null given size text (told_csv table)
 
-found-rows : (null : Bytes) (size : ℕ) (text : Bytes) (records : List (List Bytes)) → records_of text ≡ Ok records → Holds (IsOfText null None size text) (found_in null size most_rows records)
-found-rows null size text [] is = tt
-found-rows null size text (names ∷ rows) is =
+found-rows : (most : ℕ) (null : Bytes) (size : ℕ) (text : Bytes) (records : List (List Bytes)) → records_of text ≡ Ok records → Holds (IsOfText null None size text) (found_in null size most records)
+found-rows most null size text [] is = tt
+found-rows most null size text (names ∷ rows) is =
     let P = IsOfText null None size text in
     let table = table_with null size (found_columns null names rows) rows in
-    named-holds P (form_refusal names rows) names (found_behind null size most_rows rows)
-    (unless-holds P (number_refusal most_rows rows) (Ok table) (record { names = names; rows = rows; records_are = is; told_is = refl }))
+    named-holds P (form_refusal names rows) names (found_behind null size most rows)
+    (unless-holds P (number_refusal most rows) (Ok table) (record { names = names; rows = rows; records_are = is; told_is = refl }))
 
-found-holds : (null : Bytes) (size : ℕ) (text : Bytes) → Holds (IsOfText null None size text) (found_table null size most_rows text)
-found-holds null size text = step-holds (IsOfText null None size text) (records_of text) (found_in null size most_rows) (found-rows null size text)
+found-holds : (most : ℕ) (null : Bytes) (size : ℕ) (text : Bytes) → Holds (IsOfText null None size text) (found_table null size most text)
+found-holds most null size text = step-holds (IsOfText null None size text) (records_of text) (found_in null size most) (found-rows most null size text)
 
-typed-rows : (null : Bytes) (size : ℕ) (fs : Fields) (text : Bytes) (records : List (List Bytes)) → records_of text ≡ Ok records
-    → Holds (IsOfText null (Some fs) size text) (typed_in null size most_rows fs records)
-typed-rows null size fs text [] is = tt
-typed-rows null size fs text (names ∷ rows) is =
+typed-rows : (most : ℕ) (null : Bytes) (size : ℕ) (fs : Fields) (text : Bytes) (records : List (List Bytes)) → records_of text ≡ Ok records
+    → Holds (IsOfText null (Some fs) size text) (typed_in null size most fs records)
+typed-rows most null size fs text [] is = tt
+typed-rows most null size fs text (names ∷ rows) is =
     let P = IsOfText null (Some fs) size text in
     let table = table_with null size fs rows in
-    named-holds P (form_refusal names rows) names (typed_behind null size most_rows fs rows)
-    (unless-holds P (number_refusal most_rows rows) (unless_refused (given_refusal null fs names rows) (Ok table))
+    named-holds P (form_refusal names rows) names (typed_behind null size most fs rows)
+    (unless-holds P (number_refusal most rows) (unless_refused (given_refusal null fs names rows) (Ok table))
     (unless-holds P (given_refusal null fs names rows) (Ok table) (record { names = names; rows = rows; records_are = is; told_is = refl })))
 
-typed-holds : (null : Bytes) (size : ℕ) (fs : Fields) (text : Bytes) → Holds (IsOfText null (Some fs) size text) (typed_table null size most_rows fs text)
-typed-holds null size fs text = step-holds (IsOfText null (Some fs) size text) (records_of text) (typed_in null size most_rows fs) (typed-rows null size fs text)
+typed-holds : (most : ℕ) (null : Bytes) (size : ℕ) (fs : Fields) (text : Bytes) → Holds (IsOfText null (Some fs) size text) (typed_table null size most fs text)
+typed-holds most null size fs text = step-holds (IsOfText null (Some fs) size text) (records_of text) (typed_in null size most fs) (typed-rows most null size fs text)
 
-text-holds : (null : Bytes) (given : Option Fields) (size : ℕ) (text : Bytes) → Holds (IsOfText null given size text) (csv_table null given size text)
-text-holds null None size text = found-holds null size text
-text-holds null (Some fs) size text = typed-holds null size fs text
+text-holds : (most : ℕ) (null : Bytes) (given : Option Fields) (size : ℕ) (text : Bytes) → Holds (IsOfText null given size text) (csv_table most null given size text)
+text-holds most null None size text = found-holds most null size text
+text-holds most null (Some fs) size text = typed-holds most null size fs text
 
 -- the same told, within the length of an input
 told-holds : (P : ToldTable → Type 0) (answer : Result CsvTable Refusal) → Holds (λ table. P (told_csv table)) answer → Holds P (csv_told answer)
@@ -79,11 +78,11 @@ within-holds P true answer h = h
 within-holds P false answer h = tt
 
 pub tables_are_of_their_texts : TablesAreOfTheirTexts
-tables_are_of_their_texts null given rows text told h =
+tables_are_of_their_texts most null given rows text told h =
     let size = unwrap_or rows rows_unnamed in
     let P = IsTableOfText null given size text in
     subst (Holds P) h
-    (within-holds P (nat_le (length text) most_bytes) (csv_told (csv_table null given size text)) (told-holds P (csv_table null given size text) (text-holds null given size text)))
+    (within-holds P (nat_le (length text) most_bytes) (csv_told (csv_table most null given size text)) (told-holds P (csv_table most null given size text) (text-holds most null given size text)))
 
 -- the blocks of the table of a text are a table with its zones
 pub text_tables_are_tables : (null : Bytes) (size : ℕ) (fs : Fields) (rows : List (List Bytes)) → table_refusal (table_with null size fs rows).zones (table_with null size fs rows).blocks ≡ None
@@ -99,10 +98,10 @@ json-holds : (P : ToldTable → Type 0) (answer : Result ToldTable RequestError)
 json-holds P (Ok told) h = h told refl
 json-holds P (Err e) h = tt
 
-pub tables_told_are_tables : (form : InputForm) (rows : Option ℕ) (input : Bytes) (told : ToldTable) → table_by form rows input ≡ Ok told → table_refusal told.zones told.blocks ≡ None
-tables_told_are_tables of_json rows input told h = subst (Holds IsUnrefused) h (json-holds IsUnrefused (told_table input) (told_tables_are_tables input))
-tables_told_are_tables (of_csv null given) rows input told h =
-    let is = tables_are_of_their_texts null given rows input told h in
+pub tables_told_are_tables : (most : ℕ) (form : InputForm) (rows : Option ℕ) (input : Bytes) (told : ToldTable) → table_by most form rows input ≡ Ok told → table_refusal told.zones told.blocks ≡ None
+tables_told_are_tables most of_json rows input told h = subst (Holds IsUnrefused) h (json-holds IsUnrefused (told_table input) (told_tables_are_tables input))
+tables_told_are_tables most (of_csv null given) rows input told h =
+    let is = tables_are_of_their_texts most null given rows input told h in
     subst IsUnrefused (sym is.told_is) (text_tables_are_tables null (unwrap_or rows rows_unnamed) (unwrap_or given (found_columns null is.names is.rows)) is.rows)
 
 -- the rows of the table of a text

@@ -27,7 +27,7 @@ use Rattle.vx_laws_shell.specs.ToldTables.{table_told}
 use Rattle.vx_cutting.specs.CutLaws.{IsTable, all_rows}
 use Rattle.vx_cutting.proofs.CutLaws.{cut_tables_are_tables, cutting_keeps_rows}
 use Rattle.vx_laws_writing.specs.WriteWords.{InputForm, of_json, of_csv}
-use Rattle.vx_laws_writing.specs.Writing.{IsFileOf, blocks_kept, cut_by, rows_cut, told_csv, zones_told, zones_kept}
+use Rattle.vx_laws_writing.specs.Writing.{IsFileOf, blocks_kept, cut_by, most_asked, rows_cut, told_csv, zones_told, zones_kept}
 use Rattle.vx_laws_writing.specs.WriteLaws.{Cuts, IsWrittenWell, WhatIsWrittenIsTheTable, WhatIsWrittenIsTheText}
 use Rattle.vx_laws_writing.proofs.TextTables.{tables_told_are_tables, text_rows, text_tables_are_tables}
 
@@ -51,13 +51,13 @@ kept_is_table None told cuts h = is_table told.zones told.blocks h
 kept_is_table (Some n) told cuts h = cut_tables_are_tables n told.zones told.blocks cuts (is_table told.zones told.blocks h)
 
 -- their rows are those of the table
-rows_kept : (rows : Option ℕ) (told : ToldTable) → Cuts rows → table_refusal told.zones told.blocks ≡ None
+pub rows_kept : (rows : Option ℕ) (told : ToldTable) → Cuts rows → table_refusal told.zones told.blocks ≡ None
     → all_rows (table_of_blocks (zones_told rows told) (blocks_kept rows told)).blocks ≡ all_rows (table_told told).blocks
 rows_kept None told cuts h = refl
 rows_kept (Some n) told cuts h = cutting_keeps_rows n told.zones told.blocks cuts (is_table told.zones told.blocks h)
 
 -- and so is the table with the zones that are built of it
-same_table : (zones : Zones) (blocks : List (List Column)) → have_lengths zones blocks ≡ true → table_of_blocks (built_zones (table_of_blocks zones blocks)) blocks ≡ table_of_blocks zones blocks
+pub same_table : (zones : Zones) (blocks : List (List Column)) → have_lengths zones blocks ≡ true → table_of_blocks (built_zones (table_of_blocks zones blocks)) blocks ≡ table_of_blocks zones blocks
 same_table zones blocks h =
     let fs = zones.columns in
     let lengths = table_lengths fs (length (field_names fs)) zones.lengths blocks h in
@@ -67,15 +67,15 @@ each_fits : (t : Ty) (vs : List Val) → rows_fit t vs ≡ list_all (λ v. val_f
 each_fits t [] = refl
 each_fits t (v ∷ vs) = ap (λ b. val_fits v t && b) (each_fits t vs)
 
-all_fit : (t : Ty) (blocks : List (List Val)) → list_all (rows_fit t) blocks ≡ all_rows_fit t blocks
+pub all_fit : (t : Ty) (blocks : List (List Val)) → list_all (rows_fit t) blocks ≡ all_rows_fit t blocks
 all_fit t [] = refl
 all_fit t (vs ∷ blocks) = λ i. each_fits t vs i && all_fit t blocks i
 
-distinct : (z : Zones) → broken_rule z ≡ None → no_name_twice (row_type z.columns) ≡ true
+pub distinct : (z : Zones) → broken_rule z ≡ None → no_name_twice (row_type z.columns) ≡ true
 unfolding broken_rule
 distinct z h = (passed (no_name_twice (row_type z.columns)) _ _ h).0
 
-columns_kept : (rows : Option ℕ) (told : ToldTable) → (zones_kept rows told).columns ≡ told.zones.columns
+pub columns_kept : (rows : Option ℕ) (told : ToldTable) → (zones_kept rows told).columns ≡ told.zones.columns
 columns_kept None told = refl
 columns_kept (Some n) told = refl
 
@@ -106,7 +106,7 @@ cut_cuts (of_csv null columns) rows h = tt
 
 pub what_is_written_is_the_table : WhatIsWrittenIsTheTable
 what_is_written_is_the_table input ask told bytes tells cuts is =
-    written_well told (rows_cut ask) bytes (tables_told_are_tables ask.form ask.rows input told tells) (cut_cuts ask.form ask.rows cuts) is
+    written_well told (rows_cut ask) bytes (tables_told_are_tables (most_asked ask.path) ask.form ask.rows input told tells) (cut_cuts ask.form ask.rows cuts) is
 
 -- what is written of a text of CSV
 pub what_is_written_is_the_text : WhatIsWrittenIsTheText

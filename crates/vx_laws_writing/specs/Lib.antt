@@ -1,3 +1,5 @@
 pub mod WriteWords
 pub mod Writing
 pub mod WriteLaws
+pub mod FolderLaws
+pub mod NameLaws

@@ -57,7 +57,8 @@ pub record IsTableOfText (null : Bytes) (given : Option Fields) (size : ℕ) (te
 
 abbrev pub TablesAreOfTheirTexts : Type 0
 TablesAreOfTheirTexts =
-    (null : Bytes) (given : Option Fields) (rows : Option ℕ) (text : Bytes) (told : ToldTable) → table_by (of_csv null given) rows text ≡ Ok told
+    (most : ℕ) (null : Bytes) (given : Option Fields) (rows : Option ℕ) (text : Bytes) (told : ToldTable)
+    → table_by most (of_csv null given) rows text ≡ Ok told
     → IsTableOfText null given (unwrap_or rows rows_unnamed) text told
 
 -- the blocks of columns that a table is cut into are those of the table cut anew

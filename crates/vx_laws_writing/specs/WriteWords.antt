@@ -1,4 +1,4 @@
--- What the words of `write` ask: a table of the standard input is kept as a block file.
+-- What the words of `write` ask: a table of the standard input is kept as a block file, or as block files of a folder.
 use Rattle.std.specs.Prelude.{ℕ, nat_le, Bool, true, false, cond, ◌&&◌, ◌||◌, List, [], ◌∷◌, codes, Option, Some, None, option_map, is_some, unwrap_or}
 use Rattle.std.specs.Option.{option_and_then}
 use Rattle.std.specs.Str.{bytes_eq}
@@ -12,7 +12,7 @@ pub data InputForm : Type 0 where
   of_json : InputForm
   of_csv : Bytes → Option Fields → InputForm
 
--- the path of the file; the form of the input; how many rows each block has but the last, where they are named; and whether what stands there is replaced
+-- the path of the file, or of the folder where it ends in `/`; the form of the input; how many rows each block has but the last, where they are named; and whether what stands there is replaced
 pub record WriteAsk : Type 0 where
   pub path : Bytes
   pub form : InputForm

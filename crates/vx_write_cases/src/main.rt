@@ -1,7 +1,10 @@
-//! Runs of `write` over words, held against a table of rows that hold the answers: each row has words, what stands on the standard input, block files in
-//! memory, and the exit status, the lines on standard error and the file that are wanted. Printed are the rows whose answers differ, and how many agreed.
+//! Runs of `write` over words, held against a table of rows that hold the answers: each row has words, what stands on the standard input, files in memory,
+//! and the exit status, the lines on standard error and the files that are wanted. A row of parts has a table and the most rows of a file in place of words,
+//! and wants the files of the table. Printed are the rows whose answers differ, and how many agreed.
 #![tactic(auto)]
 
+mod kept;
+mod parts;
 mod rows;
 mod runs;
 mod unkept_files;

@@ -1,4 +1,5 @@
 // The table as JSON: a list of rows, each of which holds words, the ends of a run, and what is wanted of it.
+use crate::parts::parts;
 use crate::runs::{Ended, run};
 use anyhow::Result;
 use serde_json::Value;
@@ -27,9 +28,17 @@ pub(crate) fn try_rows(alloc: Global, text: &str) -> Result<Tried> {
     Ok(tried)
 }
 
-/// What a run came to, where that isn't what its row says.
+/// What a row comes to: the files of parts where it has the most rows of one, and else a run of its words.
+fn ended_of(alloc: Global, row: &Value) -> Result<Ended> {
+    match number_in(row, "most") {
+        0 => run(alloc, row),
+        _ => parts(alloc, row),
+    }
+}
+
+/// What a row came to, where that isn't what its row says.
 fn difference(alloc: Global, row: &Value) -> Result<Option<String>> {
-    let ended = run(alloc, row)?;
+    let ended = ended_of(alloc, row)?;
     if is_wanted(row, &ended) {
         return Ok(None);
     }
@@ -42,7 +51,7 @@ fn difference(alloc: Global, row: &Value) -> Result<Option<String>> {
     Ok(Some(format!(in alloc; "{name}: status {status}, errors {errors:?}, kept {kept}")?))
 }
 
-/// Whether a run came to what its row says.
+/// Whether a row came to what its row says.
 fn is_wanted(row: &Value, ended: &Ended) -> bool {
     if number_in(row, "status") != ended.status as u64 {
         return false;

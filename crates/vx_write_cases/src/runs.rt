@@ -1,6 +1,7 @@
 // Runs of words over ends in memory.
 ghost use Rattle.std.specs.Prelude.{◌<◌, ◌^◌, ◌-◌, All, IfOk};
 
+use crate::kept::kept_text;
 use crate::rows::{is_set, list_of, number_in, owned, text_in};
 use crate::unkept_files::UnkeptFiles;
 use anyhow::Result;
@@ -17,7 +18,7 @@ const ROOM: usize = 65536;
 /// How many bytes it gives or takes in a call: few, so that a text goes over several calls.
 const MOST: usize = 13;
 
-/// What a run came to: its exit status, what it told on standard error, and the digits of the bytes under the path of the row, `-` where there are none.
+/// What a run came to: its exit status, what it told on standard error, and what the paths of the row lead to.
 #[derive(Drop)]
 pub(crate) struct Ended {
     pub(crate) status: u8,
@@ -28,7 +29,7 @@ pub(crate) struct Ended {
 /// Runs the words of a row over its input and its files.
 pub(crate) fn run(alloc: Global, row: &Value) -> Result<Ended> {
     if is_set(row, "unkept") {
-        let mut files = UnkeptFiles::new();
+        let mut files = UnkeptFiles::new(is_set(row, "stands"));
         let (status, errors) = run_over(alloc, row, &mut files)?;
         let kept = owned(alloc, "-")?;
         return Ok(Ended {
@@ -39,7 +40,7 @@ pub(crate) fn run(alloc: Global, row: &Value) -> Result<Ended> {
     }
     let mut files = files_in(alloc, row)?;
     let (status, errors) = run_over(alloc, row, &mut files)?;
-    let kept = kept_digits(alloc, &files, text_in(row, "path"))?;
+    let kept = kept_text(alloc, &files, list_of(row.get("paths")))?;
     Ok(Ended {
         status,
         errors,
@@ -57,14 +58,6 @@ fn run_over<F: Files>(alloc: Global, row: &Value, files: &mut F) -> Result<(u8, 
     Ok((status, owned(alloc, told)?))
 }
 
-/// The digits of the bytes under a path, `-` where there are none.
-fn kept_digits(alloc: Global, files: &MemoryFiles, path: &str) -> Result<String> {
-    match files.bytes_of(path) {
-        Some(bytes) => Ok(hex::encode(alloc, bytes)?),
-        None => owned(alloc, "-"),
-    }
-}
-
 /// The words of a row.
 fn words_in(alloc: Global, row: &Value) -> Result<Vec<String>> {
     let mut words = Vec::new(alloc);
@@ -74,13 +67,23 @@ fn words_in(alloc: Global, row: &Value) -> Result<Vec<String>> {
     Ok(words)
 }
 
-/// The bytes of the standard input: those of a text, or those of digits where the row has some.
-fn bytes_in(alloc: Global, row: &Value) -> Result<Vec<u8>> {
+/// The bytes of a text, or those of digits where the row has some.
+fn first_bytes_in(alloc: Global, row: &Value) -> Result<Vec<u8>> {
     let digits = text_in(row, "digits");
     if digits.is_empty() {
         return Ok(Vec::from_clones(alloc, text_in(row, "input").as_bytes())?);
     }
     Ok(hex::decode(alloc, digits.as_bytes())?)
+}
+
+/// The bytes of the standard input: the first ones, and behind them a line as often as the row says.
+fn bytes_in(alloc: Global, row: &Value) -> Result<Vec<u8>> {
+    let mut bytes = first_bytes_in(alloc, row)?;
+    let line = text_in(row, "line").as_bytes();
+    for _ in 0..number_in(row, "times") {
+        bytes.extend_from_slice(line)?;
+    }
+    Ok(bytes)
 }
 
 /// What stands on the standard input, of which the read of a number, from 1, fails.

@@ -1,29 +1,31 @@
 // Files of which none can be kept.
-ghost use Rattle.vx_files.specs.Kept.{absent};
-ghost use Rattle.vx_files.specs.Listed.{no_folder};
+ghost use Rattle.vx_files.specs.Kept.{unknown};
+ghost use Rattle.vx_files.specs.Listed.{unlisted};
 
 use vx_file_ranges::MemoryRange;
 use vx_files::{Files, KeepError, NamedBytes, OpenError};
 
-/// Files of which none can be kept: each try counts a fault. No path leads to one, and there is no folder.
+/// Files of which none can be kept: a try counts a fault, but where something stands under each path, as a file does in the way of a folder, and isn't to be
+/// replaced. Nothing is opened or listed, and nothing is known of what stands where.
 #[derive(Drop)]
 pub(crate) struct UnkeptFiles {
+    stands: bool,
     faults: u64,
 }
 
 impl UnkeptFiles {
-    /// Without faults so far.
-    pub(crate) fn new() -> UnkeptFiles {
-        UnkeptFiles { faults: 0 }
+    /// Without faults so far, and with something under each path or without.
+    pub(crate) fn new(stands: bool) -> UnkeptFiles {
+        UnkeptFiles { stands, faults: 0 }
     }
 }
 
 impl Files for UnkeptFiles {
     type File = MemoryRange;
 
-    ghost kept = { λ _ _. absent };
+    ghost kept = { λ _ _. unknown };
 
-    ghost listed = { λ _ _. no_folder };
+    ghost listed = { λ _ _. unlisted };
 
     ghost faults = { λ s. s.faults };
 
@@ -35,7 +37,12 @@ impl Files for UnkeptFiles {
         Err(OpenError::NotOpened)
     }
 
-    fn keep(&mut self, _path: &str, _bytes: &[u8], _replaces: bool) -> Result<(), KeepError> {
+    fn keep(&mut self, _path: &str, _bytes: &[u8], replaces: bool) -> Result<(), KeepError> {
+        if self.stands {
+            if !replaces {
+                return Err(KeepError::Exists);
+            }
+        }
         self.faults = self.faults.saturating_add(1);
         Err(KeepError::NotKept)
     }
@@ -44,8 +51,13 @@ impl Files for UnkeptFiles {
         &mut self,
         _folder: &str,
         _files: &[NamedBytes],
-        _replaces: bool,
+        replaces: bool,
     ) -> Result<(), KeepError> {
+        if self.stands {
+            if !replaces {
+                return Err(KeepError::Exists);
+            }
+        }
         self.faults = self.faults.saturating_add(1);
         Err(KeepError::NotKept)
     }

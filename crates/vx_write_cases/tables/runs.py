@@ -53,6 +53,10 @@ GAPS_FILE = file(
     [(2, [[1, None], ["b", "a"]]), (0, [[], []]), (1, [[None], ["c"]])],
     [(["x"], [1, None, None], [1, None, None], [1, 0, 1]), (["name"], ["a", None, "c"], ["b", None, "c"], [0, 0, 0])],
 )
+GAPS_FRONT = file(PAIR, [(2, [[1, None], ["b", "a"]]), (0, [[], []])], [(["x"], [1, None], [1, None], [1, 0]), (["name"], ["a", None], ["b", None], [0, 0])])
+GAPS_BACK = file(PAIR, [(1, [[None], ["c"]])], [(["x"], [None], [None], [1]), (["name"], ["c"], ["c"], [0])])
+TWO_FRONT = file(X, [(2, [[1, 12]])], [(["x"], [1], [12], [0])])
+TWO_BACK = file(X, [(1, [[20]])], [(["x"], [20], [20], [0])])
 GAPS_CUT = file(
     PAIR,
     [(2, [[1, None], ["b", "a"]]), (1, [[None], ["c"]])],
@@ -71,6 +75,7 @@ BARE_CUT = file([], [(4, []), (1, [])], [])
 
 USAGE = "error: usage: write PATH [csv [--null TEXT] [--types TEXT]] [--rows N] [--force]\n"
 EXISTS = "error: the path leads to something: --force replaces it\n"
+UNKEPT = "error: the path can't be written\n"
 
 
 def untold(why):
@@ -82,8 +87,8 @@ def untold(why):
 ROWS = []
 
 
-def row(name, words, status, kept="-", errors="", **more):
-    ROWS.append({"name": name, "words": words, "path": "t.vxb", "status": status, "kept": kept, "errors": errors, **more})
+def row(name, words, status, kept="-", errors="", paths=("t.vxb",), **more):
+    ROWS.append({"name": name, "words": words, "paths": paths, "status": status, "kept": kept, "errors": errors, **more})
 
 
 def kept(name, words, table, kept, **more):
@@ -120,7 +125,7 @@ row("another member", WRITE, 3, errors=untold("BadRequest(Top)"), input=TWO[:-1]
 row("a cell of another type", WRITE, 3, errors=untold("BadTable(WrongValue)"), input=told(X, [(1, [["a"]])]))
 row("a read fails", WRITE, 6, errors="error: a read failed\n", input=TWO, fails=2)
 row("a read fails before the table is known", WRITE, 6, errors="error: a read failed\n", input="[]", fails=1)
-row("a file that can't be kept", WRITE, 7, errors="error: the file can't be written\n", input=TWO, unkept=True)
+row("a file that can't be kept", WRITE, 7, errors=UNKEPT, input=TWO, unkept=True)
 row("a table before a file that can't be kept", WRITE, 3, errors=untold("BadRequest(Top)"), input="[]", unkept=True)
 row("more rows than a table has", WRITE, 3, errors=untold("BadRequest(Blocks)"), input=told([], [(1048576, []), (1, [])]))
 row("the same cut", [*WRITE, "--rows", "1000"], 3, errors=untold("BadRequest(Blocks)"), input=told([], [(1048576, []), (1, [])]))
@@ -208,8 +213,8 @@ kept("nulls alone", CSV, NULLS, NULLS_FILE)
 kept("a line of names alone", CSV, "x,y\n", HEAD_FILE)
 kept("the same, in blocks of a row", [*CSV, "--rows", "1"], "x,y", HEAD_FILE)
 kept("names between quotes", [*CSV, "--types", '"and" bool,"a b" i8'], "and,a b\rtrue,-3\r", NAMED_FILE)
-kept("a path of this name", ["write", "csv", "csv"], PRICES, PRICES_FILE, path="csv")
-kept("a table as JSON under this name", ["write", "csv"], TWO, TWO_FILE, path="csv")
+kept("a path of this name", ["write", "csv", "csv"], PRICES, PRICES_FILE, paths=["csv"])
+kept("a table as JSON under this name", ["write", "csv"], TWO, TWO_FILE, paths=["csv"])
 
 row("a quote left open", CSV, 3, errors=untold("a quote is left open"), input='x\n"1\n')
 row("an empty text", CSV, 3, errors=untold("there is no line of names"), input="")
@@ -231,7 +236,7 @@ row("a table as JSON in place of a text", CSV, 3, "0a0b", untold("row 1 has 1 ce
 row("a text in place of a table as JSON", WRITE, 3, errors=untold("BadJson"), input=PRICES)
 row("what stands is left, a text too", CSV, 6, "0a0b", EXISTS, input=PRICES, files=OLD)
 row("a read of a text fails", CSV, 6, errors="error: a read failed\n", input=PRICES, fails=2)
-row("a text whose file can't be kept", CSV, 7, errors="error: the file can't be written\n", input=PRICES, unkept=True)
+row("a text whose file can't be kept", CSV, 7, errors=UNKEPT, input=PRICES, unkept=True)
 
 for name, words in [
     ("a null text without csv", [*WRITE, "--null", ""]),
@@ -254,6 +259,129 @@ for name, words in [
     ("no rows, of a text", [*CSV, "--rows", "0"]),
 ]:
     row(name, words, 2, errors=USAGE, input=PRICES, fails=1)
+
+# ---- folders
+
+
+def parts(*files):
+    """What stands in a folder of block files: their names by their numbers, each with its digits."""
+    return ", ".join("%06d.vxb %s" % numbered for numbered in enumerate(files))
+
+
+def folder(name, words, table, *files, **more):
+    kept(name, words, table, parts(*files), **{"paths": ["t/"], **more})
+
+
+FOLDER = ["write", "t/"]
+FULL = [{"path": "t/000000.vxb", "bytes": "0a"}, {"path": "t/000001.vxb", "bytes": "0b"}]
+OTHER = [{"path": "t/notes.txt", "bytes": "0c"}]
+WITHIN = [{"path": "t/old/000000.vxb", "bytes": "0d"}]
+
+folder("a folder of one file", FOLDER, TWO, TWO_FILE)
+folder("nulls, texts and an empty block in a folder", FOLDER, GAPS, GAPS_FILE)
+folder("statistics that lie are built anew in a folder", FOLDER, LYING, TWO_FILE)
+folder("a folder of an empty table", FOLDER, NONE, NONE_FILE)
+folder("a folder of an empty table, cut", [*FOLDER, "--rows", "4"], NONE, NONE_FILE)
+folder("a folder without columns", FOLDER, BARE, BARE_FILE)
+folder("a folder without columns, cut", [*FOLDER, "--rows", "4"], BARE, BARE_CUT)
+folder("a folder in one block", [*FOLDER, "--rows", "3"], TWO, ONE_FILE)
+folder("a folder in blocks of a row", [*FOLDER, "--rows", "1"], TWO, EACH_FILE)
+folder("a folder of structs and lists, cut", [*FOLDER, "--rows", "5"], DEEP, DEEP_CUT)
+folder("a folder over nothing", [*FOLDER, "--force"], TWO, TWO_FILE)
+folder("a folder over files", [*FOLDER, "--force"], TWO, TWO_FILE, files=FULL)
+folder("a folder over another file, cut", [*FOLDER, "--force", "--rows", "3"], TWO, ONE_FILE, files=OTHER)
+folder("a folder in a folder", ["write", "a/b/"], TWO, TWO_FILE, paths=["a/b/"])
+folder("the folder of all", ["write", "/"], TWO, TWO_FILE, paths=["/"])
+folder("the folder that the program runs in", ["write", "./"], TWO, TWO_FILE, paths=["./"])
+folder("a folder of this name", ["write", "csv/"], TWO, TWO_FILE, paths=["csv/"])
+kept("a folder over one in it", [*FOLDER, "--force"], TWO, "%s; -" % parts(TWO_FILE), paths=["t/", "t/old/"], files=WITHIN)
+kept(
+    "a folder beside other paths",
+    [*FOLDER, "--force"],
+    TWO,
+    "%s; 0a; 000000.vxb 0b; 000000.vxb 0c" % parts(TWO_FILE),
+    paths=["t/", "t.vxb", "t2/", "a/t/"],
+    files=[{"path": "t.vxb", "bytes": "0a"}, {"path": "t2/000000.vxb", "bytes": "0b"}, {"path": "a/t/000000.vxb", "bytes": "0c"}],
+)
+
+IN_FOLDER = {"paths": ["t/"]}
+row("a folder that stands is left", FOLDER, 6, parts("0a", "0b"), EXISTS, input=TWO, files=FULL, **IN_FOLDER)
+row("a folder of another file is left", FOLDER, 6, "notes.txt 0c", EXISTS, input=TWO, files=OTHER, **IN_FOLDER)
+row("a folder of a folder is left", FOLDER, 6, "-; 000000.vxb 0d", EXISTS, input=TWO, files=WITHIN, paths=["t/", "t/old/"])
+row("a file in the way of a folder", FOLDER, 6, errors=EXISTS, input=TWO, unkept=True, stands=True)
+row("a file in the way of a folder isn't replaced", [*FOLDER, "--force"], 7, errors=UNKEPT, input=TWO, unkept=True, stands=True)
+row("a folder that can't be kept", FOLDER, 7, errors=UNKEPT, input=TWO, unkept=True)
+row("a table before a folder that stands", FOLDER, 3, "notes.txt 0c", untold("BadRequest(Top)"), input="[]", files=OTHER, **IN_FOLDER)
+row("a table before a folder that can't be kept", FOLDER, 3, errors=untold("BadRequest(Top)"), input="[]", unkept=True)
+row("more rows than a table has, in a folder", FOLDER, 3, errors=untold("BadRequest(Blocks)"), input=told([], [(1048576, []), (1, [])]), **IN_FOLDER)
+row("a read fails before a folder", FOLDER, 6, errors="error: a read failed\n", input=TWO, fails=2, **IN_FOLDER)
+
+# texts of CSV
+CSV_FOLDER = [*FOLDER, "csv"]
+
+folder("a text in a folder", CSV_FOLDER, PRICES, PRICES_FILE)
+folder("a text in a folder, in blocks of two rows", [*CSV_FOLDER, "--rows", "2"], PRICES, PRICES_CUT)
+folder("a text at given columns in a folder", [*CSV_FOLDER, "--types", GIVEN, "--force"], PRICES, PRICES_GIVEN, files=FULL)
+folder("a line of names alone in a folder", CSV_FOLDER, "x,y\n", HEAD_FILE)
+folder("a text in a folder of this name", ["write", "csv/", "csv"], PRICES, PRICES_FILE, paths=["csv/"])
+row("a text with a bad cell, in a folder", [*CSV_FOLDER, "--types", "x i8"], 3, "notes.txt 0c", untold('row 2, column 1: "128" is no i8'), input="x\n1\n128\n", files=OTHER, **IN_FOLDER)
+row("a folder that stands is left, of a text too", CSV_FOLDER, 6, "notes.txt 0c", EXISTS, input=PRICES, files=OTHER, **IN_FOLDER)
+row("a text whose folder can't be kept", CSV_FOLDER, 7, errors=UNKEPT, input=PRICES, unkept=True)
+
+# one row more than a file has: it stands in a second one, and a file alone is refused. Files that long are told by their number of bytes
+LONG = {"input": "x\n", "line": "1\n", "times": 1048577}
+FIRST_OF_TWO = file([("x", "u8")], [(65536, [[1] * 65536])] * 16, [(["x"], [1] * 16, [1] * 16, [0] * 16)])
+SECOND_OF_TWO = file([("x", "u8")], [(1, [[1]])], [(["x"], [1], [1], [0])])
+row("a text of more rows than a file has", [*CSV_FOLDER, "--types", "x u8"], 0, parts("%d bytes" % (len(FIRST_OF_TWO) // 2), SECOND_OF_TWO), **LONG, **IN_FOLDER)
+row("the same in a file", [*CSV, "--types", "x u8"], 3, errors=untold("there are 1048577 rows, more than 1048576"), **LONG)
+
+# words
+for name, words in [
+    ("a folder and no rows", [*FOLDER, "--rows", "0"]),
+    ("a folder in blocks of more rows than a file has", [*FOLDER, "--rows", "1048577"]),
+    ("a folder twice", [*FOLDER, "t/"]),
+    ("a folder behind an option", ["write", "--force", "t/"]),
+    ("a null text without csv, in a folder", [*FOLDER, "--null", ""]),
+    ("a folder in place of csv", [*FOLDER, "csv/"]),
+]:
+    row(name, words, 2, errors=USAGE, input=TWO, fails=1, **IN_FOLDER)
+
+# ---- parts: a table's files, each of at most so many rows
+
+
+def parted(name, most, table, *files, **more):
+    ROWS.append({"name": name, "most": most, "input": table, "status": 0, "kept": "; ".join(files), "errors": "", **more})
+
+
+def numbers(*blocks):
+    """The table of these blocks of i8, and its file."""
+    column = [("n", "i8")]
+    return told(column, [(len(ns), [ns]) for ns in blocks]), number_file(*blocks)
+
+
+def number_file(*blocks):
+    """The file of blocks of i8: of each the least, the greatest, and no null; those of a block without rows aren't known."""
+    least, greatest = [min(ns, default=None) for ns in blocks], [max(ns, default=None) for ns in blocks]
+    return file([("n", "i8")], [(len(ns), [ns]) for ns in blocks], [(["n"], least, greatest, [0] * len(blocks))])
+
+
+NINE, NINE_FILE = numbers([1, 2], [3, 4], [5, 6], [7, 8], [9])
+
+parted("all in one part", 9, NINE, NINE_FILE)
+parted("all in one part, of more rows", 1048576, NINE, NINE_FILE)
+parted("in two parts", 8, NINE, number_file([1, 2], [3, 4], [5, 6], [7, 8]), number_file([9]))
+parted("in three parts", 4, NINE, number_file([1, 2], [3, 4]), number_file([5, 6], [7, 8]), number_file([9]))
+parted("in two parts, of which the first isn't full", 5, NINE, number_file([1, 2], [3, 4]), number_file([5, 6], [7, 8], [9]))
+parted("a part for each block", 2, NINE, *[number_file(ns) for ns in [[1, 2], [3, 4], [5, 6], [7, 8], [9]]])
+parted("cut into two rows, in three parts", 4, numbers(list(range(1, 10)))[0], number_file([1, 2], [3, 4]), number_file([5, 6], [7, 8]), number_file([9]), rows=2)
+parted("cut into three rows, in three parts", 5, NINE, number_file([1, 2, 3]), number_file([4, 5, 6]), number_file([7, 8, 9]), rows=3)
+parted("a block of more rows alone", 3, numbers([1], [2, 3, 4, 5], [6], [7])[0], number_file([1]), number_file([2, 3, 4, 5]), number_file([6], [7]))
+parted("a first block of more rows", 1, numbers([1, 2], [3])[0], number_file(), number_file([1, 2]), number_file([3]))
+parted("empty blocks", 1, numbers([], [1], [], [2], [])[0], number_file([], [1], []), number_file([2], []))
+parted("empty blocks alone", 1, *numbers([], []))
+parted("a part without blocks", 4, *numbers())
+parted("nulls and texts in two parts", 2, GAPS, GAPS_FRONT, GAPS_BACK)
+parted("statistics that lie are built anew in parts", 2, LYING, TWO_FRONT, TWO_BACK)
 
 with open(os.path.join(HERE, "data", "writes.json"), "w", encoding="utf-8") as out:
     out.write("[\n" + ",\n".join(json.dumps(each) for each in ROWS) + "\n]\n")

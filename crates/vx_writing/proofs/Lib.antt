@@ -1,2 +1,4 @@
 mod MadeTables
 mod RunLemmas
+mod FileNames
+mod PartFiles

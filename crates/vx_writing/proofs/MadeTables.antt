@@ -13,7 +13,7 @@ use Rattle.vx_laws_stats.specs.BuiltStatistics.{built_zones}
 use Rattle.vx_laws_file.specs.FileForms.{file_bytes}
 use Rattle.vx_laws_file.specs.Lengths.{HasFile, IsShortTable}
 use Rattle.vx_request.specs.Tables.{ToldTable}
-use Rattle.vx_cutting.specs.Cutting.{blocks_cut, length_cut, zones_cut, blocks_anew}
+use Rattle.vx_cutting.specs.Cutting.{block_cut, blocks_cut, joined_columns, length_cut, zones_cut, blocks_anew}
 use Rattle.vx_cutting.specs.CutAnswers.{AnswersCut}
 use Rattle.vx_cutting.specs.CutLaws.{IsTable}
 use Rattle.vx_cutting.specs.declared.errors.CutError.{CutError}
@@ -21,7 +21,7 @@ use Rattle.vx_cutting.specs.declared.errors.CutError.TheVariants as cuts
 use Rattle.vx_file_bytes.specs.WritingAnswers.{IsUnwritten}
 use Rattle.vx_file_bytes.specs.declared.errors.WriteFileError.{WriteFileError}
 use Rattle.vx_file_bytes.specs.declared.errors.WriteFileError.TheVariants as writes
-use Rattle.vx_laws_writing.specs.Writing.{zones_kept, HasNoFile, IsFileOf}
+use Rattle.vx_laws_writing.specs.Writing.{blocks_kept, zones_kept, HasNoFile, IsFileOf}
 use Rattle.vx_laws_writing.proofs.WrittenTables.{is_table, no_refusal, kept_is_table}
 use Rattle.vx_writing.specs.Making.{AreBlocksOf, MakesBlocks, MakesFile}
 use Rattle.vx_writing.specs.WriteRefusals.{IsOfCutting, IsOfFile, cut_refusal, file_refusal}
@@ -50,6 +50,11 @@ too_many n told some h many short =
     let lengths = table_lengths fs (length (field_names fs)) zones.lengths blocks own.lengths in
     let count = ap length lengths ∙ length-map-range_with_len (length_cut n (sum told.zones.lengths)) 0 (blocks_cut n (sum told.zones.lengths)) in
     omega (arith, short.number_of_blocks, count, many)
+
+pub too_many_blocks : (n : ℕ) (told : ToldTable) → 2 ^ 32 ≤ blocks_cut n (sum told.zones.lengths) → 2 ^ 32 ≤ length (blocks_kept (Some n) told)
+too_many_blocks n told many =
+    subst (λ (k : ℕ). 2 ^ 32 ≤ k)
+    (sym (length-map-range_with_len (block_cut n (joined_columns told.zones told.blocks)) 0 (blocks_cut n (sum told.zones.lengths)))) many
 
 -- why a table isn't cut
 pub of_cutting : (zones : Zones) (blocks : List (List Column)) (n : ℕ) (e : CutError) → table_refusal zones blocks ≡ None → AnswersCut zones blocks n (Err e) → IsOfCutting e
@@ -90,7 +95,7 @@ no_file_same rows told made is none = subst (λ (x : Zones × List (List Column)
 -- why a told table isn't cut, and why it has no file, as refusals
 pub cut_refused : (n : ℕ) (told : ToldTable) (e : CutError) → 0 < n → table_refusal told.zones told.blocks ≡ None → AnswersCut told.zones told.blocks n (Err e) → MakesBlocks (Some n) told (Err (cut_refusal e))
 cut_refused n told cuts.NoMemory some h a = tt
-cut_refused n told cuts.TooMany some h a = too_many n told some h a.1
+cut_refused n told cuts.TooMany some h a = (too_many n told some h a.1, too_many_blocks n told a.1)
 cut_refused n told cuts.WrongLength some h a = absurd (never told.zones told.blocks refusals.WrongLength h a)
 cut_refused n told cuts.WrongType some h a = absurd (never told.zones told.blocks refusals.WrongType h a)
 

@@ -1,4 +1,4 @@
-// Why a table isn't kept as a file.
+// Why a table isn't kept.
 ghost use Rattle.std.specs.Prelude.{◌≡◌};
 ghost use Rattle.vx_stats.specs.declared.errors.StatsError.TheVariants as stats;
 ghost use Rattle.vx_writing.specs.WriteRefusals.{cut_refusal, file_refusal, refusal_status, IsOfCutting, IsOfFile};
@@ -17,7 +17,7 @@ use vx_stats::StatsError;
 
 /// Why the standard input tells no table.
 #[derive(Debug, Drop)]
-pub(crate) enum InputFault {
+pub enum InputFault {
     /// It is no table as JSON.
     NoJson(RequestError),
     /// It is a text of CSV of more bytes than an input may have.
@@ -38,9 +38,9 @@ impl InputFault {
     }
 }
 
-/// Why a table isn't kept as a file.
+/// Why a table isn't kept.
 #[derive(Debug, Drop)]
-pub(crate) enum Refusal {
+pub enum Refusal {
     /// There was no memory.
     NoMemory,
     /// The words have no form.
@@ -53,7 +53,7 @@ pub(crate) enum Refusal {
     TooLong,
     /// Something stands under the path.
     Exists,
-    /// The file couldn't be kept.
+    /// The file or the folder couldn't be kept.
     NotKept,
 }
 
@@ -88,7 +88,7 @@ impl Refusal {
             Refusal::Unread => "error: a read failed\n",
             Refusal::TooLong => "error: the table is too long for a block file\n",
             Refusal::Exists => "error: the path leads to something: --force replaces it\n",
-            Refusal::NotKept => "error: the file can't be written\n",
+            Refusal::NotKept => "error: the path can't be written\n",
             _ => "error: there is no memory\n",
         }
     }
