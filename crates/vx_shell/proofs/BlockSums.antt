@@ -1,6 +1,6 @@
 -- All blocks have fewer than 2^64 rows, since each has fewer than 2^32 and there are fewer than 2^32 of them.
-use Rattle.std.proofs.Common.{◌≡◌, ap, sym, ◌∙◌, subst, ℕ, zero, suc, ◌+◌, ◌-◌, ◌*◌, ◌^◌, ◌<◌, ◌≤◌, List, [], ◌∷◌, length, get_or, arith}
-use Rattle.std.specs.List.{sum, sum_by}
+use Rattle.std.proofs.Common.{◌≡◌, subst, ℕ, suc, ◌+◌, ◌-◌, ◌*◌, ◌^◌, ◌<◌, ◌≤◌, List, [], ◌∷◌, length, get_or, arith}
+use Rattle.std.specs.List.{sum}
 use Rattle.std.proofs.lemmas.List.Sums.{sum_by-cons}
 
 most_rows : (lengths : List ℕ) → ((k : ℕ) → get_or lengths k 0 < 2 ^ 32) → sum lengths ≤ length lengths * (2 ^ 32 - 1)

@@ -1,5 +1,5 @@
 -- Files that are opened, and why they are not.
-use Rattle.std.proofs.Common.{◌≡◌, refl, ap, sym, ◌∙◌, subst, ℕ, ◌≤◌, false, Option, Some, None, Result, Ok, Err, List, [], ◌∷◌, arith}
+use Rattle.std.proofs.Common.{◌≡◌, refl, ap, sym, subst, ℕ, ◌≤◌, false, Option, Result, Ok, Err, List, [], ◌∷◌, arith}
 use Rattle.std.specs.List.{list_any}
 use Rattle.vx_dtype.specs.Types.{Bytes}
 use Rattle.vx_io.specs.Counts.{one_more}
@@ -29,7 +29,7 @@ use Rattle.vx_shell.specs.declared.counting.Counts.{Counts}
 use Rattle.vx_shell.specs.declared.errors.Refusal.{Refusal}
 use Rattle.vx_shell.specs.declared.errors.Refusal.TheVariants as refusals
 use Rattle.vx_shell.specs.FileRuns.{WritesOut, Reports, IsNeverUnread, IsUntold, IsMisfiled}
-use Rattle.vx_shell.specs.Founds.{CountsFault, IsWritten, AnswersStore}
+use Rattle.vx_shell.specs.Founds.{CountsFault, AnswersStore}
 use Rattle.vx_shell.specs.Refusals.{file_refusal, table_refusal}
 use Rattle.vx_shell.proofs.FileRuns.{told_reported}
 

@@ -1,32 +1,33 @@
--- The answer over the table of a block file is written as it was found: what it met of damage is told by what is left of it.
-use Rattle.std.proofs.Common.{◌≡◌, refl, ap, sym, ◌∙◌, subst, ◌⊎◌, inl, inr, ℕ, ◌≤◌, Bool, true, false, ◌||◌, Option, Some, None, option_map, Result, Ok, Err, List, [], ◌∷◌, ◌++◌}
-use Rattle.std.specs.Bool.{Decides}
+-- The answer over the table of a block file, or of files together, is written as it was found: what it met of damage is told by what is left of them.
+use Rattle.std.proofs.Common.{◌≡◌, refl, ap, sym, ◌∙◌, subst, inl, inr, Bool, true, false, ◌||◌, Option, Some, None, option_map, Result, Ok, Err, List, [], ◌∷◌, ◌++◌}
 use Rattle.std.specs.List.{AllByRecursion, list_any, slice_get}
 use Rattle.std.proofs.lemmas.Option.{same_Some}
 use Rattle.vx_dtype.specs.Types.{Bytes}
-use Rattle.vx_io.specs.Counts.{one_more}
 use Rattle.vx_io.specs.Ends.{Added, AddedPrefix}
-use Rattle.vx_laws_file.specs.FileForms.{Header}
-use Rattle.vx_laws_file.specs.Ranges.{IsDamaged}
+use Rattle.vx_laws_file.specs.FileForms.{Header, FileContent}
+use Rattle.vx_laws_file.specs.HeldTables.{held_table}
 use Rattle.vx_laws_file.proofs.HeldLemmas.{read_is_not_damaged}
 use Rattle.vx_laws_shell.specs.Answers.{Answer, answer_of}
 use Rattle.vx_laws_shell.specs.Damage.{is_damaged_in}
-use Rattle.vx_laws_shell.specs.Running.{Cut, unwritten, without_memory, file_unread, End}
+use Rattle.vx_laws_shell.specs.Running.{file_unread, End}
 use Rattle.vx_laws_shell.specs.Words.{Asked}
 use Rattle.vx_laws_shell.proofs.Adding.{prefix_of_whole}
-use Rattle.vx_laws_shell.proofs.Damage.{damage_is_decided}
+use Rattle.vx_laws_shell.proofs.Damage.{HasBytes, damage_so}
+use Rattle.vx_laws_shell.proofs.FolderContents.{joined_has_bytes}
 use Rattle.vx_scan.specs.Stores.{Read, StoreSeen, WhereTold}
-use Rattle.vx_semantics.specs.Tables.{Table}
+use Rattle.vx_semantics.specs.Tables.{Table, Zones}
 use Rattle.vx_file_open.specs.Layouts.{WhereBytes, IsFileWith, content_at}
 use Rattle.vx_file.specs.FileStates.{FileState, file_seen, held_at, IsKept, IsSound, IsSpoilt}
 use Rattle.vx_file_scan.specs.FileScans.{DamagedOnce}
+use Rattle.vx_folder.specs.FolderStates.{WhereHeld}
+use Rattle.vx_folder.specs.FolderStates as folders
 use Rattle.vx_file_scan.specs.FirstFailures.{IsUnread, IsReadToFailure}
 use Rattle.vx_file_scan.proofs.FailureLemmas.{left_at_failure}
 use Rattle.vx_shell.specs.declared.answers.Found.{Found}
 use Rattle.vx_shell.specs.declared.counting.Counts.{Counts}
 use Rattle.vx_shell.specs.declared.errors.Refusal.{Refusal}
 use Rattle.vx_shell.specs.declared.errors.Refusal.TheVariants as refusals
-use Rattle.vx_shell.specs.FileRuns.{WritesOut, Reports, IsFaultOf, IsToldBy, ReportsFile, file_answer, AnswersFile}
+use Rattle.vx_shell.specs.FileRuns.{WritesOut, Reports, IsFaultOf, IsToldBy, ReportsFile, content_answer, AnswersContent, content_told, AnswersFile}
 use Rattle.vx_shell.specs.Founds.{CountsFault, EndsBy, IsCutBy, IsWritten, AnswersStore}
 use Rattle.vx_shell.specs.Refusals.{RefusalKind, settled, cut, refusal_kind}
 
@@ -36,18 +37,13 @@ by_cases : (b : Bool) → (b ≡ true → ⊥) → b ≡ false
 by_cases true h = absurd (h refl)
 by_cases false h = refl
 
-sound_undamaged : (h : Header) (bytes : Bytes) (reads : List Read) → IsFileWith h bytes → AllByRecursion (IsSound h bytes) reads
-    → list_any (is_damaged_in (content_at h bytes)) reads ≡ false
-sound_undamaged h bytes [] file sound = refl
-sound_undamaged h bytes (read ∷ reads) file sound =
-    let content = content_at h bytes in
-    let here : is_damaged_in content read ≡ false =
-    by_cases (is_damaged_in content read) (λ e. read_is_not_damaged content read.0 read.1 sound.0.0 sound.0.1
-    ((damage_is_decided bytes content read file.are_bytes file.opened).0 e)) in
-    λ i. here i || sound_undamaged h bytes reads file sound.1 i
-
-spoilt_damaged : (h : Header) (bytes : Bytes) (read : Read) → IsFileWith h bytes → IsSpoilt h bytes read → is_damaged_in (content_at h bytes) read ≡ true
-spoilt_damaged h bytes read file here = (damage_is_decided bytes (content_at h bytes) read file.are_bytes file.opened).1 here
+sound_undamaged : (content : FileContent) (reads : List Read) → HasBytes content → AllByRecursion (folders.IsSound content) reads
+    → list_any (is_damaged_in content) reads ≡ false
+sound_undamaged content [] here sound = refl
+sound_undamaged content (read ∷ reads) here sound =
+    let own : is_damaged_in content read ≡ false =
+    by_cases (is_damaged_in content read) (λ e. read_is_not_damaged content read.0 read.1 sound.0.0 sound.0.1 ((damage_so content read here).0 e)) in
+    λ i. own i || sound_undamaged content reads here sound.1 i
 
 -- ---- how answers end
 
@@ -115,29 +111,67 @@ told_reported is_damaged answer table made failed x y (Err refusals.StoreFault) 
 told_reported is_damaged answer table made failed x y (Err refusal) (Err told) none w h = ends_as answer x y refusal told h w
 
 -- a read that failed by damage is of a damaged column; one that failed by a fault of the source may be so too
-fault_told : (h : Header) (bytes : Bytes) (answer : Answer) (x y : End) (failed : Option Read) (damaged : List Read) (told : Refusal) (read : Read)
-    → IsFileWith h bytes → AllByRecursion (IsSpoilt h bytes) damaged → DamagedOnce failed damaged → failed ≡ Some read
+fault_told : (content : FileContent) (answer : Answer) (x y : End) (failed : Option Read) (damaged : List Read) (told : Refusal) (read : Read)
+    → HasBytes content → AllByRecursion (folders.IsSpoilt content) damaged → DamagedOnce failed damaged → failed ≡ Some read
     → AddedPrefix x.bytes y.bytes answer.output
-    → (is_damaged_in (content_at h bytes) read ≡ true → (answer.status ≡ 3) × Added x.bytes y.bytes answer.output)
+    → (is_damaged_in content read ≡ true → (answer.status ≡ 3) × Added x.bytes y.bytes answer.output)
     → IsFaultOf damaged told → WritesOut answer x y (Err told)
-fault_told h bytes answer x y failed [] told read file spoilt once last part whole is = ends_as answer x y refusals.Unread told is (part, tt)
-fault_told h bytes answer x y failed (first ∷ damaged) told read file spoilt (inl none) last part whole is = let no : ⊥ = cc in absurd no
-fault_told h bytes answer x y failed (first ∷ damaged) told read file spoilt (inr once) last part whole is =
+fault_told content answer x y failed [] told read here spoilt once last part whole is = ends_as answer x y refusals.Unread told is (part, tt)
+fault_told content answer x y failed (first ∷ damaged) told read here spoilt (inl none) last part whole is = let no : ⊥ = cc in absurd no
+fault_told content answer x y failed (first ∷ damaged) told read here spoilt (inr once) last part whole is =
     let same : once.0 ≡ read = same_Some once.0 read (sym once.1 ∙ last) in
     let own : first ∷ damaged ≡ read ∷ [] = once.2 ∙ ap (λ (r : Read). r ∷ []) same in
-    let here = subst (AllByRecursion (IsSpoilt h bytes)) own spoilt in
-    ends_as answer x y refusals.Damaged told is (whole (spoilt_damaged h bytes read file here.0))
+    let there = subst (AllByRecursion (folders.IsSpoilt content)) own spoilt in
+    ends_as answer x y refusals.Damaged told is (whole ((damage_so content read here).1 there.0))
 
-told_file : (h : Header) (bytes : Bytes) (answer : Answer) (table : Table) (made : List Read) (x y : End) (failed : Option Read) (damaged : List Read)
-    (found : Result Found Refusal) (result : Result Counts Refusal) → IsFileWith h bytes → AllByRecursion (IsSpoilt h bytes) damaged → DamagedOnce failed damaged
-    → IsWritten (is_damaged_in (content_at h bytes)) answer table made failed x y found → ReportsFile damaged found result → WritesOut answer x y result
-told_file h bytes answer table made x y failed damaged (Ok found) result file spoilt once w is =
-    told_reported (is_damaged_in (content_at h bytes)) answer table made failed x y (Ok found) result (λ e. cc) w is
-told_file h bytes answer table made x y failed damaged (Err refusal) (Ok counted) file spoilt once w is = absurd is
-told_file h bytes answer table made x y failed damaged (Err refusals.StoreFault) (Err told) file spoilt once w is =
-    fault_told h bytes answer x y failed damaged told w.0 file spoilt once w.1 w.2 w.3 is
-told_file h bytes answer table made x y failed damaged (Err refusal) (Err told) file spoilt once w is =
-    told_reported (is_damaged_in (content_at h bytes)) answer table made failed x y (Err refusal) (Err told) (λ e. cc) w is
+told_content : (content : FileContent) (answer : Answer) (table : Table) (made : List Read) (x y : End) (failed : Option Read) (damaged : List Read)
+    (found : Result Found Refusal) (result : Result Counts Refusal) → HasBytes content → AllByRecursion (folders.IsSpoilt content) damaged
+    → DamagedOnce failed damaged → IsWritten (is_damaged_in content) answer table made failed x y found → ReportsFile damaged found result
+    → WritesOut answer x y result
+told_content content answer table made x y failed damaged (Ok found) result here spoilt once w is =
+    told_reported (is_damaged_in content) answer table made failed x y (Ok found) result (λ e. cc) w is
+told_content content answer table made x y failed damaged (Err refusal) (Ok counted) here spoilt once w is = absurd is
+told_content content answer table made x y failed damaged (Err refusals.StoreFault) (Err told) here spoilt once w is =
+    fault_told content answer x y failed damaged told w.0 here spoilt once w.1 w.2 w.3 is
+told_content content answer table made x y failed damaged (Err refusal) (Err told) here spoilt once w is =
+    told_reported (is_damaged_in content) answer table made failed x y (Err refusal) (Err told) (λ e. cc) w is
+
+-- ---- what files hold
+
+-- what is left of files that hold this: these reads had values, this is the last that failed, and these failed by damage
+pub record IsLeft (content : FileContent) (made : List Read) (failed : Option Read) (damaged : List Read) : Type 0 where
+  pub bytes : HasBytes content
+  pub sound : AllByRecursion (folders.IsSound content) made
+  pub spoilt : AllByRecursion (folders.IsSpoilt content) damaged
+  pub once : DamagedOnce failed damaged
+
+held_told : (asked : Asked) (content : FileContent) (a b : StoreSeen) (x y : End) (damaged : List Read) (found : Result Found Refusal)
+    (result : Result Counts Refusal) → a.held ≡ Some (held_table content) → a.zones ≡ content.zones → (h : AnswersStore asked a b x y found)
+    → IsLeft content h.made b.failed damaged → ReportsFile damaged found result → WritesOut (content_answer asked content) x y result
+held_told asked content a b x y damaged found result held zones h left is =
+    let table = held_table content in
+    let over = subst
+    (λ (o : Option Table). WhereTold o
+    (λ table. (is_damaged : Read → Bool) → list_any is_damaged h.made ≡ false
+    → IsWritten is_damaged (answer_of is_damaged table a.zones asked) table h.made b.failed x y found))
+    held h.told in
+    let written = over (is_damaged_in content) (sound_undamaged content h.made left.bytes left.sound) in
+    told_content content (content_answer asked content) table h.made x y b.failed damaged found result left.bytes left.spoilt left.once
+    (subst (λ (z : Zones). IsWritten (is_damaged_in content) (answer_of (is_damaged_in content) table z asked) table h.made b.failed x y found) zones written)
+    is
+
+-- the answer over files that weren't read yet
+pub content_answered : (asked : Asked) (held : Option FileContent) (a b : StoreSeen) (x y : End) (damaged : List Read) (found : Result Found Refusal)
+    (result : Result Counts Refusal) → a.held ≡ option_map held_table held → WhereHeld held (λ content. a.zones ≡ content.zones)
+    → (h : AnswersStore asked a b x y found) → WhereHeld held (λ content. IsLeft content h.made b.failed damaged)
+    → ReportsFile damaged found result → AnswersContent asked held x y result
+content_answered asked None a b x y damaged found result told zones h left is =
+    record { some = some_file a b x y h.lines damaged found result h.added h.cause is; told = tt }
+content_answered asked (Some content) a b x y damaged found result told zones h left is =
+    record {
+      some = some_file a b x y h.lines damaged found result h.added h.cause is;
+      told = held_told asked content a b x y damaged found result told zones h left is;
+    }
 
 -- ---- a file that was opened
 
@@ -155,40 +189,41 @@ left_of s t unread moves =
 kept_here : (s t : FileState) (bytes : Bytes) → IsLeftOf s t → s.bytes ≡ Some bytes → WhereBytes t.bytes (IsKept t) → IsKept t bytes
 kept_here s t bytes left told kept = subst (λ (o : Option Bytes). WhereBytes o (IsKept t)) (left.bytes ∙ told) kept
 
-file_told : (asked : Asked) (s t : FileState) (x y : End) (found : Result Found Refusal) (result : Result Counts Refusal) (bytes : Bytes) → IsUnread s
-    → IsLeftOf s t → IsKept t bytes → s.bytes ≡ Some bytes → AnswersStore asked (file_seen s) (file_seen t) x y found → ReportsFile t.damaged found result
-    → WritesOut (file_answer asked s.header bytes) x y result
-file_told asked s t x y found result bytes unread left kept told h is =
+file_left : (s t : FileState) (bytes : Bytes) (made : List Read) → IsUnread s → t.reads ≡ s.reads ++ made → IsLeftOf s t → IsKept t bytes
+    → IsLeft (content_at s.header bytes) made t.failed t.damaged
+file_left s t bytes made unread grown left kept =
     let file : IsFileWith s.header bytes = subst (λ (g : Header). IsFileWith g bytes) left.header kept.file in
-    let reads : t.reads ≡ h.made = h.grown ∙ ap (λ (rs : List Read). rs ++ h.made) unread.reads in
-    let sound : AllByRecursion (IsSound s.header bytes) h.made =
-    subst (AllByRecursion (IsSound s.header bytes)) reads (subst (λ (g : Header). AllByRecursion (IsSound g bytes) t.reads) left.header kept.sound) in
-    let spoilt : AllByRecursion (IsSpoilt s.header bytes) t.damaged = subst (λ (g : Header). AllByRecursion (IsSpoilt g bytes) t.damaged) left.header kept.spoilt in
-    let table = held_at s.header bytes in
-    let over = subst
-    (λ (o : Option Table). WhereTold o
-    (λ table. (is_damaged : Read → Bool) → list_any is_damaged h.made ≡ false
-    → IsWritten is_damaged (answer_of is_damaged table s.header.zones asked) table h.made t.failed x y found))
-    (ap (option_map (held_at s.header)) told) h.told in
-    told_file s.header bytes (file_answer asked s.header bytes) table h.made x y t.failed t.damaged found result file spoilt left.once
-    (over (is_damaged_in (content_at s.header bytes)) (sound_undamaged s.header bytes h.made file sound)) is
+    let reads : t.reads ≡ made = grown ∙ ap (λ (rs : List Read). rs ++ made) unread.reads in
+    record {
+      bytes = joined_has_bytes (bytes ∷ []) (content_at s.header bytes) [] (file.are_bytes, tt) (file.opened, tt);
+      sound = subst (AllByRecursion (IsSound s.header bytes)) reads
+          (subst (λ (g : Header). AllByRecursion (IsSound g bytes) t.reads) left.header kept.sound);
+      spoilt = subst (λ (g : Header). AllByRecursion (IsSpoilt g bytes) t.damaged) left.header kept.spoilt;
+      once = left.once;
+    }
+
+held_so : (h : Header) (bytes : Option Bytes) → option_map (held_at h) bytes ≡ option_map held_table (content_told h bytes)
+held_so h None = refl
+held_so h (Some bytes) = refl
+
+same_zones : (h : Header) (bytes : Option Bytes) → WhereHeld (content_told h bytes) (λ content. h.zones ≡ content.zones)
+same_zones h None = tt
+same_zones h (Some bytes) = refl
 
 -- the answer over a file that wasn't read yet
 pub file_answered : (asked : Asked) (s t : FileState) (x y : End) (found : Result Found Refusal) (result : Result Counts Refusal) → IsUnread s
     → IsReadToFailure s t → WhereBytes t.bytes (IsKept t) → AnswersStore asked (file_seen s) (file_seen t) x y found → ReportsFile t.damaged found result
     → AnswersFile asked s x y result
 file_answered asked s t x y found result unread moves kept h is =
-    let left = left_of s t unread moves in
-    record {
-      some = some_file (file_seen s) (file_seen t) x y h.lines t.damaged found result h.added h.cause is;
-      told = by s.bytes refl;
-    }
+    content_answered asked (content_told s.header s.bytes) (file_seen s) (file_seen t) x y t.damaged found result (held_so s.header s.bytes)
+    (same_zones s.header s.bytes) h (by s.bytes refl) is
   where
-    by : (o : Option Bytes) → s.bytes ≡ o → WhereBytes o (λ bytes. WritesOut (file_answer asked s.header bytes) x y result)
+    left : IsLeftOf s t
+    left = left_of s t unread moves
+
+    by : (o : Option Bytes) → s.bytes ≡ o → WhereHeld (content_told s.header o) (λ content. IsLeft content h.made t.failed t.damaged)
     by None e = tt
-    by (Some bytes) e =
-        let left = left_of s t unread moves in
-        file_told asked s t x y found result bytes unread left (kept_here s t bytes left e kept) e h is
+    by (Some bytes) e = file_left s t bytes h.made unread h.grown left (kept_here s t bytes left e kept)
 
 -- ---- how a read that failed is told
 

@@ -1,6 +1,5 @@
 -- How the first rows by a key are found and refused, and that a run by a key writes the answer.
-use Rattle.std.proofs.Common.{◌≡◌, refl, ap, sym, ◌∙◌, ℕ, ◌^◌, ◌<◌, ◌≤◌, Bool, true, false, Option, Some, None, unwrap_or, List, [], ◌∷◌, ◌++◌, map, length, suc, Result, Ok, Err, inl, inr, ⊎_elim, arith, append-nil, subst}
-use Rattle.std.specs.Prelude.{◌⊎◌}
+use Rattle.std.proofs.Common.{◌≡◌, refl, ap, sym, ◌∙◌, ℕ, ◌≤◌, Bool, true, false, Option, Some, None, unwrap_or, List, [], ◌∷◌, ◌++◌, map, length, suc, Result, Ok, Err, inl, inr, ⊎_elim, arith, subst}
 use Rattle.std.specs.List.{list_any}
 use Rattle.std.proofs.lemmas.List.{length-map}
 use Rattle.vx_column.specs.Columns.{raw_rows, raws_fit, seen_rows, values_fit}
@@ -15,9 +14,9 @@ use Rattle.vx_io.specs.Ends.{Added, AddedPrefix}
 use Rattle.vx_laws_shell.specs.Answers.{answer_found, found_by_key}
 use Rattle.vx_laws_shell.specs.KeyedRuns.{FoundKeyed, RunsByKey}
 use Rattle.vx_laws_shell.specs.Lines.{row_lines}
-use Rattle.vx_laws_shell.specs.OrderedRuns.{RunEnd, finished, without_value, without_column, without_room, without_output, counts_by}
+use Rattle.vx_laws_shell.specs.OrderedRuns.{RunEnd, finished, without_value, without_column, without_room, without_output}
 use Rattle.vx_laws_shell.specs.Running.{End}
-use Rattle.vx_laws_shell.proofs.Adding.{added_nothing, added_none_of, added_some}
+use Rattle.vx_laws_shell.proofs.Adding.{added_nothing, added_some}
 use Rattle.vx_laws_shell.proofs.KeyedRuns.{keyed_runs_write_answers}
 use Rattle.vx_laws_statements.specs.Clauses.{Key}
 use Rattle.vx_laws_topk.specs.TopRows.{TopAsk, top_rows_of, top_skipped}
@@ -35,7 +34,7 @@ use Rattle.vx_topk.specs.declared.errors.TopError.TheVariants as tops
 use Rattle.vx_shell.specs.declared.answers.Found.{Found}
 use Rattle.vx_shell.specs.declared.errors.Refusal.{Refusal}
 use Rattle.vx_shell.specs.declared.errors.Refusal.TheVariants as refusals
-use Rattle.vx_shell.specs.Founds.{IsWritten, FindsAnswer, FindsByKey, asked_by, CountsFault}
+use Rattle.vx_shell.specs.Founds.{IsWritten, FindsByKey, asked_by, CountsFault}
 use Rattle.vx_shell.specs.KeyedSteps.{ComesOfTop, IsTopRefusal, StopsTop, WritesTop}
 use Rattle.vx_shell.specs.Refusals.{ComesInBlock, IsScanRefusal, CutsRows, IsEndOf}
 use Rattle.vx_shell.proofs.OrderedSteps.{IsCounted, written_as, finds_no_room}

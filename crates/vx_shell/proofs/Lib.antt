@@ -10,4 +10,5 @@ pub mod PlanScans
 pub mod FileRuns
 pub mod FileAnswers
 pub mod ShellRuns
+pub mod FolderRuns
 pub mod StatementAnswers

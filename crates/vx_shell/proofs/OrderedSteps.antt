@@ -1,5 +1,5 @@
 -- How a run in the table's order goes on from block to block, and that it writes the answer.
-use Rattle.std.proofs.Common.{◌≡◌, refl, ap, sym, ◌∙◌, ◌⊎◌, ℕ, ◌+◌, ◌-◌, ◌^◌, ◌<◌, ◌≤◌, nat_eq, min, suc, zero, Bool, true, false, cond, not, Option, Some, None, List, [], ◌∷◌, ◌++◌, map, length, take, drop, get_or, Result, Ok, Err, IfOk, inl, inr, arith, append-nil, append_assoc, subst}
+use Rattle.std.proofs.Common.{◌≡◌, refl, ap, sym, ◌∙◌, ◌⊎◌, ℕ, ◌+◌, ◌-◌, ◌^◌, ◌<◌, ◌≤◌, nat_eq, min, suc, zero, Bool, true, false, cond, not, Option, Some, None, List, [], ◌∷◌, ◌++◌, length, take, drop, get_or, Result, Ok, Err, IfOk, inl, inr, arith, append-nil, subst}
 use Rattle.std.specs.List.{list_any, filter, slice_get, sum}
 use Rattle.std.proofs.lemmas.Bool.{and_parts, and_from}
 use Rattle.std.proofs.lemmas.List.{take_all, length-take, length-map}
@@ -10,12 +10,11 @@ use Rattle.vx_dtype.specs.Types.{Ty}
 use Rattle.vx_dtype.specs.Values.{Val}
 use Rattle.vx_dtype.specs.declared.values.ScalarValue.{ScalarValue}
 use Rattle.vx_expr.specs.Trees.{Tree}
-use Rattle.vx_io.specs.Counts.{one_more}
 use Rattle.vx_io.specs.Ends.{Added, AddedPrefix}
 use Rattle.vx_laws_shell.specs.Answers.{Answer, answer_found, first_of_rows, found_in_order, rows_in, scanned_for, scanned_of}
-use Rattle.vx_laws_shell.specs.Lines.{Counts, row_lines}
+use Rattle.vx_laws_shell.specs.Lines.{row_lines}
 use Rattle.vx_laws_shell.specs.OrderedRuns.{Progress, RunEnd, finished, without_value, without_column, without_room, without_output, StopsBy, CutsBy, more_rows, wanted_among, limit_behind}
-use Rattle.vx_laws_shell.specs.OrderedRuns.{BlockRan, StopsIn, CutsIn, WritesIn, RunsOver, counts_by, WritesAnswer}
+use Rattle.vx_laws_shell.specs.OrderedRuns.{BlockRan, RunsOver, counts_by, WritesAnswer}
 use Rattle.vx_laws_shell.specs.Running.{End}
 use Rattle.vx_laws_shell.proofs.Adding.{added_nothing, added_none_of, added_some, added_both}
 use Rattle.vx_laws_shell.proofs.OrderedRuns.{ordered_runs_write_answers}
@@ -36,13 +35,13 @@ use Rattle.vx_scan.proofs.StepLemmas.{block_there}
 use Rattle.vx_semantics.specs.Breaks.{by_sum, by_cast}
 use Rattle.vx_semantics.specs.Pruning.{rules_out}
 use Rattle.vx_semantics.specs.Tables.{Table, Zones, row_type, numbered_from}
-use Rattle.vx_semantics.specs.Scans.{block_phases, block_rows}
+use Rattle.vx_semantics.specs.Scans.{block_rows}
 use Rattle.vx_shell.specs.declared.answers.Found.{Found}
 use Rattle.vx_shell.specs.declared.errors.Refusal.{Refusal}
 use Rattle.vx_shell.specs.declared.errors.Refusal.TheVariants as refusals
 use Rattle.vx_shell.specs.declared.rows_in_order.Written.{Written}
 use Rattle.vx_shell.specs.Founds.{counts_found, CountsFault, IsWritten, FindsAnswer, FindsInOrder}
-use Rattle.vx_shell.specs.OrderedSteps.{wants_none, progress_at, run_start, Goes, RunsKept, StepsOver, WritesWanted, TakesTurn, kept_from, HasComeTo, CountsFound, RunsToEnd}
+use Rattle.vx_shell.specs.OrderedSteps.{wants_none, progress_at, run_start, Goes, RunsKept, WritesWanted, TakesTurn, kept_from, HasComeTo, CountsFound, RunsToEnd}
 use Rattle.vx_shell.specs.Refusals.{ComesInBlock, IsScanRefusal, CutsRows, EndsRun, IsEndOf}
 
 -- ---- what a run keeps and makes

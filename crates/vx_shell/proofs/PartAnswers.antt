@@ -1,9 +1,9 @@
 -- What is found over some blocks of a store is the answer over these blocks of its table.
-use Rattle.std.proofs.Common.{◌≡◌, refl, ap, sym, ◌∙◌, subst, ℕ, zero, suc, ◌+◌, ◌-◌, ◌<◌, ◌≤◌, Bool, true, false, cond, not, nat_le, nat_lt, ◌||◌, Option, Some, None, option_map, Result, Ok, Err, List, [], ◌∷◌, ◌++◌, map, length, take, drop, arith}
+use Rattle.std.proofs.Common.{◌≡◌, refl, ap, sym, ◌∙◌, subst, ℕ, ◌+◌, ◌-◌, ◌<◌, ◌≤◌, Bool, true, false, cond, nat_le, nat_lt, ◌||◌, Option, Some, None, option_map, Result, Ok, Err, List, [], ◌∷◌, map, length, take, drop, arith}
 use Rattle.std.specs.List.{filter, list_all, list_any}
 use Rattle.std.specs.Str.{bytes_eq}
 use Rattle.std.proofs.lemmas.Bool.{and_parts, eqb-true, le-leb, leb-true, lt-leb}
-use Rattle.std.proofs.lemmas.List.{append_cancel_left, map-append, length-map, take_all}
+use Rattle.std.proofs.lemmas.List.{length-map, take_all}
 use Rattle.vx_dtype.specs.Types.{Bytes}
 use Rattle.vx_dtype.specs.TypeRules.{field_names}
 use Rattle.vx_dtype.specs.Values.{Val}

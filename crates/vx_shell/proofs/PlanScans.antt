@@ -1,12 +1,12 @@
 -- What a plan wants can be found: its condition and its rows are typed and compare with no slot, and its key is a column of a plain type.
-use Rattle.std.proofs.Common.{◌≡◌, refl, ap, sym, ◌∙◌, subst, ℕ, nat_le, Bool, true, false, cond, Option, Some, None, MatchOption, List, [], Result, Ok, Err}
+use Rattle.std.proofs.Common.{◌≡◌, refl, ap, sym, ◌∙◌, subst, ℕ, nat_le, Bool, true, false, cond, Option, Some, None, MatchOption, [], Result, Ok, Err}
 use Rattle.vx_dtype.specs.declared.Nullability.TheVariants.{NonNullable}
 use Rattle.vx_dtype.specs.Fits.{fits}
 use Rattle.vx_dtype.specs.TypeRules.{field_type, is_bool_ty, is_plain, no_name_twice}
 use Rattle.vx_dtype.specs.Types.{Bytes, Ty, Fields, bool_ty}
 use Rattle.vx_eval.specs.Evaluating.{checked_type}
 use Rattle.vx_expr.specs.Trees.{Tree}
-use Rattle.vx_laws_shell.specs.Answers.{Answer, answer_found, answer_wanted, found_by_key, found_in_order, refused_with}
+use Rattle.vx_laws_shell.specs.Answers.{answer_wanted, refused_with}
 use Rattle.vx_laws_shell.specs.PlanLaws.{IsPlainKey}
 use Rattle.vx_laws_shell.specs.Running.{End}
 use Rattle.vx_laws_shell.specs.Wants.{OrderRefusal, Wanted, in_order, first_by, unlimited, too_many, most_by_key, ask_by, condition_tree, key_type, wanted_by, wanted_in, wanted_of}
@@ -26,9 +26,8 @@ use Rattle.vx_scan.proofs.PrepareLemmas.{names_once}
 use Rattle.vx_scan.proofs.ScanLemmas.{told_all}
 use Rattle.vx_semantics.specs.Meaning.{Slots}
 use Rattle.vx_semantics.specs.Slots.{slots_fit}
-use Rattle.vx_semantics.specs.Tables.{Table, Zones, row_type}
+use Rattle.vx_semantics.specs.Tables.{Zones, row_type}
 use Rattle.vx_semantics.specs.Typing.{Refusal, and_then, type_mismatch, typed_of, unless}
-use Rattle.vx_sql.specs.StatementAnswers.{key_view}
 use Rattle.vx_topk.specs.TopEnds.{IsTypedTop}
 use Rattle.vx_zones.specs.Zoning.{broken_rule}
 use Rattle.vx_shell.specs.declared.answers.Found.{Found}

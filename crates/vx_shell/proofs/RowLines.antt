@@ -1,5 +1,5 @@
 -- What is written of the lines of rows, piece by piece.
-use Rattle.std.proofs.Common.{◌≡◌, true, Result, Ok, Err, OnErr, refl, ap, sym, ◌∙◌, ℕ, ◌+◌, ◌<◌, Option, Some, None, List, [], ◌∷◌, ◌++◌, length, take, drop, append_assoc, append-nil, subst}
+use Rattle.std.proofs.Common.{◌≡◌, true, Result, Ok, Err, OnErr, refl, ap, sym, ◌∙◌, ℕ, ◌+◌, ◌<◌, Option, List, [], ◌∷◌, ◌++◌, length, take, drop, append_assoc, append-nil, subst}
 use Rattle.std.proofs.Math.ListN.{get_or}
 use Rattle.std.proofs.lemmas.Bool.{and_parts}
 use Rattle.std.proofs.lemmas.List.{take_more, drop_more, take-append-drop}

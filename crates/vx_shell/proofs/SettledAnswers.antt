@@ -1,5 +1,5 @@
 -- Refusals before the first row: nothing is read and nothing written, and the answer has their status, or there was no memory.
-use Rattle.std.proofs.Common.{◌≡◌, refl, ap, sym, ◌∙◌, subst, ℕ, Bool, false, Option, Some, None, Result, Ok, Err, List, [], append-nil}
+use Rattle.std.proofs.Common.{◌≡◌, ap, sym, ◌∙◌, subst, ℕ, Bool, false, Option, Err, List, [], append-nil}
 use Rattle.std.specs.List.{list_any}
 use Rattle.vx_io.specs.Ends.{Added}
 use Rattle.vx_laws_shell.specs.Answers.{Answer, refused_with}

@@ -1,7 +1,7 @@
 -- What a statement finds over a store, by the plan that it names, or by its refusal.
 use Rattle.std.proofs.Common.{◌≡◌, refl, ap, sym, ◌∙◌, Bool, Result, Ok, Err}
 use Rattle.vx_dtype.specs.Types.{Bytes, Fields, Ty}
-use Rattle.vx_laws_shell.specs.Answers.{Answer, answer_of_statement, answer_planned, answer_wanted, refused_with}
+use Rattle.vx_laws_shell.specs.Answers.{answer_of_statement, answer_planned, answer_wanted, refused_with}
 use Rattle.vx_laws_shell.specs.Running.{End}
 use Rattle.vx_laws_shell.specs.Wants.{wanted_of}
 use Rattle.vx_laws_statements.specs.Refusals.{StatementRefusal}
@@ -15,7 +15,7 @@ use Rattle.vx_sql_lines.specs.declared.told.ToldError.TheVariants as tells
 use Rattle.vx_shell.specs.declared.answers.Found.{Found}
 use Rattle.vx_shell.specs.declared.errors.Refusal.{Refusal}
 use Rattle.vx_shell.specs.declared.errors.Refusal.TheVariants as refusals
-use Rattle.vx_shell.specs.Founds.{FindsAnswer, FindsPlanned, FindsStatement}
+use Rattle.vx_shell.specs.Founds.{FindsPlanned, FindsStatement}
 use Rattle.vx_shell.specs.Refusals.{refusal_kind, statement_refusal, IsSettled}
 use Rattle.vx_shell.specs.RunParts.{IsStatementRefusal}
 use Rattle.vx_shell.proofs.OrderedSteps.{finds_no_room_as}

@@ -1,8 +1,8 @@
--- How the answer over a table is written, and what is told of a read of a block file that failed.
-use Rattle.std.specs.Prelude.{◌≡◌, ◌⊎◌, ℕ, List, [], ◌∷◌, Option, Some, None, Result, Ok, Err}
+-- How the answer over a table is written, and what is told of a read of a block file, or of files together, that failed.
+use Rattle.std.specs.Prelude.{◌≡◌, ◌⊎◌, List, [], ◌∷◌, Option, option_map, Result, Ok, Err}
 use Rattle.vx_dtype.specs.Types.{Bytes}
 use Rattle.vx_io.specs.Ends.{Added}
-use Rattle.vx_laws_file.specs.FileForms.{Header}
+use Rattle.vx_laws_file.specs.FileForms.{Header, FileContent}
 use Rattle.vx_laws_file.specs.HeldTables.{held_table}
 use Rattle.vx_laws_file.specs.Opening.{FileRefusal, IsRefusedFile}
 use Rattle.vx_laws_shell.specs.Answers.{Answer, answer_of}
@@ -15,6 +15,7 @@ use Rattle.vx_request.specs.declared.errors.RequestError.{RequestError}
 use Rattle.vx_scan.specs.Stores.{Read}
 use Rattle.vx_file_open.specs.Layouts.{WhereBytes, IsFileWith, content_at}
 use Rattle.vx_file.specs.FileStates.{FileState}
+use Rattle.vx_folder.specs.FolderStates.{WhereHeld}
 use Rattle.vx_shell.specs.declared.answers.Found.{Found}
 use Rattle.vx_shell.specs.declared.counting.Counts.{Counts}
 use Rattle.vx_shell.specs.declared.errors.Refusal.{Refusal}
@@ -34,30 +35,38 @@ Reports (Ok found) (Err told) = told ≡ refusals.NoMemory
 Reports (Err refusal) (Ok counted) = ⊥
 Reports (Err refusal) (Err told) = told ≡ refusal
 
--- why a read of a file failed of which these reads failed by damage
+-- why a read of files failed of which these reads failed by damage
 abbrev pub IsFaultOf : List Read → Refusal → Type 0
 IsFaultOf [] told = told ≡ refusals.Unread
 IsFaultOf (read ∷ damaged) told = told ≡ refusals.Damaged
 
--- a refusal as a file tells it: why a read failed
+-- a refusal as files tell it: why a read failed
 abbrev pub IsToldBy : List Read → Refusal → Refusal → Type 0
 IsToldBy damaged refusals.StoreFault told = IsFaultOf damaged told
 IsToldBy damaged refusal told = told ≡ refusal
 
--- what is told of what was found over a file
+-- what is told of what was found over a file, or over files together
 abbrev pub ReportsFile : List Read → Result Found Refusal → Result Counts Refusal → Type 0
 ReportsFile damaged (Err refusal) (Err told) = IsToldBy damaged refusal told
 ReportsFile damaged (Err refusal) (Ok counted) = ⊥
 ReportsFile damaged (Ok found) reported = Reports (Ok found) reported
 
--- the answer over the table of the file with this header that bytes are
-abbrev pub file_answer : Asked → Header → Bytes → Answer
-file_answer asked h bytes = answer_of (is_damaged_in (content_at h bytes)) (held_table (content_at h bytes)) (content_at h bytes).zones asked
+-- the answer over the table that a file holds, or files together
+abbrev pub content_answer : Asked → FileContent → Answer
+content_answer asked content = answer_of (is_damaged_in content) (held_table content) content.zones asked
 
--- some answer is written; and where the bytes of the file are told, that over its table
-pub record AnswersFile (asked : Asked) (file : FileState) (before after : End) (result : Result Counts Refusal) : Type 0 where
+-- some answer is written; and where it is known what is held, that over its table
+pub record AnswersContent (asked : Asked) (held : Option FileContent) (before after : End) (result : Result Counts Refusal) : Type 0 where
   pub some : (answer : Answer) × WritesOut answer before after result
-  pub told : WhereBytes file.bytes (λ bytes. WritesOut (file_answer asked file.header bytes) before after result)
+  pub told : WhereHeld held (λ content. WritesOut (content_answer asked content) before after result)
+
+-- what a file holds, where its bytes are told
+abbrev pub content_told : Header → Option Bytes → Option FileContent
+content_told h bytes = option_map (content_at h) bytes
+
+-- the answer over a file
+abbrev pub AnswersFile : Asked → FileState → End → End → Result Counts Refusal → Type 0
+AnswersFile asked file before after result = AnswersContent asked (content_told file.header file.bytes) before after result
 
 -- no read failed that an input may fail by
 abbrev pub IsNeverUnread : Result Counts Refusal → Type 0

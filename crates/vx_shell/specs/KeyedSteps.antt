@@ -1,11 +1,9 @@
 -- For the checker: no public clause cites this.
 -- How the first rows by a key are found and refused.
 use Rattle.std.specs.Prelude.{◌≡◌, ◌⊎◌, ℕ, length, Result, Ok, Err}
-use Rattle.vx_expr.specs.Trees.{Tree}
 use Rattle.vx_io.specs.Ends.{Added, AddedPrefix}
 use Rattle.vx_laws_shell.specs.Lines.{row_lines}
 use Rattle.vx_laws_shell.specs.Running.{End}
-use Rattle.vx_laws_statements.specs.Clauses.{Key}
 use Rattle.vx_laws_topk.specs.TopRows.{TopAsk}
 use Rattle.vx_scan.specs.ErrorKinds.{kind_of}
 use Rattle.vx_scan.specs.Stores.{StoreSeen}

@@ -1,5 +1,4 @@
 pub mod OriginViews
-pub mod KeptViews
 pub mod AskedBlocks
 pub mod Refusals
 pub mod WantViews
@@ -10,5 +9,8 @@ pub mod OrderedSteps
 pub mod KeyedSteps
 pub mod RunParts
 pub mod FileRuns
+pub use Rattle.vx_folder.specs.PathViews
+pub use Rattle.vx_laws_shell.specs.Paths
+pub use Rattle.vx_laws_shell.specs.FolderContents
 pub use Rattle.vx_laws_shell.specs.Running
 pub use Rattle.vx_laws_shell.specs.Origins

@@ -1,6 +1,6 @@
 -- For the checker: no public clause cites this.
 -- How a run in the table's order stands from block to block.
-use Rattle.std.specs.Prelude.{◌≡◌, ℕ, ◌+◌, ◌-◌, ◌≤◌, nat_eq, Bool, true, false, cond, not, List, [], ◌∷◌, ◌++◌, length, drop, Option, Some, None, Result, Ok, Err}
+use Rattle.std.specs.Prelude.{◌≡◌, ℕ, ◌+◌, ◌-◌, ◌≤◌, nat_eq, Bool, false, cond, not, List, [], ◌∷◌, ◌++◌, length, drop, Option, Some, None, Result, Ok, Err}
 use Rattle.std.specs.List.{filter, slice_get}
 use Rattle.std.specs.declared.alloc.Global.{Global}
 use Rattle.std.specs.declared.vec.Vec.{Vec}
@@ -16,7 +16,7 @@ use Rattle.vx_laws_shell.specs.OrderedRuns.{Progress, RunEnd, RunsOver, more_row
 use Rattle.vx_laws_shell.specs.Running.{End}
 use Rattle.vx_scan.specs.BlockRuns.{RunsBlock}
 use Rattle.vx_scan.specs.ErrorKinds.{kind_of}
-use Rattle.vx_scan.specs.Stores.{Read, StoreSeen, WhereTold, IsSameStore}
+use Rattle.vx_scan.specs.Stores.{Read, StoreSeen, IsSameStore}
 use Rattle.vx_scan.specs.declared.errors.ScanError.{ScanError}
 use Rattle.vx_semantics.specs.Pruning.{rules_out}
 use Rattle.vx_semantics.specs.Tables.{Table, Zones, row_type, numbered_from}
@@ -24,7 +24,6 @@ use Rattle.vx_semantics.specs.Scans.{kept_of}
 use Rattle.vx_shell.specs.declared.answers.Found.{Found}
 use Rattle.vx_shell.specs.declared.errors.Refusal.{Refusal}
 use Rattle.vx_shell.specs.declared.rows_in_order.Written.{Written}
-use Rattle.vx_shell.specs.Founds.{CountsFault}
 use Rattle.vx_shell.specs.Refusals.{IsScanRefusal, CutsRows, EndsRun, IsEndOf}
 
 -- the rows of a block, or the refusal of the error that ended its scan

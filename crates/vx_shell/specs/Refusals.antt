@@ -9,13 +9,15 @@ use Rattle.vx_file_open.specs.declared.errors.FileError.{FileError}
 use Rattle.vx_file_open.specs.declared.errors.FileError.TheVariants as files
 use Rattle.vx_sql_lines.specs.declared.told.ToldError.{ToldError}
 use Rattle.vx_sql_lines.specs.declared.told.ToldError.TheVariants as tells
-use Rattle.vx_semantics.specs.Breaks.{Cause, by_sum, by_cast}
-use Rattle.vx_scan.specs.ErrorKinds.{ErrorKind, of_memory, of_text, of_types, of_break, of_read}
+use Rattle.vx_semantics.specs.Breaks.{by_sum, by_cast}
+use Rattle.vx_scan.specs.ErrorKinds.{ErrorKind, of_memory, of_break, of_read}
 use Rattle.vx_laws_shell.specs.OrderedRuns.{RunEnd, finished, without_value, without_column, without_room, without_output}
 use Rattle.vx_laws_shell.specs.Running.{Cut, unwritten, without_memory, file_unread, cut_status}
 use Rattle.vx_shell.specs.declared.errors.Refusal.{Refusal}
 use Rattle.vx_files.specs.declared.errors.OpenError.{OpenError}
 use Rattle.vx_files.specs.declared.errors.OpenError.TheVariants as opens
+use Rattle.vx_folder.specs.declared.errors.FolderError.{FolderError}
+use Rattle.vx_folder.specs.declared.errors.FolderError.TheVariants as folders
 use Rattle.vx_shell.specs.declared.errors.Refusal.TheVariants as refusals
 
 -- what a refusal says of the answer: it has this status, or it was cut
@@ -29,6 +31,7 @@ refusal_kind refusals.Usage = settled 2
 refusal_kind (refusals.PastEnd range blocks) = settled 2
 refusal_kind (refusals.NoTable error) = settled 3
 refusal_kind (refusals.NoFile error) = settled 3
+refusal_kind (refusals.Mixed line) = settled 3
 refusal_kind refusals.Damaged = settled 3
 refusal_kind (refusals.Statement line) = settled 4
 refusal_kind refusals.Unlimited = settled 4
@@ -80,6 +83,14 @@ IsSettled status (cut why) = why ≡ without_memory
 abbrev pub IsUnopened : OpenError → RefusalKind → Type 0
 IsUnopened opens.NotOpened kind = IsSettled 6 kind
 IsUnopened opens.NoMemory kind = kind ≡ cut without_memory
+
+-- the refusal of a folder whose files aren't opened as one table
+abbrev pub IsFolderRefusal : FolderError → RefusalKind → Type 0
+IsFolderRefusal folders.NoMemory kind = kind ≡ cut without_memory
+IsFolderRefusal folders.ReadFault kind = kind ≡ cut file_unread
+IsFolderRefusal folders.NotListed kind = IsSettled 6 kind
+IsFolderRefusal (folders.NotOpened name) kind = IsSettled 6 kind
+IsFolderRefusal _ kind = IsSettled 3 kind
 
 -- the kinds of the errors that come in a block
 abbrev pub ComesInBlock : ErrorKind → Type 0

@@ -5,7 +5,7 @@ ghost use Rattle.std.specs.List.{filter, list_any};
 ghost use Rattle.std.specs.Str.{bytes_eq};
 ghost use Rattle.std.specs.String.{string_bytes};
 ghost use Rattle.vx_dtype.specs.Types.{Bytes};
-ghost use Rattle.vx_laws_shell.specs.Lines.{counts_line};
+ghost use Rattle.vx_laws_shell.specs.Lines as lines;
 ghost use Rattle.vx_scan.specs.StoreViews.{entry_view};
 ghost use Rattle.vx_shell.specs.CountViews.{counts_view, names_read};
 
@@ -27,9 +27,9 @@ pub(crate) struct Counts {
 }
 
 impl Counts {
-    /// The line of what was counted.
-    pub(crate) fn line(&self, alloc: Global) -> Mem<String>
-        ensures { IfOk result (λ line. string_bytes line ≡ counts_line (counts_view self.now)) }
+    /// The line of what was counted, and of how many milliseconds the run took, where that is known.
+    pub(crate) fn line(&self, alloc: Global, milliseconds: Option<u64>) -> Mem<String>
+        ensures { IfOk result (λ line. string_bytes line ≡ lines.counts_line (counts_view self.now) milliseconds) }
     {
         let Counts {
             blocks,
@@ -38,10 +38,30 @@ impl Counts {
             columns_read,
             rows,
         } = *self;
+        let seconds = seconds_known(alloc, milliseconds)?;
         Ok(format!(in alloc;
-            "blocks skipped {skipped} of {blocks}, columns read {columns_read} of {columns}, rows {rows}\n"
+            "blocks skipped {skipped} of {blocks}, columns read {columns_read} of {columns}, rows {rows}{seconds}\n"
         )?)
     }
+}
+
+/// How many seconds so many milliseconds are, as it stands behind what was counted. Nothing where they aren't known.
+fn seconds_known(alloc: Global, milliseconds: Option<u64>) -> Mem<String>
+    ensures { IfOk result (λ text. string_bytes text ≡ lines.seconds_known milliseconds) }
+{
+    match milliseconds {
+        Some(milliseconds) => seconds_text(alloc, milliseconds),
+        None => Ok(String::new(alloc)),
+    }
+}
+
+/// How many seconds so many milliseconds are, with three digits behind the point.
+fn seconds_text(alloc: Global, milliseconds: u64) -> Mem<String>
+    ensures { IfOk result (λ text. string_bytes text ≡ lines.seconds_text milliseconds) }
+{
+    let (seconds, tenths) = (milliseconds / 1000, milliseconds / 100 % 10);
+    let (hundredths, thousandths) = (milliseconds / 10 % 10, milliseconds % 10);
+    Ok(format!(in alloc; ", seconds {seconds}.{tenths}{hundredths}{thousandths}")?)
 }
 
 /// The names of the columns of reads, as a set.

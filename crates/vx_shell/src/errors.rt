@@ -1,11 +1,12 @@
 // Why a run ends before its rows are written whole.
 ghost use Rattle.std.specs.Prelude.{◌≡◌};
-ghost use Rattle.vx_shell.specs.Refusals.{refusal_kind, refusal_status, IsUnopened};
+ghost use Rattle.vx_shell.specs.Refusals.{refusal_kind, refusal_status, IsFolderRefusal, IsSettled, IsUnopened};
 
 use std::alloc::{AllocError, AllocFailed, Global};
 use vx_dtype::{Mem, NoMemory};
 use vx_file::FileError;
 use vx_files::OpenError;
+use vx_folder::FolderError;
 use vx_io::{InputError, WriteFailed};
 use vx_request::RequestError;
 use vx_shell_words::BlockRange;
@@ -24,6 +25,8 @@ pub(crate) enum Refusal {
     NoTable(RequestError),
     /// The bytes of a path are no block file.
     NoFile(FileError),
+    /// The files of a folder are no table: the line that tells why.
+    Mixed(String),
     /// A column that is read is damaged.
     Damaged,
     /// The statement isn't taken, or names nothing over the table: the line that tells why.
@@ -53,7 +56,7 @@ impl Refusal {
     {
         match self {
             Refusal::Usage | Refusal::PastEnd(_, _) => 2,
-            Refusal::NoTable(_) | Refusal::NoFile(_) | Refusal::Damaged => 3,
+            Refusal::NoTable(_) | Refusal::NoFile(_) | Refusal::Mixed(_) | Refusal::Damaged => 3,
             Refusal::Statement(_) | Refusal::Unlimited | Refusal::TooMany(_) => 4,
             Refusal::Overflow | Refusal::BadCast => 5,
             Refusal::NotOpened(_) | Refusal::Unread | Refusal::StoreFault => 6,
@@ -70,7 +73,9 @@ impl Refusal {
                 "error: stdin is no table: {error:?}\n"
             )?),
             Refusal::NoFile(error) => Ok(format!(in alloc; "error: no block file: {error:?}\n")?),
-            Refusal::Statement(line) => Ok(format!(in alloc; "error: {line}\n")?),
+            Refusal::Mixed(line) | Refusal::Statement(line) => Ok(format!(in alloc;
+                "error: {line}\n"
+            )?),
             Refusal::TooMany(count) => too_many_line(alloc, *count),
             Refusal::NotOpened(path) => Ok(format!(in alloc; "error: {path} can't be opened\n")?),
             _ => Ok(String::from_str(alloc, self.fixed_line())?),
@@ -81,7 +86,7 @@ impl Refusal {
     pub(crate) fn fixed_line(&self) -> &'static str {
         match self {
             Refusal::Usage => "error: usage: sql STATEMENT [--stats] [--blocks A..B]\n",
-            Refusal::Damaged => "error: a column of the block file is damaged\n",
+            Refusal::Damaged => "error: a column of a block file is damaged\n",
             Refusal::Unlimited => "error: ORDER BY needs a LIMIT\n",
             Refusal::Overflow => "error: a sum or a difference has no value of its type\n",
             Refusal::BadCast => "error: a cast has no value of its type\n",
@@ -206,5 +211,43 @@ pub(crate) fn open_refusal(alloc: Global, path: &str, error: OpenError) -> Refus
             Ok(path) => Refusal::NotOpened(path),
             Err(_) => Refusal::NoMemory,
         },
+    }
+}
+
+/// A path that can't be opened, where there is memory for it.
+fn not_opened(path: Mem<String>) -> Refusal
+    ensures { IsSettled 6 (refusal_kind result) }
+{
+    match path {
+        Ok(path) => Refusal::NotOpened(path),
+        Err(NoMemory) => Refusal::NoMemory,
+    }
+}
+
+/// The files of a folder are no table, where there is memory for the line that tells why.
+fn mixed(line: Mem<String>) -> Refusal
+    ensures { IsSettled 3 (refusal_kind result) }
+{
+    match line {
+        Ok(line) => Refusal::Mixed(line),
+        Err(NoMemory) => Refusal::NoMemory,
+    }
+}
+
+/// The path of a file of a folder.
+fn path_in(alloc: Global, folder: &str, name: &str) -> Mem<String> {
+    Ok(format!(in alloc; "{folder}{name}")?)
+}
+
+/// Why the files of a folder aren't opened as one table.
+pub(crate) fn folder_refusal(alloc: Global, folder: &str, error: &FolderError) -> Refusal
+    ensures { IsFolderRefusal error.now (refusal_kind result) }
+{
+    match error {
+        FolderError::NoMemory => Refusal::NoMemory,
+        FolderError::ReadFault => Refusal::Unread,
+        FolderError::NotListed => open_refusal(alloc, folder, OpenError::NotOpened),
+        FolderError::NotOpened(name) => not_opened(path_in(alloc, folder, name.as_str())),
+        _ => mixed(error.text(alloc)),
     }
 }

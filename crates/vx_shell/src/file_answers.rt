@@ -1,85 +1,35 @@
 // What is answered over the table of a block file, and over the one that the standard input tells.
-ghost use Rattle.std.specs.Prelude.{◌≡◌, List, [], map, None, Ok, IfOk};
+ghost use Rattle.std.specs.Prelude.{◌≡◌, List, [], map, None};
 ghost use Rattle.vx_dtype.specs.Types.{Bytes};
 ghost use Rattle.vx_laws_shell.specs.Answers.{answer_of};
 ghost use Rattle.vx_laws_shell.specs.Damage.{is_never_damaged};
 ghost use Rattle.vx_laws_shell.specs.Origins.{standard_input, block_file, origin_of};
-ghost use Rattle.vx_laws_shell.specs.Running.{AskOf, End, Kept, IsShellRun, end_by};
+ghost use Rattle.vx_laws_shell.specs.Running.{AskOf, End, IsShellRun, end_by};
+ghost use Rattle.vx_laws_shell.specs.Paths.{Paths};
 ghost use Rattle.vx_request.specs.RequestViews.{told_view};
 ghost use Rattle.vx_scan.specs.StoreAnswers.{new_store};
-ghost use Rattle.vx_scan.specs.StoreViews.{entry_view};
 ghost use Rattle.vx_tables.specs.Blocks.{block_view, table_of_blocks, table_refusal};
 ghost use Rattle.vx_file_scan.specs.FirstFailures.{IsUnread};
-ghost use Rattle.vx_shell.specs.CountViews.{counts_view, counts_read};
-ghost use Rattle.vx_shell.specs.FileRuns.{AnswersBytes, AnswersFile, AnswersSource, IsFaultOf, IsNeverUnread, IsToldAnswer, IsToldBy, Reports, ReportsFile, WritesOut};
+ghost use Rattle.vx_shell.specs.FileRuns.{AnswersBytes, AnswersFile, AnswersSource, IsNeverUnread, IsToldAnswer, Reports, ReportsFile, WritesOut};
 ghost use Rattle.vx_shell.specs.Refusals.{result_status};
 ghost use Rattle.vx_shell_words.specs.WordViews.{asked_view};
 ghost use Rattle.vx_shell.specs.AskedBlocks.{AsksInOrder};
-ghost use Rattle.vx_shell.specs.KeptViews.{kept_by};
+ghost use Rattle.vx_folder.specs.PathViews.{paths_by};
 
 use crate::answers::{Answered, Found, answer};
-use crate::counting::{Counts, columns_read};
+use crate::counting::Counts;
 use crate::errors::{Refusal, open_refusal};
+use crate::reports::{counted, report};
 use std::alloc::Global;
-use vx_dtype::{Mem, NoMemory};
+use vx_dtype::NoMemory;
 use vx_file::{BlockFile, open_file};
 use vx_file_ranges::Ranged;
 use vx_file_scan::FirstFailure;
 use vx_files::Files;
 use vx_io::{Sink, Source, read_up_to};
 use vx_request::{MOST_BYTES, ToldTable, decode_table};
-use vx_scan::{ColumnStore, MemoryStore, ReadEntry};
+use vx_scan::{ColumnStore, MemoryStore};
 use vx_shell_words::Asked;
-use vx_tables::columns_of;
-use vx_zones::ZoneMap;
-
-/// The counts of what was found by the reads of a log.
-fn counts(alloc: Global, found: Found, zones: &ZoneMap, log: &[ReadEntry]) -> Mem<Counts>
-    ensures { IfOk result (λ counted. counts_view counted ≡ counts_read zones.now (map entry_view log.now) found) }
-{
-    Ok(Counts {
-        blocks: found.blocks,
-        skipped: found.skipped,
-        columns: columns_of(zones).nfields(),
-        columns_read: columns_read(alloc, zones, log)?,
-        rows: found.rows,
-    })
-}
-
-/// Why a read of a block file failed: a column is damaged, or else its source counted a fault.
-fn fault_of<R: Ranged>(file: &BlockFile<R>) -> Refusal
-    ensures { IsFaultOf file.now.damaged result }
-{
-    match file.damage() {
-        Some(_) => Refusal::Damaged,
-        None => Refusal::Unread,
-    }
-}
-
-/// A refusal as a block file tells it: why a read of it failed.
-fn told_refusal<R: Ranged>(refusal: Refusal, file: &BlockFile<R>) -> Refusal
-    ensures { IsToldBy file.now.damaged refusal result }
-{
-    match refusal {
-        Refusal::StoreFault => fault_of(file),
-        other => other,
-    }
-}
-
-/// The counts, or want of memory for them.
-fn counted(
-    alloc: Global,
-    found: Found,
-    zones: &ZoneMap,
-    log: &[ReadEntry],
-) -> Result<Counts, Refusal>
-    ensures { Reports (Ok found) result }
-{
-    match counts(alloc, found, zones, log) {
-        Ok(counted) => Ok(counted),
-        Err(NoMemory) => Err(Refusal::NoMemory),
-    }
-}
 
 /// What is told of what was found over a block file.
 fn file_report<R: Ranged>(
@@ -89,10 +39,7 @@ fn file_report<R: Ranged>(
 ) -> Result<Counts, Refusal>
     ensures { ReportsFile file.now.damaged found result }
 {
-    match found {
-        Ok(found) => counted(alloc, found, file.zones(), file.log()),
-        Err(refusal) => Err(told_refusal(refusal, file)),
-    }
+    report(alloc, found, file.zones(), file.log(), file.damage())
 }
 
 /// What is answered over a block file that wasn't read yet.
@@ -137,9 +84,10 @@ pub(crate) fn answer_file<F: Files, O: Sink>(
     output: &mut O,
 ) -> Result<Counts, Refusal>
     requires { AsksInOrder (asked_view asked) }
-    ensures { let sink = end_by O.written O.faults in (words : List Bytes) (name : Bytes) (source : End)
+    ensures { let paths = paths_by (F.kept files.now) (F.listed files.now) in
+        let sink = end_by O.written O.faults in (words : List Bytes) (name : Bytes) (source : End)
         → AskOf words (asked_view asked.entry) name → origin_of name ≡ block_file path.now
-        → IsShellRun words (kept_by (F.kept files.now)) source source (sink output.old) (sink output.new) (result_status result) }
+        → IsShellRun words paths source source (sink output.old) (sink output.new) (result_status result) }
 {
     match files.open(path) {
         Ok(source) => answer_source(alloc, asked, source, output),
@@ -222,9 +170,9 @@ pub(crate) fn answer_input<I: Source, O: Sink>(
     output: &mut O,
 ) -> Result<Counts, Refusal>
     requires { AsksInOrder (asked_view asked) }
-    ensures { let source = end_by I.left I.faults in let sink = end_by O.written O.faults in (words : List Bytes) (name : Bytes) (kept : Bytes → Kept)
+    ensures { let source = end_by I.left I.faults in let sink = end_by O.written O.faults in (words : List Bytes) (name : Bytes) (paths : Paths)
         → AskOf words (asked_view asked.entry) name → origin_of name ≡ standard_input
-        → IsShellRun words kept (source input.old) (source input.new) (sink output.old) (sink output.new) (result_status result) }
+        → IsShellRun words paths (source input.old) (source input.new) (sink output.old) (sink output.new) (result_status result) }
 {
     match read_up_to(alloc, MOST_BYTES + 1, input) {
         Ok(bytes) => answer_bytes(alloc, asked, bytes.as_slice(), output),

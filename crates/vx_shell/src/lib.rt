@@ -5,11 +5,14 @@ mod answers;
 mod counting;
 mod errors;
 mod file_answers;
+mod folder_answers;
 mod origins;
+mod reports;
 mod row_lines;
 mod rows_by_key;
 mod rows_in_order;
 mod running;
+mod timing;
 mod wants;
 
 pub use origins::{Origin, origin_of};

@@ -1,5 +1,6 @@
 // Where the bytes of a table are, by its name.
 ghost use Rattle.std.specs.Prelude.{◌≡◌, IfOk};
+ghost use Rattle.std.specs.Io.BufRead.{ends_with_byte};
 ghost use Rattle.std.specs.List.{list_any};
 ghost use Rattle.std.specs.String.{string_bytes};
 ghost use Rattle.vx_laws_shell.specs.Origins as spec;
@@ -15,6 +16,8 @@ pub enum Origin {
     StandardInput,
     /// In the block file of this path.
     BlockFile(String),
+    /// In the block files of the folder of this path, which ends in `/`.
+    Folder(String),
 }
 
 /// Whether bytes are those of a path: `.` or `/` stands among them.
@@ -42,13 +45,30 @@ fn path_of(alloc: Global, name: &str) -> Mem<String>
     Ok(format!(in alloc; "{name}.vxb")?)
 }
 
-/// What the name of a table means: `stdin` the standard input, each other name the block file of its path. A name without `.` and `/` is that of the file
-/// with `.vxb` behind it.
+/// Whether a name ends in `/`, so is one of a folder.
+fn is_folder(name: &[u8]) -> bool
+    ensures { result ≡ ends_with_byte 47 name.now }
+{
+    !name.is_empty() && name[name.len() - 1] == b'/'
+}
+
+/// What the name of a table means that isn't `stdin`: a folder where it ends in `/`, and else the block file of its path.
+fn origin_on_disk(alloc: Global, name: &str) -> Mem<Origin>
+    ensures { IfOk result (λ origin. origin_view origin ≡ spec.origin_on_disk name.now) }
+{
+    if is_folder(name.as_bytes()) {
+        return Ok(Origin::Folder(String::from_str(alloc, name)?));
+    }
+    Ok(Origin::BlockFile(path_of(alloc, name)?))
+}
+
+/// What the name of a table means: `stdin` the standard input, a name that ends in `/` the block files of a folder, and each other name the block file of its
+/// path. A name without `.` and `/` is that of the file with `.vxb` behind it.
 pub fn origin_of(alloc: Global, name: &str) -> Mem<Origin>
     ensures { IfOk result (λ origin. origin_view origin ≡ spec.origin_of name.now) }
 {
     if name == "stdin" {
         return Ok(Origin::StandardInput);
     }
-    Ok(Origin::BlockFile(path_of(alloc, name)?))
+    origin_on_disk(alloc, name)
 }

@@ -5,6 +5,9 @@ use crate::errors::CaseError;
 use crate::rows::{is_set, list_of, number_in, owned, text_in};
 use serde_json::Value;
 use std::alloc::Global;
+use std::cell::Cell;
+use std::io;
+use std::time::{Clock, Duration};
 use vx_dtype::Mem;
 use vx_files::{DiskFiles, Files, MemoryFile, MemoryFiles};
 use vx_io::{MemorySink, MemorySource};
@@ -24,6 +27,25 @@ pub(crate) struct Ended {
     pub(crate) errors: String,
 }
 
+/// A clock that goes on by as many milliseconds with each reading.
+#[derive(Drop)]
+struct Ticking {
+    step: u64,
+    readings: Cell<u64>,
+}
+
+impl Clock for Ticking {
+    fn monotonic(&self) -> io::Result<Duration> {
+        let readings = self.readings.get().saturating_add(1);
+        self.readings.set(readings);
+        Ok(Duration::from_millis(self.step.saturating_mul(readings)))
+    }
+
+    fn since_1970(&self) -> io::Result<Duration> {
+        Ok(Duration::from_secs(0))
+    }
+}
+
 /// Runs the words of a row over its input, and over its files, in memory or on disk.
 pub(crate) fn run(rt: &HostRuntime, row: &Value) -> Result<Ended, CaseError> {
     if is_set(row, "disk") {
@@ -39,6 +61,10 @@ fn run_over<F: Files>(alloc: Global, row: &Value, files: &F) -> Result<Ended, Ca
     let mut input = input_in(alloc, row)?;
     let mut output = sink(alloc, number_in(row, "fails"))?;
     let mut errors = sink(alloc, 0)?;
+    let clock = Ticking {
+        step: number_in(row, "ticks"),
+        readings: Cell::new(0),
+    };
     let status = sql(
         alloc,
         words.as_slice(),
@@ -46,6 +72,7 @@ fn run_over<F: Files>(alloc: Global, row: &Value, files: &F) -> Result<Ended, Ca
         &mut input,
         &mut output,
         &mut errors,
+        &clock,
     );
     Ok(Ended {
         status,

@@ -34,6 +34,15 @@ ITEMS = block_file(
 # the last value of the last column of the last block is neither null nor a text
 SPOILT = ITEMS[:-1] + b"\2"
 
+# the files of a folder, of one form
+PRICED = [("name", "utf8"), ("price", "i32")]
+FIRST = block_file(
+    request(PRICED, [[["ink", "pen"], [3, 12]], [["mug"], [9]]], TRUE, ROOT, [(["price"], "min", [3, 9]), (["price"], "max", [12, 9])])
+)
+SECOND = block_file(request(PRICED, [[["bag", "hat"], [40, 25]]], TRUE, ROOT, [(["price"], "min", [25]), (["price"], "max", [40])]))
+# its statistics are of other kinds
+WITHOUT_MIN = block_file(request(PRICED, [[["bag", "hat"], [40, 25]]], TRUE, ROOT, [(["price"], "max", [40])]))
+
 
 def table(columns, blocks, **more):
     columns = [{"name": name, "type": dtype} for name, dtype in columns]
@@ -54,8 +63,9 @@ LYING = table([("n", "i8")], [[[1]], [[9]]], stats=[{"path": ["n"], "stat": "max
 USAGE = "error: usage: sql STATEMENT [--stats] [--blocks A..B]\n"
 
 
-def counts(skipped, blocks, read, columns, rows):
-    return "blocks skipped %d of %d, columns read %d of %d, rows %d\n" % (skipped, blocks, read, columns, rows)
+def counts(skipped, blocks, read, columns, rows, seconds="0.000"):
+    """The line of what was counted. The clock of a run goes on by its ticks with each reading, so that it stands still where it has none."""
+    return "blocks skipped %d of %d, columns read %d of %d, rows %d, seconds %s\n" % (skipped, blocks, read, columns, rows, seconds)
 
 
 # ---- rows
@@ -73,6 +83,19 @@ def words(name, *given, status, errors):
 
 def held(given, path="items.vxb"):
     return [{"path": path, "bytes": given.hex()}]
+
+
+def folder(**files):
+    """The files of the folder `f`, whose names end in `.vxb`, the last one first, with things beside them that are no files of it."""
+    return [
+        {"path": "f/notes.txt", "bytes": b"no block file".hex()},
+        *({"path": "f/" + name + ".vxb", "bytes": given.hex()} for name, given in reversed(files.items())),
+        {"path": "f/g/a.vxb", "bytes": b"no block file".hex()},
+        {"path": "f.vxb", "bytes": b"no block file".hex()},
+    ]
+
+
+TWO = folder(a=FIRST, b=SECOND)
 
 
 def lines(*rows):
@@ -96,7 +119,7 @@ run("a cast without a value", "SELECT CAST(n AS u8) AS u FROM stdin", input=SIGN
 run("nothing is written of an order that breaks", "SELECT CAST(n AS u8) AS u FROM stdin ORDER BY n LIMIT 3", input=SIGNED, status=5,
     errors="error: a cast has no value of its type\n")
 run("the rows before a damaged column stand", "SELECT note FROM items", files=held(SPOILT), status=3,
-    output=lines('{"note":null}', '{"note":"blue"}', '{"note":"tall"}', '{"note":null}'), errors="error: a column of the block file is damaged\n")
+    output=lines('{"note":null}', '{"note":"blue"}', '{"note":"tall"}', '{"note":null}'), errors="error: a column of a block file is damaged\n")
 run("a damaged column that isn't read", "SELECT price FROM items WHERE price > 30", "--stats", files=held(SPOILT), output=lines('{"price":40}'),
     errors=counts(2, 3, 1, 3, 1))
 run("statistics that lie lose rows", "SELECT n FROM stdin WHERE n > 5", "--stats", input=LYING, errors=counts(2, 2, 0, 1, 0))
@@ -133,8 +156,51 @@ run("a name in quotes", "SELECT x FROM 'stdin' LIMIT 1", input=GAPS, output=line
 run("a file of that name", "SELECT name FROM './stdin' LIMIT 1", files=held(ITEMS, "./stdin"), output=lines('{"name":"ink"}'))
 run("a name with a dot", "SELECT name FROM 'items.old' LIMIT 1", files=held(ITEMS, "items.old"), output=lines('{"name":"ink"}'))
 run("the standard input can't be read", "SELECT * FROM stdin", input=GAPS, unread=2, status=6, errors="error: a read failed\n")
-run("a folder in place of a file", "SELECT * FROM './'", disk=True, status=6, errors="error: a read failed\n")
+run("a folder in place of a file", "SELECT * FROM './.'", disk=True, status=6, errors="error: a read failed\n")
 run("no such file on disk", "SELECT name FROM 'none/items.vxb'", disk=True, status=6, errors="error: none/items.vxb can't be opened\n")
+run("two files of a folder as one table", "SELECT * FROM 'f/'", "--stats", files=TWO,
+    output=lines('{"name":"ink","price":3}', '{"name":"pen","price":12}', '{"name":"mug","price":9}', '{"name":"bag","price":40}', '{"name":"hat","price":25}'),
+    errors=counts(0, 3, 2, 2, 5))
+run("blocks of both are skipped", "SELECT name FROM 'f/' WHERE price > 10 AND price < 20", "--stats", files=TWO, output=lines('{"name":"pen"}'),
+    errors=counts(2, 3, 2, 2, 1))
+run("the first by a key of both", "SELECT name FROM 'f/' ORDER BY price DESC LIMIT 3", files=TWO,
+    output=lines('{"name":"bag"}', '{"name":"hat"}', '{"name":"pen"}'))
+run("a limit within the second", "SELECT name FROM 'f/' LIMIT 4", "--stats", files=TWO,
+    output=lines('{"name":"ink"}', '{"name":"pen"}', '{"name":"mug"}', '{"name":"bag"}'), errors=counts(0, 3, 1, 2, 4))
+run("a limit within the first", "SELECT name FROM 'f/' LIMIT 2", "--stats", files=TWO, output=lines('{"name":"ink"}', '{"name":"pen"}'),
+    errors=counts(2, 3, 1, 2, 2))
+run("blocks from the first on into the second", "SELECT name FROM 'f/'", "--blocks", "1..3", "--stats", files=TWO,
+    output=lines('{"name":"mug"}', '{"name":"bag"}', '{"name":"hat"}'), errors=counts(0, 2, 1, 2, 3))
+run("blocks past the end of the second", "SELECT name FROM 'f/'", "--blocks", "2..4", files=TWO, status=2,
+    errors="error: --blocks 2..4: the table has 3 blocks\n")
+run("capitals stand first among the names", "SELECT name FROM 'f/'", files=folder(B=SECOND, a=FIRST),
+    output=lines('{"name":"bag"}', '{"name":"hat"}', '{"name":"ink"}', '{"name":"pen"}', '{"name":"mug"}'))
+run("a folder within another one", "SELECT name FROM './f/g/' LIMIT 1", files=held(FIRST, "./f/g/a.vxb"), output=lines('{"name":"ink"}'))
+run("no such column in a folder", "SELECT cost FROM 'f/'", files=TWO, status=4, errors="error: SELECT: no column cost; the columns are name, price\n")
+run("no such folder", "SELECT * FROM 'none/'", files=TWO, status=6, errors="error: none/ can't be opened\n")
+run("a folder without a block file", "SELECT * FROM 'f/'", files=folder(), status=3, errors="error: the folder has no block file\n")
+run("a file of other columns", "SELECT name FROM 'f/'", files=folder(a=FIRST, b=ITEMS), status=3,
+    errors="error: b.vxb hasn't the columns and statistics of the files before it\n")
+run("a file of other statistics", "SELECT name FROM 'f/'", files=folder(a=FIRST, b=WITHOUT_MIN), status=3,
+    errors="error: b.vxb hasn't the columns and statistics of the files before it\n")
+run("a file of a folder that is no block file", "SELECT name FROM 'f/'", files=folder(a=FIRST, b=SECOND, c=b"no block file"), status=3,
+    errors="error: c.vxb: no block file: it doesn't begin with the mark\n")
+run("the first of two that are no files", "SELECT name FROM 'f/'", files=folder(a=FIRST, b=ITEMS, c=b"no block file"), status=3,
+    errors="error: b.vxb hasn't the columns and statistics of the files before it\n")
+run("the rows before damage in the second file stand", "SELECT note FROM 'f/'", files=folder(a=ITEMS, b=SPOILT), status=3,
+    output=lines('{"note":null}', '{"note":"blue"}', '{"note":"tall"}', '{"note":null}', '{"note":null}', '{"note":null}', '{"note":null}',
+        '{"note":"blue"}', '{"note":"tall"}', '{"note":null}'), errors="error: a column of a block file is damaged\n")
+run("damage in the second file that isn't read", "SELECT price FROM 'f/' WHERE price > 30", "--stats", files=folder(a=ITEMS, b=SPOILT),
+    output=lines('{"price":40}', '{"price":40}'), errors=counts(4, 6, 1, 3, 2))
+run("the rows before an overflow in the second file stand", "SELECT price + 2147483610 AS p FROM 'f/'", files=TWO, status=5,
+    output=lines('{"p":2147483613}', '{"p":2147483622}', '{"p":2147483619}'), errors="error: a sum or a difference has no value of its type\n")
+run("a folder on disk", "SELECT name FROM './' WHERE price < 10", "--stats", disk=True,
+    output=lines('{"name":"ink"}', '{"name":"mug"}', '{"name":"cap"}'), errors=counts(1, 3, 2, 3, 3))
+run("no such folder on disk", "SELECT name FROM 'none/'", disk=True, status=6, errors="error: none/ can't be opened\n")
+run("milliseconds of a clock", "SELECT x FROM stdin LIMIT 1", "--stats", input=GAPS, ticks=4, output=lines('{"x":1}'),
+    errors=counts(2, 3, 1, 1, 1, "0.004"))
+run("seconds of a clock", "SELECT x FROM stdin LIMIT 1", "--stats", input=GAPS, ticks=12345, output=lines('{"x":1}'),
+    errors=counts(2, 3, 1, 1, 1, "12.345"))
 words("no statement", "sql", status=2, errors=USAGE)
 words("another word", "select", "SELECT * FROM stdin", status=2, errors=USAGE)
 words("an option twice", "sql", "SELECT * FROM stdin", "--stats", "--stats", status=2, errors=USAGE)

@@ -1,10 +1,9 @@
-use Rattle.std.proofs.Common.{◌≡◌, ap, sym, subst, Result, Err}
+use Rattle.std.proofs.Common.{sym, subst, Err}
 use Rattle.vx_laws_shell.specs.Running.{end_by}
 use Rattle.vx_laws_statements.specs.Statements.{plan_of}
 use Rattle.vx_semantics.specs.Tables.{row_type}
 use Rattle.vx_sql.specs.StatementAnswers.{plan_view}
 use Rattle.vx_sql_lines.specs.Told.{TellsStatement}
-use Rattle.vx_shell.specs.declared.answers.Found.{Found}
 use Rattle.vx_shell.specs.declared.errors.Refusal.{Refusal}
 use Rattle.vx_shell.specs.Founds.{FindsStatement}
 use Rattle.vx_shell.specs.Refusals.{statement_refusal}

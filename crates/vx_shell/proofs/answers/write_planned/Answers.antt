@@ -1,4 +1,3 @@
-use Rattle.std.proofs.Common.{refl}
 use Rattle.vx_laws_shell.specs.Answers.{answer_wanted}
 use Rattle.vx_laws_shell.specs.Running.{end_by}
 use Rattle.vx_laws_shell.specs.Wants.{wanted_of}

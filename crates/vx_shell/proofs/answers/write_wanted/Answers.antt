@@ -1,7 +1,7 @@
 use Rattle.std.proofs.Common.{◌≡◌, sym, subst, true, [], Ok}
 use Rattle.vx_expr.specs.Trees.{Tree}
 use Rattle.vx_laws_shell.specs.Running.{end_by}
-use Rattle.vx_laws_shell.specs.Wants.{condition_tree, wanted_of}
+use Rattle.vx_laws_shell.specs.Wants.{wanted_of}
 use Rattle.vx_laws_topk.specs.TopLaws.{has_no_slot}
 use Rattle.vx_scan.specs.Scanning.{scan_type}
 use Rattle.vx_semantics.specs.Tables.{row_type}

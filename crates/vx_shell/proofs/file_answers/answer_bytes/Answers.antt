@@ -1,4 +1,4 @@
-use Rattle.std.proofs.Common.{inl, inr, refl, sym, subst, Ok, Err}
+use Rattle.std.proofs.Common.{inl, inr, refl, sym, subst, Err}
 use Rattle.vx_request.specs.RequestViews.{told_view}
 use Rattle.vx_request.specs.Tables.{told_table}
 use Rattle.vx_shell.specs.FileRuns.{IsUntold}

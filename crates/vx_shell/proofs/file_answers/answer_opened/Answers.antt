@@ -1,7 +1,6 @@
-use Rattle.std.proofs.Common.{◌≡◌, ◌∙◌, ap, sym, subst}
-use Rattle.vx_file.specs.FileStates.{FileState, IsKept, file_seen}
-use Rattle.vx_file_open.specs.Layouts.{WhereBytes}
-use Rattle.vx_file_scan.specs.FirstFailures.{IsUnread, IsReadToFailure}
+use Rattle.std.proofs.Common.{sym, subst}
+use Rattle.vx_file.specs.FileStates.{FileState}
+use Rattle.vx_file_scan.specs.FirstFailures.{IsUnread}
 use Rattle.vx_laws_shell.specs.Running.{end_by}
 use Rattle.vx_shell.specs.FileRuns.{AnswersFile, ReportsFile}
 use Rattle.vx_shell_words.specs.WordViews.{asked_view}

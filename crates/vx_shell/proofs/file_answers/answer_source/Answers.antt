@@ -1,5 +1,4 @@
 use Rattle.std.proofs.Common.{refl, sym, subst, inl, inr, Err}
-use Rattle.vx_laws_shell.specs.Running.{end_by}
 use Rattle.vx_shell.specs.FileRuns.{IsMisfiled}
 use Rattle.vx_shell.specs.declared.errors.Refusal.{Refusal}
 use Rattle.vx_shell.proofs.FileAnswers.{new_unread, misfiled}

@@ -1,11 +1,11 @@
-use Rattle.std.proofs.Common.{◌≡◌, ◌∙◌, ap, sym, subst, map, []}
+use Rattle.std.proofs.Common.{◌∙◌, ap, sym, subst, []}
 use Rattle.vx_laws_shell.specs.Answers.{answer_of}
 use Rattle.vx_laws_shell.specs.Damage.{is_never_damaged}
 use Rattle.vx_laws_shell.specs.Running.{end_by}
 use Rattle.vx_laws_shell.proofs.Adding.{added_none_of}
 use Rattle.vx_scan.specs.StoreAnswers.{new_store}
 use Rattle.vx_scan.specs.StoreViews.{StoreState}
-use Rattle.vx_tables.specs.Blocks.{block_view, table_of_blocks}
+use Rattle.vx_tables.specs.Blocks.{table_of_blocks}
 use Rattle.vx_shell.specs.FileRuns.{WritesOut}
 use Rattle.vx_shell_words.specs.WordViews.{asked_view}
 use Rattle.vx_shell.proofs.file_answers.answer_table.Goals as goal

@@ -1,5 +1,5 @@
 -- Wherever rows aren't written whole, first bytes of their lines are.
-use Rattle.std.proofs.Common.{◌≡◌, ◌+◌, ◌≤◌, ◌++◌, sym, subst, take, drop, arith}
+use Rattle.std.proofs.Common.{◌+◌, ◌++◌, sym, subst, take, drop, arith}
 use Rattle.std.specs.String.{string_bytes}
 use Rattle.vx_column.specs.Columns.{seen, seen_rows}
 use Rattle.vx_dtype.specs.TypeViews.{type_view}

@@ -1,4 +1,4 @@
-use Rattle.std.proofs.Common.{◌≡◌, ◌∙◌, ap, sym, length, arith}
+use Rattle.std.proofs.Common.{◌≡◌, ◌∙◌, ap, length, arith}
 use Rattle.vx_laws_shell.specs.Running.{end_by}
 use Rattle.vx_semantics.specs.Tables.{Zones}
 use Rattle.vx_sql.specs.StatementAnswers.{key_view}

@@ -1,4 +1,4 @@
-use Rattle.std.proofs.Common.{◌≡◌, ◌∙◌, ap, sym, subst, refl, List, length, arith}
+use Rattle.std.proofs.Common.{ap, subst, refl, List, length, arith}
 use Rattle.vx_dtype.specs.TypeViews.{type_view}
 use Rattle.vx_dtype.specs.Values.{Val}
 use Rattle.vx_io.specs.Ends.{Added, AddedPrefix}

@@ -1,4 +1,4 @@
-use Rattle.std.proofs.Common.{◌≡◌, ◌∙◌, ap, subst, ℕ, List, length, ◌<◌, ◌^◌, arith}
+use Rattle.std.proofs.Common.{◌∙◌, ap, subst, ℕ, List, length, ◌<◌, ◌^◌, arith}
 use Rattle.std.specs.List.{sum}
 use Rattle.vx_shell.proofs.rows_in_order.number_of_blocks.Goals as goal
 

@@ -1,4 +1,4 @@
-use Rattle.std.proofs.Common.{sym, subst, List, [], Ok, Err}
+use Rattle.std.proofs.Common.{subst, List, [], Ok, Err}
 use Rattle.vx_dtype.specs.TypeViews.{type_view}
 use Rattle.vx_dtype.specs.declared.values.ScalarValue.{ScalarValue}
 use Rattle.vx_column.specs.Columns.{seen_rows}

@@ -1,4 +1,4 @@
-use Rattle.std.proofs.Common.{◌≡◌, ◌∙◌, sym, subst, true, List, Ok, Err}
+use Rattle.std.proofs.Common.{◌≡◌, ◌∙◌, subst, List, Err}
 use Rattle.vx_column.specs.Columns.{seen_rows, values_fit}
 use Rattle.vx_dtype.specs.TypeViews.{type_view}
 use Rattle.vx_dtype.specs.Values.{Val}

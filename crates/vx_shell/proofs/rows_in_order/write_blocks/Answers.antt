@@ -1,4 +1,4 @@
-use Rattle.std.proofs.Common.{◌≡◌, ◌∙◌, ap, sym, subst, refl, ℕ, ◌-◌, ◌^◌, ◌<◌, Bool, false, List, [], length, get_or, Ok, Err, arith}
+use Rattle.std.proofs.Common.{◌≡◌, ◌∙◌, ap, sym, subst, refl, ◌-◌, ◌^◌, ◌<◌, Bool, false, [], length, get_or, arith}
 use Rattle.std.specs.List.{sum}
 use Rattle.vx_laws_shell.specs.Running.{end_by}
 use Rattle.vx_scan.proofs.ReadLemmas.{the_error}
@@ -6,7 +6,7 @@ use Rattle.vx_scan.proofs.StandLemmas.{prepared_moved, flags_long}
 use Rattle.vx_scan.specs.Stores.{WhereTold}
 use Rattle.vx_semantics.specs.Tables.{Zones}
 use Rattle.vx_shell.specs.Founds.{CountsFault}
-use Rattle.vx_shell.specs.OrderedSteps.{HasComeTo, RunsToEnd, progress_at, run_start}
+use Rattle.vx_shell.specs.OrderedSteps.{RunsToEnd}
 use Rattle.vx_shell.specs.declared.answers.Found.{Found}
 use Rattle.vx_shell.specs.declared.rows_in_order.Written.{Written}
 use Rattle.vx_shell.proofs.OrderedSteps.{goes_nowhere, goes_on, counts_on, come_on_told, come_ended_told, come_to_end_told, start_told}

@@ -1,9 +1,8 @@
-use Rattle.std.proofs.Common.{◌≡◌, ap, sym, subst, ◌∙◌, [], Ok, Err}
+use Rattle.std.proofs.Common.{subst, [], Err}
 use Rattle.vx_laws_shell.specs.Answers.{answer_found, found_in_order}
 use Rattle.vx_laws_shell.specs.Running.{end_by}
 use Rattle.vx_scan.specs.Opening.{IsPreparedScan, PreparesScan}
-use Rattle.vx_scan.specs.Scanning.{scan_type}
-use Rattle.vx_semantics.specs.Tables.{Zones, row_type}
+use Rattle.vx_semantics.specs.Tables.{Zones}
 use Rattle.vx_shell.proofs.OrderedSteps.{prepare_comes, prepare_refused, finds_no_room_as}
 use Rattle.vx_shell.proofs.rows_in_order.write_in_order.Goals as goal
 

@@ -1,4 +1,4 @@
-use Rattle.std.proofs.Common.{sym, ◌∙◌, inl, inr, Ok}
+use Rattle.std.proofs.Common.{sym, inl, inr}
 use Rattle.vx_laws_shell.specs.Running.{end_by}
 use Rattle.vx_shell.proofs.OrderedSteps.{goes_nowhere, unscanned_told, kept_told}
 use Rattle.vx_shell.proofs.rows_in_order.write_or_skip.Goals as goal

@@ -1,4 +1,4 @@
-use Rattle.std.proofs.Common.{◌≡◌, refl, []}
+use Rattle.std.proofs.Common.{refl, []}
 use Rattle.vx_laws_shell.specs.Answers.{answer_found, found_in_order}
 use Rattle.vx_laws_shell.specs.Running.{end_by}
 use Rattle.vx_scan.specs.Steps.{IsRuledScan}
