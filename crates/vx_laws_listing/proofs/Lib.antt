@@ -1,2 +1,5 @@
 pub mod ListedFiles
+pub mod OneOrder
+pub mod FolderNames
+pub mod ListedFolders
 pub mod WrittenFiles

@@ -1,5 +1,5 @@
 -- The lines that tell a table's columns and blocks, in the form of JSON without spaces. Columns and statistics are written as a request has them.
-use Rattle.std.specs.Prelude.{ℕ, suc, cond, List, [], ◌∷◌, ◌++◌, codes, decimal, Option, Some, None}
+use Rattle.std.specs.Prelude.{ℕ, suc, ◌-◌, cond, List, [], ◌∷◌, ◌++◌, length, take, drop, codes, decimal, Option, Some, None}
 use Rattle.std.specs.List.{flat_map, slice_get}
 use Rattle.std.specs.Option.{option_and_then}
 use Rattle.vx_dtype.specs.declared.Nullability.{Nullability}
@@ -12,6 +12,7 @@ use Rattle.vx_dtype.specs.Types.{Bytes, Ty, bool_ty, int_ty, text_ty, list_ty, s
 use Rattle.vx_dtype.specs.Values.{Typed, valued}
 use Rattle.vx_display.specs.ValueTexts.{value_text}
 use Rattle.vx_semantics.specs.Tables.{ZoneStat, Zones}
+use Rattle.vx_folder.specs.FolderTables.{FilesTable}
 
 -- the texts of items, the first behind a given text, each other one behind a comma
 abbrev pub with_commas : {A : Type 0} → (A → Bytes) → Bytes → List A → Bytes
@@ -107,3 +108,25 @@ block_lines path stats block (rows ∷ lengths) = block_line path stats block ro
 -- the lines of a table with these zones, whose file has this path: one of its columns, and one a block
 abbrev pub listing_lines : Bytes → Zones → Bytes
 listing_lines path zones = columns_line zones.columns ++ block_lines path zones.stats 0 zones.lengths
+
+-- ---- folders
+
+-- where the blocks of a file end among so many, behind whose begin stand those of others: where the next one's begin
+abbrev pub end_among : ℕ → List ℕ → ℕ
+end_among blocks [] = blocks
+end_among blocks (begin ∷ begins) = begin
+
+-- the blocks of a table from one number up to another
+abbrev pub lengths_between : ℕ → ℕ → List ℕ → List ℕ
+lengths_between begin end lengths = take (end - begin) (drop begin lengths)
+
+-- the lines of the blocks of files of these names in the folder of a path, before each of which so many blocks stand
+abbrev pub part_lines : Bytes → Zones → List Bytes → List ℕ → Bytes
+part_lines path zones (name ∷ names) (begin ∷ begins) =
+    block_lines (path ++ name) zones.stats begin (lengths_between begin (end_among (length zones.lengths) begins) zones.lengths)
+    ++ part_lines path zones names begins
+part_lines path zones _ _ = []
+
+-- the lines of the table of the block files in the folder of a path: one of its columns, and one a block, which are numbered through the folder
+abbrev pub folder_lines : Bytes → FilesTable → Bytes
+folder_lines path table = columns_line table.zones.columns ++ part_lines path table.zones table.names table.begins

@@ -1,15 +1,10 @@
--- What the words of `blocks` ask: the path of a block file.
+-- What the words of `blocks` ask: a block file, or the block files of a folder.
 use Rattle.std.specs.Prelude.{cond, List, [], ◌∷◌, codes, Option, Some, None}
-use Rattle.std.specs.Io.BufRead.{ends_with_byte}
 use Rattle.std.specs.Str.{bytes_eq}
 use Rattle.vx_dtype.specs.Types.{Bytes}
-use Rattle.vx_laws_shell.specs.Origins.{path_of}
+use Rattle.vx_laws_shell.specs.Origins.{Origin, origin_on_disk}
 
--- the path of the file that a word names: none where the word ends in `/`, so names a folder
-abbrev pub file_named : Bytes → Option Bytes
-file_named name = cond (ends_with_byte 47 name) None (Some (path_of name))
-
--- the path that words ask; none where they have not this form
-unfoldable pub listing_asked_of : List Bytes → Option Bytes
-listing_asked_of (word ∷ name ∷ []) = cond (bytes_eq word (codes "blocks")) (file_named name) None
+-- where the blocks are that words ask, by the name of a folder or of a block file; none where they have not this form
+unfoldable pub listing_asked_of : List Bytes → Option Origin
+listing_asked_of (word ∷ name ∷ []) = cond (bytes_eq word (codes "blocks")) (Some (origin_on_disk name)) None
 listing_asked_of _ = None

@@ -1,10 +1,21 @@
 // Laws of what is listed: each is the contract of a function that does nothing.
-ghost use Rattle.vx_laws_listing.specs.ListingLaws.{HeadersDecide, ListedIsNotRefused, OneListing, WrittenIsListed};
+ghost use Rattle.vx_laws_listing.specs.ListingLaws.{
+  HeadersDecide,
+  ListedIsNotRefused,
+  OneFolderListing,
+  OneListing,
+  WrittenIsListed,
+};
 
 /// Where the bytes of a file are known, so is what is written of it, and it isn't refused where it is listed.
 pub fn one_listing()
     ensures one { OneListing }
     ensures refused { ListedIsNotRefused }
+{}
+
+/// Where it is known what stands in a folder and what its block files are, so is what is written of it.
+pub fn one_folder_listing()
+    ensures { OneFolderListing }
 {}
 
 /// The header of a file decides its lines, whatever the columns hold.

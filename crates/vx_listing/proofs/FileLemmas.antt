@@ -1,23 +1,26 @@
 -- The steps of a run, put together.
-use Rattle.std.proofs.Common.{◌≡◌, refl, ap, sym, ◌∙◌, subst, inl, inr, ℕ, ◌≤◌, List, Option, Some, None, Result, Ok, Err}
+use Rattle.std.proofs.Common.{◌≡◌, refl, sym, inl, inr, ℕ, List, Option, Some, None, Result, Ok, Err}
 use Rattle.vx_dtype.specs.Types.{Bytes}
 use Rattle.vx_semantics.specs.Tables.{Zones}
-use Rattle.vx_io.specs.Counts.{one_more}
-use Rattle.vx_io.specs.Ends.{Added, AddedPrefix}
 use Rattle.vx_laws_file.specs.FileForms.{Header}
-use Rattle.vx_laws_file.specs.Opening.{IsRefusedFile}
+use Rattle.vx_laws_file.specs.Opening.{FileRefusal, bad_magic, bad_header, bad_zones, bad_end, IsRefusedFile}
 use Rattle.vx_file_open.specs.Layouts.{WhereBytes, IsFileWith, content_at}
 use Rattle.vx_file_open.specs.OpenAnswers.{CountsFailure, OpensBytes}
 use Rattle.vx_file_open.specs.declared.errors.FileError.{FileError}
 use Rattle.vx_file_open.specs.declared.errors.FileError.TheVariants as files
-use Rattle.vx_files.specs.Kept.{Kept, unknown, absent, holds, IsOpenedAs}
+use Rattle.vx_files.specs.Kept as files_kept
+use Rattle.vx_folder.specs.PathViews.{kept_view}
+use Rattle.vx_folder.proofs.KeptLemmas.{where_told}
+use Rattle.vx_folder.proofs.PartLemmas.{cannot_open}
+use Rattle.vx_laws_shell.specs.Origins.{Origin, standard_input, block_file, folder}
+use Rattle.vx_laws_shell.specs.Paths.{Kept, WhereKept, Paths}
 use Rattle.vx_laws_shell.specs.Running.{End}
 use Rattle.vx_laws_listing.specs.Listing as ends
-use Rattle.vx_laws_listing.specs.Listing.{ListingEnd, AreSoundZones, AreZonesOfFile, AreZonesOfPath, IsListingEnd, IsPathEnd, IsToldBy, WhereKept}
+use Rattle.vx_laws_listing.specs.Listing.{ListingEnd, AreSoundZones, AreZonesOfFile, AreZonesOfPath, IsFolderEnd, IsListingEnd, IsPathEnd}
 use Rattle.vx_laws_listing.specs.ListingTexts.{listing_lines}
 use Rattle.vx_laws_listing.specs.ListingWords.{listing_asked_of}
-use Rattle.vx_listing.specs.ListingEnds.{file_error, line_error, result_end}
-use Rattle.vx_listing.specs.ListingSteps.{AreZonesOfSource, AsksPath, ListsFile, ListsOpened, Writes}
+use Rattle.vx_listing.specs.ListingEnds.{Ends, error_end, file_error, line_error}
+use Rattle.vx_listing.specs.ListingSteps.{AreZonesOfSource, AsksBlocks, IsBlocksEnd, IsRefusedSource, ListsFile, ListsOpened, Writes}
 use Rattle.vx_listing.specs.declared.errors.LineError.{LineError}
 use Rattle.vx_listing.specs.declared.errors.LineError.TheVariants as lines
 use Rattle.vx_listing.specs.declared.errors.ListingError.{ListingError}
@@ -49,64 +52,102 @@ pub cut_so : (path : Bytes) (told : Option Bytes) (zones : Zones) (faults now : 
 cut_so path told zones faults now before after lines.NoMemory is quiet w = (inr (zones, is, w), quiet)
 cut_so path told zones faults now before after lines.Unwritten is quiet w = (zones, is, w.0, w.1, quiet)
 
--- what is told of a source is known of the path that it was opened of
-where_kept : (kept : Kept) (told : Option Bytes) (P : Bytes → Type 0) → IsOpenedAs kept told → WhereBytes told P → WhereKept kept P
-where_kept unknown told P opened is = tt
-where_kept absent told P opened is = opened
-where_kept (holds bytes) told P opened is = subst (λ t. WhereBytes t P) opened is
+-- ---- a file that was opened, as the path that it was opened of
 
-may_open : (kept : Kept) (told : Option Bytes) → IsOpenedAs kept told → WhereKept kept (λ bytes. Unit {0})
-may_open unknown told opened = tt
-may_open absent told opened = opened
-may_open (holds bytes) told opened = tt
+may_open : (kept : files_kept.Kept) (told : Option Bytes) → files_kept.IsOpenedAs kept told → WhereKept (kept_view kept) (λ bytes. Unit {0})
+may_open files_kept.unknown told opened = tt
+may_open files_kept.absent told opened = absurd opened
+may_open (files_kept.holds bytes) told opened = tt
 
-path_zones : (kept : Kept) (told : Option Bytes) (zones : Zones) → IsOpenedAs kept told → AreZonesOfSource told zones → AreZonesOfPath kept zones
-path_zones kept told zones opened is = record { held = where_kept kept told (AreZonesOfFile zones) opened is.held; sound = is.sound }
+path_zones : (kept : files_kept.Kept) (told : Option Bytes) (zones : Zones) → files_kept.IsOpenedAs kept told → AreZonesOfSource told zones
+    → AreZonesOfPath (kept_view kept) zones
+path_zones kept told zones opened is = record { held = where_told kept told (AreZonesOfFile zones) opened is.held; sound = is.sound }
 
--- a file that was opened, as the path that it was opened of
-failed_end : (path : Bytes) (kept : Kept) (told : Option Bytes) (faults now : ℕ) (before after : End) (e : ListingError) → IsOpenedAs kept told
-    → ListsFile path told faults now before after (Err e) → IsPathEnd path kept before after (result_end (Err (refusals.NotListed e)))
-failed_end path kept told faults now before after errors.NoMemory opened (inl same, quiet) = inl same
-failed_end path kept told faults now before after errors.NoMemory opened (inr more, quiet) = inr (more.0, path_zones kept told more.0 opened more.1, more.2)
-failed_end path kept told faults now before after errors.ReadFault opened is = (may_open kept told opened, is.1)
-failed_end path kept told faults now before after errors.BadMagic opened is = (where_kept kept told _ opened is.refused, is.untouched)
-failed_end path kept told faults now before after errors.BadHeader opened is = (where_kept kept told _ opened is.refused, is.untouched)
-failed_end path kept told faults now before after (errors.BadZones e) opened is = (where_kept kept told _ opened is.refused, is.untouched)
-failed_end path kept told faults now before after errors.BadEnd opened is = (where_kept kept told _ opened is.refused, is.untouched)
-failed_end path kept told faults now before after errors.Unwritten opened is = (is.0, path_zones kept told is.0 opened is.1, is.2, is.3)
+module _ (path : Bytes) (kept : files_kept.Kept) (told : Option Bytes) (opened : files_kept.IsOpenedAs kept told) (before after : End) where
+  refused_end : (faults now : ℕ) (r : FileRefusal) → IsRefusedSource told faults now before after r → IsPathEnd path (kept_view kept) before after (ends.misfiled r)
+  refused_end faults now r is = (where_told kept told (λ bytes. IsRefusedFile bytes r) opened is.refused, is.untouched)
 
-pub path_end : (path : Bytes) (kept : Kept) (told : Option Bytes) (before after : End) (r : Result (Unit {0}) Refusal) → IsOpenedAs kept told → ListsOpened path told before after r
-    → IsPathEnd path kept before after (result_end r)
-path_end path kept told before after (Ok done) opened is = (is.2.0, path_zones kept told is.2.0 opened is.2.1, is.2.2)
-path_end path kept told before after (Err refusals.Usage) opened is = is
-path_end path kept told before after (Err refusals.NotOpened) opened is = absurd is
-path_end path kept told before after (Err (refusals.NotListed e)) opened is = failed_end path kept told is.0 is.1 before after e opened is.2
+  failed_end : (faults now : ℕ) (e : ListingError) → ListsFile path told faults now before after (Err e) → IsPathEnd path (kept_view kept) before after (error_end e)
+  failed_end faults now errors.NoMemory (inl same, quiet) = inl same
+  failed_end faults now errors.NoMemory (inr more, quiet) = inr (more.0, path_zones kept told more.0 opened more.1, more.2)
+  failed_end faults now errors.ReadFault is = (may_open kept told opened, is.1)
+  failed_end faults now errors.BadMagic is = refused_end faults now bad_magic is
+  failed_end faults now errors.BadHeader is = refused_end faults now bad_header is
+  failed_end faults now (errors.BadZones e) is = refused_end faults now (bad_zones e) is
+  failed_end faults now errors.BadEnd is = refused_end faults now bad_end is
+  failed_end faults now errors.Unwritten is = (is.0, path_zones kept told is.0 opened is.1, is.2, is.3)
 
--- a path that words ask, as the words
-pub asked_end : (words : List Bytes) (kept : Bytes → Kept) (path : Bytes) (before after : End) (end : ListingEnd) → listing_asked_of words ≡ Some path
-    → IsPathEnd path (kept path) before after end → IsListingEnd words kept before after end
-asked_end words kept path before after ends.misused form is = absurd is
-asked_end words kept path before after ends.unopened form is = (path, form, is)
-asked_end words kept path before after ends.unread form is = (path, form, is)
-asked_end words kept path before after (ends.misfiled r) form is = (path, form, is)
-asked_end words kept path before after ends.unwritten form is = (path, form, is)
-asked_end words kept path before after ends.without_memory form is = inr (path, form, is)
-asked_end words kept path before after ends.listed form is = (path, form, is)
+  pub path_end : (r : Result (Unit {0}) Refusal) → ListsOpened path told before after r → Ends (IsPathEnd path (kept_view kept) before after) r
+  path_end (Ok done) is = (is.2.0, path_zones kept told is.2.0 opened is.2.1, is.2.2)
+  path_end (Err refusals.Usage) is = absurd is
+  path_end (Err refusals.NotOpened) is = absurd is
+  path_end (Err refusals.NoFolder) is = absurd is
+  path_end (Err (refusals.FileNotOpened line)) is = absurd is
+  path_end (Err (refusals.NoTable line)) is = absurd is
+  path_end (Err (refusals.NotListed e)) is = (error_end e, failed_end is.0 is.1 e is.2, record { status = refl; line = refl })
 
--- the words of a path that was taken as a text
-pub asked_so : (words : List Bytes) (kept : Bytes → Kept) (path text : Bytes) (before after : End) (end : ListingEnd) → Some path ≡ listing_asked_of words → text ≡ path
-    → IsPathEnd text (kept text) before after end → IsListingEnd words kept before after end
-asked_so words kept path text before after end form same is =
-    asked_end words kept text before after end (sym form ∙ ap Some (sym same)) is
+-- a path that isn't opened
+pub unopened_path : (path : Bytes) (kept : files_kept.Kept) (end : End) → files_kept.CannotOpen kept
+    → Ends (IsPathEnd path (kept_view kept) end end) (Err refusals.NotOpened)
+unopened_path path kept end is = (ends.unopened, (cannot_open kept is, refl), record { status = refl; line = refl })
 
--- words of which no path is known
-pub refused_so : (words : List Bytes) (kept : Bytes → Kept) (end : End) (r : Refusal) → AsksPath words (Err r) → IsListingEnd words kept end end (result_end (Err r))
-refused_so words kept end refusals.Usage form = (sym form, refl)
-refused_so words kept end refusals.NotOpened form = absurd form
-refused_so words kept end (refusals.NotListed errors.NoMemory) form = inl refl
-refused_so words kept end (refusals.NotListed errors.ReadFault) form = absurd form
-refused_so words kept end (refusals.NotListed errors.BadMagic) form = absurd form
-refused_so words kept end (refusals.NotListed errors.BadHeader) form = absurd form
-refused_so words kept end (refusals.NotListed (errors.BadZones e)) form = absurd form
-refused_so words kept end (refusals.NotListed errors.BadEnd) form = absurd form
-refused_so words kept end (refusals.NotListed errors.Unwritten) form = absurd form
+pub unroomy_path : (path : Bytes) (kept : Kept) (end : End) → Ends (IsPathEnd path kept end end) (Err (refusals.NotListed errors.NoMemory))
+unroomy_path path kept end = (ends.without_memory, inl refl, record { status = refl; line = refl })
+
+-- ---- what words ask
+
+asked_file : (words : List Bytes) (paths : Paths) (path : Bytes) (before after : End) (end : ListingEnd) → listing_asked_of words ≡ Some (block_file path)
+    → IsPathEnd path (paths.kept path) before after end → IsListingEnd words paths before after end
+asked_file words paths path before after ends.misused form is = absurd is
+asked_file words paths path before after ends.unopened form is = inl (path, form, is)
+asked_file words paths path before after ends.unlisted form is = absurd is
+asked_file words paths path before after ends.unread form is = inl (path, form, is)
+asked_file words paths path before after (ends.misfiled r) form is = inl (path, form, is)
+asked_file words paths path before after (ends.mixed fault) form is = absurd is
+asked_file words paths path before after ends.unwritten form is = inl (path, form, is)
+asked_file words paths path before after ends.without_memory form is = inr (inl (path, form, is))
+asked_file words paths path before after ends.listed form is = inl (path, form, is)
+
+asked_folder : (words : List Bytes) (paths : Paths) (path : Bytes) (before after : End) (end : ListingEnd) → listing_asked_of words ≡ Some (folder path)
+    → IsFolderEnd path paths before after end → IsListingEnd words paths before after end
+asked_folder words paths path before after ends.misused form is = absurd is
+asked_folder words paths path before after ends.unopened form is = absurd is
+asked_folder words paths path before after ends.unlisted form is = inr (path, form, is)
+asked_folder words paths path before after ends.unread form is = inr (path, form, is)
+asked_folder words paths path before after (ends.misfiled r) form is = absurd is
+asked_folder words paths path before after (ends.mixed fault) form is = inr (path, form, is)
+asked_folder words paths path before after ends.unwritten form is = inr (path, form, is)
+asked_folder words paths path before after ends.without_memory form is = inr (inr (path, form, is))
+asked_folder words paths path before after ends.listed form is = inr (path, form, is)
+
+asked_end : (words : List Bytes) (paths : Paths) (asked : Origin) (before after : End) (end : ListingEnd) → listing_asked_of words ≡ Some asked
+    → IsBlocksEnd asked paths before after end → IsListingEnd words paths before after end
+asked_end words paths standard_input before after end form is = absurd is
+asked_end words paths (block_file path) before after end form is = asked_file words paths path before after end form is
+asked_end words paths (folder path) before after end form is = asked_folder words paths path before after end form is
+
+-- what is said of each end holds of what is answered
+ends_so : (P Q : ListingEnd → Type 0) (r : Result (Unit {0}) Refusal) → ((end : ListingEnd) → P end → Q end) → Ends P r → Ends Q r
+ends_so P Q (Ok done) so h = so ends.listed h
+ends_so P Q (Err refusal) so h = (h.0, so h.0 h.1, h.2)
+
+pub asked_so : (words : List Bytes) (paths : Paths) (asked : Origin) (before after : End) (r : Result (Unit {0}) Refusal) → Some asked ≡ listing_asked_of words
+    → Ends (IsBlocksEnd asked paths before after) r → Ends (IsListingEnd words paths before after) r
+asked_so words paths asked before after r form is =
+    ends_so (IsBlocksEnd asked paths before after) (IsListingEnd words paths before after) r
+    (λ end. asked_end words paths asked before after end (sym form)) is
+
+-- words that ask nothing that is known
+pub refused_so : (words : List Bytes) (paths : Paths) (end : End) (r : Refusal) → AsksBlocks words (Err r) → Ends (IsListingEnd words paths end end) (Err r)
+refused_so words paths end refusals.Usage form = (ends.misused, (sym form, refl), record { status = refl; line = refl })
+refused_so words paths end refusals.NotOpened form = absurd form
+refused_so words paths end refusals.NoFolder form = absurd form
+refused_so words paths end (refusals.FileNotOpened line) form = absurd form
+refused_so words paths end (refusals.NoTable line) form = absurd form
+refused_so words paths end (refusals.NotListed errors.NoMemory) form = (ends.without_memory, inl refl, record { status = refl; line = refl })
+refused_so words paths end (refusals.NotListed errors.ReadFault) form = absurd form
+refused_so words paths end (refusals.NotListed errors.BadMagic) form = absurd form
+refused_so words paths end (refusals.NotListed errors.BadHeader) form = absurd form
+refused_so words paths end (refusals.NotListed (errors.BadZones e)) form = absurd form
+refused_so words paths end (refusals.NotListed errors.BadEnd) form = absurd form
+refused_so words paths end (refusals.NotListed errors.Unwritten) form = absurd form

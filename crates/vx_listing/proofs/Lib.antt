@@ -1,3 +1,4 @@
 mod TextLemmas
 mod WriteLemmas
 mod FileLemmas
+mod FolderLemmas

@@ -3,10 +3,11 @@ use Rattle.std.proofs.Common.{◌≡◌, refl, ap, sym, ◌∙◌, subst, ℕ, z
 use Rattle.vx_dtype.specs.Types.{Bytes}
 use Rattle.vx_io.specs.Counts.{one_more}
 use Rattle.vx_io.specs.Ends.{Added, AddedPrefix}
-use Rattle.vx_semantics.specs.Tables.{ZoneStat}
+use Rattle.vx_semantics.specs.Tables.{ZoneStat, Zones}
 use Rattle.vx_laws_shell.specs.Running.{End}
-use Rattle.vx_laws_listing.specs.ListingTexts.{block_lines}
+use Rattle.vx_laws_listing.specs.ListingTexts.{block_lines, lengths_between, part_lines}
 use Rattle.vx_listing.specs.ListingSteps.{Writes, WritesText}
+use Rattle.vx_listing.proofs.TextLemmas.{all_between}
 use Rattle.vx_listing.specs.declared.errors.LineError.{LineError}
 use Rattle.vx_listing.specs.declared.errors.LineError.TheVariants.{NoMemory, Unwritten}
 
@@ -89,6 +90,33 @@ pub none_written : (a : End) → WritesText [] a a (Ok tt)
 none_written a = record { later = omega arith; writes = added_nothing a.bytes }
 
 -- the lines of other statistics and lengths that are the same
-pub blocks_as : (path : Bytes) (stats others : List ZoneStat) (lengths more : List ℕ) (a b : End) (r : Result (Unit {0}) LineError) → stats ≡ others → lengths ≡ more
-    → WritesText (block_lines path stats 0 lengths) a b r → WritesText (block_lines path others 0 more) a b r
-blocks_as path stats others lengths more a b r s l w = subst (λ (t : Bytes). WritesText t a b r) (λ i. block_lines path (s i) 0 (l i)) w
+pub blocks_as : (path : Bytes) (stats others : List ZoneStat) (begin end : ℕ) (lengths more : List ℕ) (a b : End) (r : Result (Unit {0}) LineError) → stats ≡ others
+    → lengths ≡ more → WritesText (block_lines path stats begin (lengths_between begin end lengths)) a b r
+    → WritesText (block_lines path others begin (lengths_between begin end more)) a b r
+blocks_as path stats others begin end lengths more a b r s l w =
+    subst (λ (t : Bytes). WritesText t a b r) (λ i. block_lines path (s i) begin (lengths_between begin end (l i))) w
+
+-- the same of all blocks
+pub all_blocks_as : (path : Bytes) (stats others : List ZoneStat) (end : ℕ) (lengths more : List ℕ) (a b : End) (r : Result (Unit {0}) LineError) → stats ≡ others
+    → lengths ≡ more → end ≡ length more → WritesText (block_lines path stats 0 (lengths_between 0 end lengths)) a b r
+    → WritesText (block_lines path others 0 more) a b r
+all_blocks_as path stats others end lengths more a b r s l e w =
+    let same : block_lines path stats 0 (lengths_between 0 end lengths) ≡ block_lines path others 0 (lengths_between 0 (length more) more) =
+    λ i. block_lines path (s i) 0 (lengths_between 0 (e i) (l i)) in
+    subst (λ (t : Bytes). WritesText t a b r) (same ∙ ap (block_lines path others 0) (all_between more)) w
+
+-- the lines of a file of another name that is the same, up to another end that is the same
+pub part_as : (path name other : Bytes) (zones : Zones) (begin end last : ℕ) (a b : End) (r : Result (Unit {0}) LineError) → name ≡ other → end ≡ last
+    → WritesText (block_lines (path ++ name) zones.stats begin (lengths_between begin end zones.lengths)) a b r
+    → WritesText (block_lines (path ++ other) zones.stats begin (lengths_between begin last zones.lengths)) a b r
+part_as path name other zones begin end last a b r n e w =
+    subst (λ (t : Bytes). WritesText t a b r) (λ i. block_lines (path ++ n i) zones.stats begin (lengths_between begin (e i) zones.lengths)) w
+
+-- nothing of a text is written where there was no memory for its first line
+pub none_cut : (x : Bytes) (a : End) → WritesText x a a (Err NoMemory)
+none_cut x a = record { later = omega arith; writes = (0, omega arith, added_nothing a.bytes) }
+
+-- the lines of other names and begins that are the same
+pub parts_as : (path : Bytes) (zones : Zones) (names others : List Bytes) (begins more : List ℕ) (a b : End) (r : Result (Unit {0}) LineError) → names ≡ others
+    → begins ≡ more → WritesText (part_lines path zones names begins) a b r → WritesText (part_lines path zones others more) a b r
+parts_as path zones names others begins more a b r n m w = subst (λ (t : Bytes). WritesText t a b r) (λ i. part_lines path zones (n i) (m i)) w

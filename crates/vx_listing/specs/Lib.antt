@@ -1,4 +1,5 @@
 pub mod StatViews
+pub mod AskedViews
 pub mod ListingEnds
 pub mod ListingSteps
 pub use Rattle.vx_laws_listing.specs.Listing

@@ -1,18 +1,25 @@
 -- What the steps of a run answer: the lines that are written, and the file that is listed.
-use Rattle.std.specs.Prelude.{◌≡◌, ◌⊎◌, ℕ, ◌≤◌, List, Option, Some, None, Result, Ok, Err}
-use Rattle.std.specs.String.{string_bytes}
-use Rattle.std.specs.declared.alloc.Global.{Global}
-use Rattle.std.specs.declared.string.String.{String}
+use Rattle.std.specs.Prelude.{◌≡◌, ◌⊎◌, ℕ, ◌≤◌, List, ◌++◌, codes, Option, Some, None, Result, Ok, Err}
 use Rattle.vx_dtype.specs.Types.{Bytes}
 use Rattle.vx_semantics.specs.Tables.{Zones}
 use Rattle.vx_io.specs.Counts.{one_more}
 use Rattle.vx_io.specs.Ends.{Added, AddedPrefix}
 use Rattle.vx_laws_file.specs.Opening.{FileRefusal, bad_magic, bad_header, bad_zones, bad_end, IsRefusedFile}
 use Rattle.vx_file_open.specs.Layouts.{WhereBytes}
+use Rattle.vx_file_open.specs.declared.errors.FileError.{FileError}
+use Rattle.vx_file_open.specs.declared.errors.FileError.TheVariants as files
+use Rattle.vx_folder.specs.FolderTexts.{error_text}
+use Rattle.vx_folder.specs.declared.errors.FolderError.{FolderError}
+use Rattle.vx_folder.specs.declared.errors.FolderError.TheVariants as folders
+use Rattle.vx_laws_shell.specs.Origins.{Origin, standard_input, block_file, folder}
+use Rattle.vx_laws_shell.specs.Paths.{Paths}
 use Rattle.vx_laws_shell.specs.Running.{End}
-use Rattle.vx_laws_listing.specs.Listing.{AreSoundZones, AreZonesOfFile}
+use Rattle.vx_laws_listing.specs.Listing.{ListingEnd, AreSoundZones, AreZonesOfFile, IsPathEnd, IsFolderEnd}
 use Rattle.vx_laws_listing.specs.ListingTexts.{listing_lines}
 use Rattle.vx_laws_listing.specs.ListingWords.{listing_asked_of}
+use Rattle.vx_listing.specs.AskedViews.{asked_view}
+use Rattle.vx_listing.specs.ListingEnds.{refusal_status, refusal_line}
+use Rattle.vx_listing.specs.declared.words.Asked.{Asked}
 use Rattle.vx_listing.specs.declared.errors.LineError.{LineError}
 use Rattle.vx_listing.specs.declared.errors.LineError.TheVariants as lines
 use Rattle.vx_listing.specs.declared.errors.ListingError.{ListingError}
@@ -63,9 +70,38 @@ ListsOpened path told before after (Ok done) = (faults : ℕ) × (now : ℕ) × 
 ListsOpened path told before after (Err (refusals.NotListed e)) = (faults : ℕ) × (now : ℕ) × ListsFile path told faults now before after (Err e)
 ListsOpened path told before after (Err _) = ⊥
 
--- the path that words ask, or why none is known
-abbrev pub AsksPath : List Bytes → Result (String Global) Refusal → Type 0
-AsksPath words (Ok path) = Some (string_bytes path) ≡ listing_asked_of words
-AsksPath words (Err refusals.Usage) = None ≡ listing_asked_of words
-AsksPath words (Err (refusals.NotListed errors.NoMemory)) = Unit {0}
-AsksPath words (Err _) = ⊥
+-- where the blocks are that words ask, or why it isn't known
+abbrev pub AsksBlocks : List Bytes → Result Asked Refusal → Type 0
+AsksBlocks words (Ok asked) = Some (asked_view asked) ≡ listing_asked_of words
+AsksBlocks words (Err refusals.Usage) = None ≡ listing_asked_of words
+AsksBlocks words (Err (refusals.NotListed errors.NoMemory)) = Unit {0}
+AsksBlocks words (Err _) = ⊥
+
+-- what is said of the end of a run that lists what was asked
+abbrev pub IsBlocksEnd : Origin → Paths → End → End → ListingEnd → Type 0
+IsBlocksEnd standard_input paths before after end = ⊥
+IsBlocksEnd (block_file path) paths before after end = IsPathEnd path (paths.kept path) before after end
+IsBlocksEnd (folder path) paths before after end = IsFolderEnd path paths before after end
+
+-- ---- folders
+
+-- a refusal of this status tells this text, or there was no memory for its line
+abbrev pub TellsText : ℕ → Bytes → Refusal → Type 0
+TellsText status text refusal =
+    (refusal ≡ refusals.NotListed errors.NoMemory)
+    ⊎ ((refusal_status refusal ≡ status) × (refusal_line refusal ≡ Some (codes "error: " ++ (text ++ codes "\n"))))
+
+-- the refusal of a folder by the error of one of its files, of which this text is told
+abbrev pub IsFileRefusal : FileError → Bytes → Refusal → Type 0
+IsFileRefusal files.NoMemory text refusal = refusal ≡ refusals.NotListed errors.NoMemory
+IsFileRefusal files.ReadFault text refusal = refusal ≡ refusals.NotListed errors.ReadFault
+IsFileRefusal _ text refusal = TellsText 3 text refusal
+
+-- the refusal of a folder whose block files are no table
+abbrev pub IsFolderRefusal : FolderError → Refusal → Type 0
+IsFolderRefusal folders.NoMemory refusal = refusal ≡ refusals.NotListed errors.NoMemory
+IsFolderRefusal folders.ReadFault refusal = refusal ≡ refusals.NotListed errors.ReadFault
+IsFolderRefusal folders.NotListed refusal = refusal ≡ refusals.NoFolder
+IsFolderRefusal (folders.NotOpened name) refusal = TellsText 6 (error_text (folders.NotOpened name)) refusal
+IsFolderRefusal (folders.NoBlockFile name error) refusal = IsFileRefusal error (error_text (folders.NoBlockFile name error)) refusal
+IsFolderRefusal error refusal = TellsText 3 (error_text error) refusal

@@ -1,7 +1,7 @@
 // Why a file isn't listed.
 ghost use Rattle.std.specs.Prelude.{◌≡◌, option_map};
 ghost use Rattle.vx_laws_listing.specs.Listing.{listing_status, listing_told};
-ghost use Rattle.vx_listing.specs.ListingEnds.{error_end, refusal_end};
+ghost use Rattle.vx_listing.specs.ListingEnds.{error_end, refusal_line, refusal_status};
 
 use vx_dtype::NoMemory;
 use vx_file_open::FileError;
@@ -16,7 +16,7 @@ pub(crate) enum LineError {
     Unwritten,
 }
 
-/// Why a block file isn't listed.
+/// Why a block file, or the table of a folder's block files, isn't listed.
 #[derive(PartialEq, Eq, Debug, Drop)]
 pub enum ListingError {
     /// There was no memory.
@@ -42,29 +42,43 @@ pub(crate) enum Refusal {
     Usage,
     /// Their path can't be opened.
     NotOpened,
-    /// The file isn't listed.
+    /// Their folder can't be listed.
+    NoFolder,
+    /// A block file of the folder can't be opened: the line that tells which.
+    FileNotOpened(String),
+    /// The block files of the folder are no table: the line that tells why.
+    NoTable(String),
+    /// The file, or the table of the folder's block files, isn't listed.
     NotListed(ListingError),
 }
 
 impl Refusal {
     /// The exit status.
     pub(crate) fn status(&self) -> u8
-        ensures { result ≡ listing_status (refusal_end self.now) }
+        ensures { result ≡ refusal_status self.now }
     {
         match self {
             Refusal::Usage => 2,
+            Refusal::NoTable(_) => 3,
             Refusal::NotOpened => 6,
+            Refusal::NoFolder => 6,
+            Refusal::FileNotOpened(_) => 6,
             Refusal::NotListed(error) => error.status(),
         }
     }
 
     /// The line that is told on standard error, where there is one.
-    pub(crate) fn line(&self) -> Option<&'static str>
-        ensures { option_map (λ line. line.now) result ≡ listing_told (refusal_end self.now) }
+    pub(crate) fn line(&self) -> Option<&str>
+        ensures { option_map (λ line. line.now) result ≡ refusal_line self.now }
     {
         match self {
-            Refusal::Usage => Some("error: usage: blocks PATH, the path of a block file\n"),
+            Refusal::Usage => Some(
+                "error: usage: blocks PATH, the path of a block file or of a folder, which ends in /\n",
+            ),
             Refusal::NotOpened => Some("error: the path can't be opened\n"),
+            Refusal::NoFolder => Some("error: the folder can't be listed\n"),
+            Refusal::FileNotOpened(line) => Some(line.as_str()),
+            Refusal::NoTable(line) => Some(line.as_str()),
             Refusal::NotListed(error) => error.line(),
         }
     }

@@ -1,7 +1,8 @@
 // Writing the lines of a table, one after another.
+ghost use Rattle.std.specs.Prelude.{◌≤◌, length};
 ghost use Rattle.vx_laws_shell.specs.Running.{end_by};
 ghost use Rattle.vx_laws_listing.specs.Listing.{AreSoundZones};
-ghost use Rattle.vx_laws_listing.specs.ListingTexts.{block_line, block_lines, columns_line, listing_lines};
+ghost use Rattle.vx_laws_listing.specs.ListingTexts.{block_line, block_lines, columns_line, lengths_between, listing_lines};
 ghost use Rattle.vx_listing.specs.ListingSteps.{WritesText};
 
 use crate::errors::LineError;
@@ -39,18 +40,21 @@ fn write_block<O: Sink>(
     }
 }
 
-/// Writes the lines of blocks of these numbers of rows.
-fn write_blocks<O: Sink>(
+/// Writes the lines of the blocks from one number up to another, of those with these numbers of rows.
+pub(crate) fn write_blocks<O: Sink>(
     alloc: Global,
     path: &str,
     statistics: &[ZoneColumn],
     lengths: &[u32],
+    begin: usize,
+    end: usize,
     output: &mut O,
 ) -> Result<(), LineError>
-    ensures { let end = end_by O.written O.faults in
-        WritesText (block_lines path.now statistics.now 0 lengths.now) (end output.old) (end output.new) result }
+    requires { end ≤ length lengths.now }
+    ensures { let sink = end_by O.written O.faults in
+        WritesText (block_lines path.now statistics.now begin (lengths_between begin end lengths.now)) (sink output.old) (sink output.new) result }
 {
-    for block in 0..lengths.len() {
+    for block in begin..end {
         match write_block(alloc, path, statistics, block, lengths[block], output) {
             Ok(()) => {}
             Err(error) => return Err(error),
@@ -60,7 +64,11 @@ fn write_blocks<O: Sink>(
 }
 
 /// Writes the line of the columns.
-fn write_columns<O: Sink>(alloc: Global, zones: &ZoneMap, output: &mut O) -> Result<(), LineError>
+pub(crate) fn write_columns<O: Sink>(
+    alloc: Global,
+    zones: &ZoneMap,
+    output: &mut O,
+) -> Result<(), LineError>
     ensures { let end = end_by O.written O.faults in WritesText (columns_line zones.now.columns) (end output.old) (end output.new) result }
 {
     match columns_line(alloc, columns_of(zones)) {
@@ -82,7 +90,15 @@ pub(crate) fn write_lines<O: Sink>(
 {
     let lengths = zones.lengths();
     match write_columns(alloc, zones, output) {
-        Ok(()) => write_blocks(alloc, path, zones.statistics(), lengths, output),
+        Ok(()) => write_blocks(
+            alloc,
+            path,
+            zones.statistics(),
+            lengths,
+            0,
+            lengths.len(),
+            output,
+        ),
         Err(error) => Err(error),
     }
 }

@@ -31,6 +31,7 @@ pub(crate) fn run(alloc: Global, row: &Value) -> Result<Ended> {
         files,
         number_in(row, "read"),
         number_in(row, "front"),
+        owned(alloc, text_in(row, "closed"))?,
     );
     let fails = numbers_of(alloc, number_in(row, "write"))?;
     let mut output = MemorySink::new(alloc, ROOM, MOST, fails)?;

@@ -12,24 +12,34 @@ use vx_files::{Files, KeepError, MemoryFiles, NamedBytes, OpenError};
 const MOST: usize = 7;
 
 /// Files in memory whose reads are watched: each file fails at the read of a number, from 1, where there is one, and at each that asks for bytes of its
-/// columns. One byte alone may be asked of them, since that a file ends where its last column does is seen by such a read.
+/// columns. One byte alone may be asked of them, since that a file ends where its last column does is seen by such a read. The file of one path can't be
+/// opened, where one is meant.
 #[derive(Drop)]
 pub(crate) struct WatchedFiles {
     alloc: Global,
     files: MemoryFiles,
     fails: u64,
     front: u64,
+    closed: String,
     faults: u64,
 }
 
 impl WatchedFiles {
-    /// These files, whose columns begin at a place, or whose reads may ask for any bytes where this is 0.
-    pub(crate) fn new(alloc: Global, files: MemoryFiles, fails: u64, front: u64) -> WatchedFiles {
+    /// These files, whose columns begin at a place, or whose reads may ask for any bytes where this is 0; and the path of the one that can't be opened, empty
+    /// where none is meant.
+    pub(crate) fn new(
+        alloc: Global,
+        files: MemoryFiles,
+        fails: u64,
+        front: u64,
+        closed: String,
+    ) -> WatchedFiles {
         WatchedFiles {
             alloc,
             files,
             fails,
             front,
+            closed,
             faults: 0,
         }
     }
@@ -92,6 +102,9 @@ impl Files for WatchedFiles {
     ghost faults = { λ s. s.faults };
 
     fn open(&self, path: &str) -> Result<WatchedFile, OpenError> {
+        if path == self.closed.as_str() {
+            return Err(OpenError::NotOpened);
+        }
         let Some(bytes) = self.files.bytes_of(path) else {
             return Err(OpenError::NotOpened);
         };

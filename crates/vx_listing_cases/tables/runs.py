@@ -67,6 +67,13 @@ DOUBLED = file([("x", "i32"), ("x", "i32")], [], [])
 TWICE = file(X, [(1, [[5]])], [(["x"], "max", [5]), (["x"], "max", [5])])
 # the range of the only column holds another byte than a value's first
 SPOILT = file(X, [(1, [[5]])], [])[:-5] + b"\x07\x05\0\0\0"
+# a file like TWO: it has the same columns, and statistics of the same paths and kinds
+THREE = file(X, [(3, [[30, 31, 32]])], [(["x"], "min", [30]), (["x"], "max", [32]), (["x"], "null_count", [0])])
+NONE = file(X, [], [(["x"], "min", []), (["x"], "max", []), (["x"], "null_count", [])])
+# one that has another type, one that has the statistics in another order, and one that has fewer
+WIDE = file([("x", "i64")], [(1, [[5]])], [(["x"], "min", [5]), (["x"], "max", [5]), (["x"], "null_count", [0])])
+TURNED = file(X, [(1, [[5]])], [(["x"], "max", [5]), (["x"], "min", [5]), (["x"], "null_count", [0])])
+FEWER = file(X, [(1, [[5]])], [(["x"], "min", [5]), (["x"], "max", [5])])
 MANY = file(X, [(1, [[n]]) for n in range(11)], [(["x"], "min", list(range(11)))])
 
 # ---- lines
@@ -113,9 +120,23 @@ MANY_LINES = X_LINE + "".join(
     '{"block":%d,"file":"t.vxb","rows":1,"stats":[{"path":["x"],"stat":"min","values":[%d]}]}\n' % (n, n) for n in range(11)
 )
 
-USAGE = "error: usage: blocks PATH, the path of a block file\n"
+USAGE = "error: usage: blocks PATH, the path of a block file or of a folder, which ends in /\n"
+# the lines of TWO and of THREE as files of a folder, where their blocks have these numbers
+def two_in(path, first):
+    return TWO_LINES[len(X_LINE) :].replace("t.vxb", path).replace('"block":1', '"block":%d' % (first + 1)).replace('"block":0', '"block":%d' % first)
+
+
+def three_in(path, block):
+    return (
+        '{"block":%d,"file":"%s","rows":3,"stats":[{"path":["x"],"stat":"min","values":[30]},' % (block, path)
+        + '{"path":["x"],"stat":"max","values":[32]},{"path":["x"],"stat":"null_count","values":[0]}]}\n'
+    )
+
+
 NOT_OPENED = "error: the path can't be opened\n"
 UNREAD = "error: a read failed\n"
+NOT_LISTED = "error: the folder can't be listed\n"
+NO_FILE = "error: the folder has no block file\n"
 NO_MARK = "error: no block file: it doesn't begin with the mark\n"
 NO_HEADER = "error: no block file: it has no header\n"
 NO_ZONES = "error: no block file: a name or a statistic stands twice in its header\n"
@@ -173,13 +194,71 @@ row("the first write fails", HERE_IS, TWO, 7, write=1)
 row("a write fails in a block's line", HERE_IS, TWO, 7, TWO_LINES[: 13 * 3 + 1 + 13 * 2], write=7)
 row("what is told fails", HERE_IS, None, 6, errors=NOT_OPENED[:13], telling=2)
 
+# ---- folders
+
+
+def folder(name, files, status, output="", errors="", words=("blocks", "d/"), **more):
+    """A run over the block files of a folder. Where the lines are written the files' columns begin at one place, behind which nothing is read."""
+    fronts = {front(bytes_of) for path, bytes_of in files if status in (0, 7) and path.endswith(".vxb")}
+    watched = {"front": fronts.pop()} if len(fronts) == 1 else {}
+    told = [{"path": path, "bytes": bytes_of.hex()} for path, bytes_of in files]
+    ROWS.append({"name": name, "words": list(words), "files": told, "status": status, "output": output, "errors": errors, **watched, **more})
+
+
+def pieces(lines):
+    """What each call writes of lines: 13 bytes of a line, or what is left of it."""
+    return [line[place : place + 13] for line in lines.splitlines(True) for place in range(0, len(line), 13)]
+
+
+A, B, C = "d/a.vxb", "d/b.vxb", "d/c.vxb"
+BOTH_LINES = X_LINE + two_in(A, 0) + three_in(B, 2)
+BEFORE = len(pieces(X_LINE + two_in(A, 0))) + 2
+
+folder("two files of a folder", [(A, TWO), (B, THREE)], 0, BOTH_LINES)
+folder("the order of their names, and not in which they stand", [(B, THREE), (A, TWO)], 0, BOTH_LINES)
+folder("the order of bytes: a great letter stands first", [(A, TWO), ("d/B.vxb", THREE)], 0, X_LINE + three_in("d/B.vxb", 0) + two_in(A, 1))
+folder("three files, two of the same bytes", [(A, THREE), (B, TWO), (C, THREE)], 0, X_LINE + three_in(A, 0) + two_in(B, 1) + three_in(C, 3))
+folder("one file of a folder", [(A, TWO)], 0, X_LINE + two_in(A, 0))
+folder("a file without blocks before others", [(A, NONE), (B, TWO), (C, THREE)], 0, X_LINE + two_in(B, 0) + three_in(C, 2))
+folder("a file without blocks behind others", [(A, TWO), (B, NONE)], 0, X_LINE + two_in(A, 0))
+folder("no blocks at all", [(A, NONE), (B, NONE)], 0, X_LINE)
+folder("files without statistics", [(A, BARE), (B, BARE)], 0, BARE_LINES.replace("t.vxb", A) + "".join(
+    '{"block":%d,"file":"d/b.vxb","rows":%d,"stats":[]}\n' % (block, rows) for block, rows in [(2, 2), (3, 1)]
+))
+folder("a folder in a folder", [("d/e/a.vxb", TWO), ("d/e/b.vxb", THREE)], 0, X_LINE + two_in("d/e/a.vxb", 0) + three_in("d/e/b.vxb", 2), words=["blocks", "d/e/"])
+folder("a name with quotes", [('d/a"b.vxb', TWO)], 0, X_LINE + two_in('d/a\\"b.vxb', 0))
+folder("what isn't named as a block file doesn't count", [(A, TWO), ("d/b.vxb.part", b""), ("d/notes.txt", b"x"), ("d/vxb", b"")], 0, X_LINE + two_in(A, 0))
+folder("nor does what stands in a folder of it", [(A, TWO), ("d/e/b.vxb", THREE)], 0, X_LINE + two_in(A, 0))
+folder("nor what stands in another folder", [(A, TWO), ("e/b.vxb", WIDE), ("a.vxb", WIDE)], 0, X_LINE + two_in(A, 0))
+folder("damaged columns aren't read", [(A, SPOILT), (B, SPOILT)], 0, ONE_LINES.replace("t.vxb", A) + '{"block":1,"file":"d/b.vxb","rows":1,"stats":[]}\n')
+
+folder("nothing stands in the folder", [("a.vxb", TWO)], 6, errors=NOT_LISTED)
+folder("the path of a file as a folder", [("d", TWO)], 6, errors=NOT_LISTED)
+folder("no block file in the folder", [("d/notes.txt", b"x")], 3, errors=NO_FILE)
+folder("a file that can't be opened", [(A, TWO), (B, THREE)], 6, errors="error: b.vxb can't be opened\n", closed=B)
+folder("the first file can't be opened", [(A, TWO), (B, b"")], 6, errors="error: a.vxb can't be opened\n", closed=A)
+folder("a read of a header fails there", [(A, TWO), (B, THREE)], 6, errors=UNREAD, read=1)
+folder("an empty file in the folder", [(A, TWO), (B, b"")], 3, errors="error: b.vxb: no block file: it doesn't begin with the mark\n")
+folder("a file without a header in the folder", [(A, b"VXBLK001"), (B, TWO)], 3, errors="error: a.vxb: no block file: it has no header\n")
+folder("a file with a column twice in the folder", [(A, TWO), (B, DOUBLED)], 3, errors="error: b.vxb: no block file: a name or a statistic stands twice in its header\n")
+folder("a file that is cut in the folder", [(A, TWO), (B, THREE[:-1])], 3, errors="error: b.vxb: no block file: it doesn't end where its last column does\n")
+UNLIKE = " hasn't the columns and statistics of the files before it\n"
+folder("a column of another type", [(A, TWO), (B, WIDE)], 3, errors="error: b.vxb" + UNLIKE)
+folder("statistics in another order", [(A, TWO), (B, TURNED)], 3, errors="error: b.vxb" + UNLIKE)
+folder("a statistic too few", [(A, TWO), (B, THREE), (C, FEWER)], 3, errors="error: c.vxb" + UNLIKE)
+folder("the first fault is told", [(A, TWO), (B, WIDE), (C, b"")], 3, errors="error: b.vxb" + UNLIKE)
+folder("a file's bytes are looked at before it is held to the others", [(A, TWO), (B, WIDE[:-1])], 3, errors="error: b.vxb: no block file: it doesn't end where its last column does\n")
+folder("the first write fails for a folder", [(A, TWO), (B, THREE)], 7, write=1)
+folder("a write fails in the second file's line", [(A, TWO), (B, THREE)], 7, "".join(pieces(BOTH_LINES)[:BEFORE]), write=BEFORE + 1)
+folder("what is told of a folder fails", [(A, TWO), (B, WIDE)], 3, errors=("error: b.vxb" + UNLIKE)[:13], telling=2)
+folder("a folder and more words", [(A, TWO)], 2, errors=USAGE, words=["blocks", "d/", "d/"])
+folder("a folder without its mark is a file", [(A, TWO)], 6, errors=NOT_OPENED, words=["blocks", "d"])
+
 for name, words in [
     ("no path", ["blocks"]),
     ("another word", ["block", "t.vxb"]),
     ("an option", ["blocks", "--json", "t.vxb"]),
     ("two paths", ["blocks", "t.vxb", "t.vxb"]),
-    ("a folder", ["blocks", "t.vxb/"]),
-    ("the folder of all", ["blocks", "/"]),
     ("no words", []),
 ]:
     row(name, words, TWO, 2, errors=USAGE, read=1)
