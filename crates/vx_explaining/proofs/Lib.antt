@@ -3,3 +3,5 @@ mod TextLemmas
 mod WriteLemmas
 mod PlanLemmas
 mod RunLemmas
+mod FileRuns
+mod FolderRuns

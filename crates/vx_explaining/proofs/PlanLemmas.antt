@@ -49,14 +49,15 @@ pub plan_unwanted : (zones : Zones) (asked : Asked) (plan : Plan) (o : End) (ref
 plan_unwanted zones asked plan o refusals.NoMemory h k = inl refl
 plan_unwanted zones asked plan o refusals.Unwritten h k = let no : ⊥ = omega (arith, k.2) in absurd no
 plan_unwanted zones asked plan o refusals.Usage h k = unwanted_so zones asked plan o k.0 refusals.Usage h k.1 k.2 k.3
-plan_unwanted zones asked plan o refusals.InFolder h k = unwanted_so zones asked plan o k.0 refusals.InFolder h k.1 k.2 k.3
 plan_unwanted zones asked plan o (refusals.NotOpened l) h k = unwanted_so zones asked plan o k.0 (refusals.NotOpened l) h k.1 k.2 k.3
+plan_unwanted zones asked plan o refusals.Unlisted h k = unwanted_so zones asked plan o k.0 refusals.Unlisted h k.1 k.2 k.3
 plan_unwanted zones asked plan o refusals.Unread h k = unwanted_so zones asked plan o k.0 refusals.Unread h k.1 k.2 k.3
 plan_unwanted zones asked plan o (refusals.NoTable e) h k = unwanted_so zones asked plan o k.0 (refusals.NoTable e) h k.1 k.2 k.3
 plan_unwanted zones asked plan o refusals.BadMagic h k = unwanted_so zones asked plan o k.0 refusals.BadMagic h k.1 k.2 k.3
 plan_unwanted zones asked plan o refusals.BadHeader h k = unwanted_so zones asked plan o k.0 refusals.BadHeader h k.1 k.2 k.3
 plan_unwanted zones asked plan o refusals.BadZones h k = unwanted_so zones asked plan o k.0 refusals.BadZones h k.1 k.2 k.3
 plan_unwanted zones asked plan o refusals.BadEnd h k = unwanted_so zones asked plan o k.0 refusals.BadEnd h k.1 k.2 k.3
+plan_unwanted zones asked plan o (refusals.Mixed l) h k = unwanted_so zones asked plan o k.0 (refusals.Mixed l) h k.1 k.2 k.3
 plan_unwanted zones asked plan o (refusals.Statement l) h k = unwanted_so zones asked plan o k.0 (refusals.Statement l) h k.1 k.2 k.3
 plan_unwanted zones asked plan o refusals.Unlimited h k = unwanted_so zones asked plan o k.0 refusals.Unlimited h k.1 k.2 k.3
 

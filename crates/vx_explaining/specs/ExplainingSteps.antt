@@ -4,7 +4,7 @@ use Rattle.vx_dtype.specs.Types.{Bytes}
 use Rattle.vx_semantics.specs.Tables.{Zones}
 use Rattle.vx_io.specs.Counts.{one_more}
 use Rattle.vx_io.specs.Ends.{Added, AddedPrefix}
-use Rattle.vx_files.specs.Kept.{Kept}
+use Rattle.vx_laws_shell.specs.Paths.{Paths}
 use Rattle.vx_laws_shell.specs.Running.{End}
 use Rattle.vx_laws_shell.specs.Wants.{OrderRefusal, Wanted}
 use Rattle.vx_laws_explaining.specs.ExplainingWords.{Asked}
@@ -50,6 +50,6 @@ ExplainsZones zones asked before after (Err refusals.Unwritten) =
 ExplainsZones zones asked before after (Err refusal) = RefusesStatement zones asked before after refusal
 
 -- how the words are answered: the explanation is written, or a refusal tells how the run ends
-abbrev pub AnswersWords : List Bytes → (Bytes → Kept) → End → End → End → End → Result (Unit {0}) Refusal → Type 0
-AnswersWords words kept i j o p (Ok done) = IsExplainingEnd words kept i j o p explained
-AnswersWords words kept i j o p (Err refusal) = (end : ExplainingEnd) × IsExplainingEnd words kept i j o p end × TellsEnd end refusal
+abbrev pub AnswersWords : List Bytes → Paths → End → End → End → End → Result (Unit {0}) Refusal → Type 0
+AnswersWords words paths i j o p (Ok done) = IsExplainingEnd words paths i j o p explained
+AnswersWords words paths i j o p (Err refusal) = (end : ExplainingEnd) × IsExplainingEnd words paths i j o p end × TellsEnd end refusal

@@ -1,6 +1,6 @@
 -- How the origin of a table is seen.
 use Rattle.std.specs.String.{string_bytes}
-use Rattle.vx_laws_explaining.specs.TableOrigins as spec
+use Rattle.vx_laws_shell.specs.Origins as spec
 use Rattle.vx_explaining.specs.declared.origins.Origin.{Origin}
 use Rattle.vx_explaining.specs.declared.origins.Origin.TheVariants.{StandardInput, BlockFile, Folder}
 

@@ -18,14 +18,15 @@ use Rattle.vx_explaining.specs.declared.errors.Refusal.TheVariants as refusals
 abbrev pub refusal_status : Refusal → ℕ
 refusal_status refusals.NoMemory = 8
 refusal_status refusals.Usage = 2
-refusal_status refusals.InFolder = 2
 refusal_status (refusals.NotOpened line) = 6
+refusal_status refusals.Unlisted = 6
 refusal_status refusals.Unread = 6
 refusal_status (refusals.NoTable error) = 3
 refusal_status refusals.BadMagic = 3
 refusal_status refusals.BadHeader = 3
 refusal_status refusals.BadZones = 3
 refusal_status refusals.BadEnd = 3
+refusal_status (refusals.Mixed line) = 3
 refusal_status (refusals.Statement line) = 4
 refusal_status refusals.Unlimited = 4
 refusal_status refusals.Unwritten = 7
@@ -34,14 +35,15 @@ refusal_status refusals.Unwritten = 7
 abbrev pub refusal_line : Refusal → Option Bytes
 refusal_line refusals.NoMemory = Some (codes "error: there is no memory\n")
 refusal_line refusals.Usage = Some (codes "error: usage: explain sql STATEMENT [--json | --svg]\n")
-refusal_line refusals.InFolder = Some (codes "error: usage: explain sql takes a block file or stdin, and no folder\n")
 refusal_line (refusals.NotOpened line) = Some (string_bytes line)
+refusal_line refusals.Unlisted = Some (codes "error: the folder can't be listed\n")
 refusal_line refusals.Unread = Some (codes "error: a read failed\n")
 refusal_line (refusals.NoTable error) = Some (untold_line error)
 refusal_line refusals.BadMagic = Some (codes "error: no block file: it doesn't begin with the mark\n")
 refusal_line refusals.BadHeader = Some (codes "error: no block file: it has no header\n")
 refusal_line refusals.BadZones = Some (codes "error: no block file: a name or a statistic stands twice in its header\n")
 refusal_line refusals.BadEnd = Some (codes "error: no block file: it doesn't end where its last column does\n")
+refusal_line (refusals.Mixed line) = Some (string_bytes line)
 refusal_line (refusals.Statement line) = Some (string_bytes line)
 refusal_line refusals.Unlimited = Some (codes "error: ORDER BY needs a LIMIT\n")
 refusal_line refusals.Unwritten = None

@@ -24,10 +24,10 @@ pub(crate) enum Refusal {
     NoMemory,
     /// The words have no form.
     Usage,
-    /// The table is a folder.
-    InFolder,
-    /// The path can't be opened: the line that tells it.
+    /// The path, or a file of the folder, can't be opened: the line that tells it.
     NotOpened(String),
+    /// The folder can't be listed.
+    Unlisted,
     /// A read of the standard input or of a block file failed.
     Unread,
     /// The standard input tells no table.
@@ -40,6 +40,8 @@ pub(crate) enum Refusal {
     BadZones,
     /// No block file: it doesn't end where its last column does.
     BadEnd,
+    /// The block files of the folder are no table: the line that tells why.
+    Mixed(String),
     /// The statement isn't taken, names nothing over the table, or orders too many rows: the line that tells why.
     Statement(String),
     /// ORDER BY stands without LIMIT.
@@ -55,15 +57,16 @@ impl Refusal {
     {
         match self {
             Refusal::Usage => 2,
-            Refusal::InFolder => 2,
             Refusal::NoTable(_) => 3,
             Refusal::BadMagic => 3,
             Refusal::BadHeader => 3,
             Refusal::BadZones => 3,
             Refusal::BadEnd => 3,
+            Refusal::Mixed(_) => 3,
             Refusal::Statement(_) => 4,
             Refusal::Unlimited => 4,
             Refusal::NotOpened(_) => 6,
+            Refusal::Unlisted => 6,
             Refusal::Unread => 6,
             Refusal::Unwritten => 7,
             Refusal::NoMemory => 8,
@@ -76,12 +79,11 @@ impl Refusal {
     {
         match self {
             Refusal::NotOpened(line) => Some(line.as_str()),
+            Refusal::Mixed(line) => Some(line.as_str()),
             Refusal::Statement(line) => Some(line.as_str()),
             Refusal::NoTable(error) => Some(untold_line(error)),
             Refusal::Usage => Some("error: usage: explain sql STATEMENT [--json | --svg]\n"),
-            Refusal::InFolder => Some(
-                "error: usage: explain sql takes a block file or stdin, and no folder\n",
-            ),
+            Refusal::Unlisted => Some("error: the folder can't be listed\n"),
             Refusal::Unread => Some("error: a read failed\n"),
             Refusal::BadMagic => Some("error: no block file: it doesn't begin with the mark\n"),
             Refusal::BadHeader => Some("error: no block file: it has no header\n"),

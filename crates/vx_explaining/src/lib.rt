@@ -1,10 +1,11 @@
-//! The words of `explain sql`: what a statement would read of a table, told from its zones alone. Of a block file the header is read, and no block.
+//! The words of `explain sql`: what a statement would read of a table, told from its zones alone. Of block files the headers are read, and no block.
 #![tactic(auto)]
 
 mod columns;
 mod deciders;
 mod errors;
 mod explained;
+mod folders;
 mod json;
 mod marks;
 mod origins;

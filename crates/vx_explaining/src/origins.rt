@@ -3,8 +3,7 @@ ghost use Rattle.std.specs.Prelude.{◌≡◌, IfOk};
 ghost use Rattle.std.specs.Io.BufRead.{ends_with_byte};
 ghost use Rattle.std.specs.List.{list_any};
 ghost use Rattle.std.specs.String.{string_bytes};
-ghost use Rattle.vx_laws_shell.specs.Origins as names;
-ghost use Rattle.vx_laws_explaining.specs.TableOrigins as spec;
+ghost use Rattle.vx_laws_shell.specs.Origins as spec;
 ghost use Rattle.vx_explaining.specs.OriginViews.{origin_view};
 
 use std::alloc::Global;
@@ -23,14 +22,14 @@ pub(crate) enum Origin {
 
 /// Whether a byte makes a name a path: `.` or `/`.
 fn is_of_path(byte: u8) -> bool
-    ensures { result ≡ names.is_of_path byte }
+    ensures { result ≡ spec.is_of_path byte }
 {
     byte == b'.' || byte == b'/'
 }
 
 /// Whether such a byte stands in a name.
 fn is_path(name: &[u8]) -> bool
-    ensures { result ≡ list_any names.is_of_path name.now }
+    ensures { result ≡ list_any spec.is_of_path name.now }
 {
     for byte in name {
         if is_of_path(*byte) {
@@ -49,7 +48,7 @@ fn is_folder(name: &[u8]) -> bool
 
 /// The path that a name means: itself, or, where neither `.` nor `/` stands in it, with the ending of block files.
 fn path_of(alloc: Global, name: &str) -> Mem<String>
-    ensures { IfOk result (λ path. string_bytes path ≡ names.path_of name.now) }
+    ensures { IfOk result (λ path. string_bytes path ≡ spec.path_of name.now) }
 {
     let mut path = String::from_str(alloc, name)?;
     if !is_path(name.as_bytes()) {

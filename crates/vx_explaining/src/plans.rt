@@ -23,7 +23,7 @@ use crate::errors::{PieceError, Refusal};
 use crate::explained::{Explained, explained_by};
 use crate::words::{Asked, Form};
 use crate::writing::write_explanation;
-use std::alloc::Global;
+use std::alloc::{AllocError, Global};
 use vx_dtype::{Mem, NoMemory};
 use vx_expr::ExprRef;
 use vx_io::Sink;
@@ -41,7 +41,7 @@ fn too_many(alloc: Global, count: u64) -> Refusal
 {
     match format!(in alloc; "error: LIMIT {count}: behind ORDER BY it is 1048576 at most\n") {
         Ok(line) => Refusal::Statement(line),
-        Err(_) => Refusal::NoMemory,
+        Err(AllocError) => Refusal::NoMemory,
     }
 }
 
@@ -169,7 +169,7 @@ pub(crate) fn statement_refusal(alloc: Global, error: ToldError) -> Refusal
         ToldError::NoMemory => Refusal::NoMemory,
         ToldError::Refused(line) => match format!(in alloc; "error: {line}\n") {
             Ok(line) => Refusal::Statement(line),
-            Err(_) => Refusal::NoMemory,
+            Err(AllocError) => Refusal::NoMemory,
         },
     }
 }

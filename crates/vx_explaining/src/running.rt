@@ -2,6 +2,7 @@
 ghost use Rattle.std.specs.Prelude.{◌≡◌, List, Some, map};
 ghost use Rattle.std.specs.String.{string_bytes};
 ghost use Rattle.vx_dtype.specs.Types.{Bytes};
+ghost use Rattle.vx_folder.specs.PathViews.{paths_by};
 ghost use Rattle.vx_laws_listing.specs.Listing.{IsToldBy};
 ghost use Rattle.vx_laws_shell.specs.Running.{end_by};
 ghost use Rattle.vx_laws_explaining.specs.Explaining.{AskOrigin, AskTable, IsExplainingRun};
@@ -14,7 +15,7 @@ ghost use Rattle.vx_explaining.specs.Refusals.{refusal_line};
 use crate::errors::Refusal;
 use crate::origins::{Origin, origin_of};
 use crate::plans::statement_refusal;
-use crate::tables::{explain_file, explain_input};
+use crate::tables::{explain_file, explain_folder, explain_input};
 use crate::words::{Asked, asked_of};
 use std::alloc::Global;
 use vx_dtype::NoMemory;
@@ -36,12 +37,12 @@ fn explain_origin<F: Files, I: Source, O: Sink>(
 ) -> Result<(), Refusal>
     ensures { let source = end_by I.left I.faults in let end = end_by O.written O.faults in (words : List Bytes)
         → AskOrigin words (asked_view asked.entry) (origin_view origin)
-        → AnswersWords words (F.kept files.now) (source input.old) (source input.new) (end output.old) (end output.new) result }
+        → AnswersWords words (paths_by (F.kept files.now) (F.listed files.now)) (source input.old) (source input.new) (end output.old) (end output.new) result }
 {
     match origin {
         Origin::StandardInput => explain_input(alloc, asked, input, output),
         Origin::BlockFile(path) => explain_file(alloc, asked, path.as_str(), files, output),
-        Origin::Folder(_) => Err(Refusal::InFolder),
+        Origin::Folder(path) => explain_folder(alloc, asked, path.as_str(), files, output),
     }
 }
 
@@ -56,7 +57,7 @@ fn explain_named<F: Files, I: Source, O: Sink>(
 ) -> Result<(), Refusal>
     ensures { let source = end_by I.left I.faults in let end = end_by O.written O.faults in (words : List Bytes)
         → AskTable words (asked_view asked.entry) name.now
-        → AnswersWords words (F.kept files.now) (source input.old) (source input.new) (end output.old) (end output.new) result }
+        → AnswersWords words (paths_by (F.kept files.now) (F.listed files.now)) (source input.old) (source input.new) (end output.old) (end output.new) result }
 {
     match origin_of(alloc, name) {
         Ok(origin) => explain_origin(alloc, asked, origin, files, input, output),
@@ -74,7 +75,7 @@ fn explain_asked<F: Files, I: Source, O: Sink>(
 ) -> Result<(), Refusal>
     ensures { let source = end_by I.left I.faults in let end = end_by O.written O.faults in (words : List Bytes)
         → explaining_asked_of words ≡ Some (asked_view asked.entry)
-        → AnswersWords words (F.kept files.now) (source input.old) (source input.new) (end output.old) (end output.new) result }
+        → AnswersWords words (paths_by (F.kept files.now) (F.listed files.now)) (source input.old) (source input.new) (end output.old) (end output.new) result }
 {
     match told_table(alloc, asked.statement) {
         Ok(name) => explain_named(alloc, asked, name.as_str(), files, input, output),
@@ -91,7 +92,8 @@ fn explain_words<F: Files, I: Source, O: Sink>(
     output: &mut O,
 ) -> Result<(), Refusal>
     ensures { let source = end_by I.left I.faults in let end = end_by O.written O.faults in
-        AnswersWords (map string_bytes words.now) (F.kept files.now) (source input.old) (source input.new) (end output.old) (end output.new) result }
+        AnswersWords (map string_bytes words.now) (paths_by (F.kept files.now) (F.listed files.now)) (source input.old) (source input.new)
+        (end output.old) (end output.new) result }
 {
     match asked_of(words) {
         Some(asked) => explain_asked(alloc, asked, files, input, output),
@@ -109,9 +111,9 @@ fn tell<E: Sink>(refusal: &Refusal, errors: &mut E)
 }
 
 /// Answers the words of `explain sql`: what a statement of SQL would read of the table that its FROM names, told without reading a block. Of a block file
-/// the header is read, and whether it ends where its last column does; a table of the standard input is read whole. Of the table's zones come the filter, the
-/// projection and the pruning expression, the statistics that decide which blocks are skipped, the columns that are read, and of each block whether it is
-/// skipped, its rows, and the values of the statistics that decide.
+/// the header is read, and whether it ends where its last column does; of a folder those of its block files, whose blocks are numbered through the folder; a
+/// table of the standard input is read whole. Of the table's zones come the filter, the projection and the pruning expression, the statistics that decide which
+/// blocks are skipped, the columns that are read, and of each block whether it is skipped, its rows, and the values of the statistics that decide.
 ///
 /// The explanation is lines of text, with `--json` an object of JSON in a line, and with `--svg` a picture. It is written block by block, so memory doesn't
 /// grow with the blocks but for the zones.
@@ -119,10 +121,10 @@ fn tell<E: Sink>(refusal: &Refusal, errors: &mut E)
 /// A refusal is told on standard error in a line. The exit status is
 ///
 /// - 0 where the explanation was written whole;
-/// - 2 where the words have no form, or the table is a folder;
-/// - 3 where the standard input tells no table, or the bytes of the path are no block file;
+/// - 2 where the words have no form;
+/// - 3 where the standard input tells no table, the bytes of the path are no block file, or the block files of the folder are no table;
 /// - 4 where the statement isn't taken, names nothing over the table, or orders more rows than 1,048,576, or all;
-/// - 6 where the path can't be opened, or a read failed;
+/// - 6 where the path, or a file of the folder, can't be opened, the folder can't be listed, or a read failed;
 /// - 7 where a write to the output failed, which is told by no line;
 /// - 8 where there was no memory.
 ///
@@ -136,8 +138,8 @@ pub fn explain_sql<F: Files, I: Source, O: Sink, E: Sink>(
     errors: &mut E,
 ) -> u8
     ensures { let source = end_by I.left I.faults in let out = end_by O.written O.faults in let told = end_by E.written E.faults in
-        IsExplainingRun (map string_bytes words.now) (F.kept files.now) (source input.old) (source input.new) (out output.old) (out output.new)
-        (told errors.old) (told errors.new) result }
+        IsExplainingRun (map string_bytes words.now) (paths_by (F.kept files.now) (F.listed files.now)) (source input.old) (source input.new)
+        (out output.old) (out output.new) (told errors.old) (told errors.new) result }
 {
     match explain_words(alloc, words, files, input, output) {
         Ok(()) => EXPLAINED,

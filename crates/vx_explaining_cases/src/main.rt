@@ -1,8 +1,9 @@
 //! Runs of `explain sql` over words, held against a table of rows that hold the answers: each row has words, what stands on the standard input, block files
-//! in memory, and the exit status, the explanation and the line on standard error that are wanted. Printed are the rows whose answers differ, and how many
-//! agreed.
+//! in memory, of which one may be closed and the reads of one may fail, and the exit status, the explanation and the line on standard error that are wanted.
+//! Printed are the rows whose answers differ, and how many agreed.
 #![tactic(auto)]
 
+mod hindered_files;
 mod rows;
 mod runs;
 

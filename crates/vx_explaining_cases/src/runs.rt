@@ -1,6 +1,5 @@
 // Runs of words over ends in memory.
-ghost use Rattle.std.specs.Prelude.{◌<◌, ◌^◌, ◌-◌, All, IfOk};
-
+use crate::hindered_files::{HinderedFiles, numbers_of};
 use crate::rows::{list_of, number_in, owned, text_in};
 use anyhow::Result;
 use serde_json::Value;
@@ -67,8 +66,9 @@ fn input_in(alloc: Global, row: &Value) -> Result<MemorySource> {
     Ok(MemorySource::new(bytes, MOST, fails))
 }
 
-/// The files in memory of a row: a list of paths beside the digits of their bytes.
-fn files_in(alloc: Global, row: &Value) -> Result<MemoryFiles> {
+/// The files in memory of a row: a list of paths beside the digits of their bytes, with the path of one that can't be opened, and of one
+/// whose first read fails.
+fn files_in(alloc: Global, row: &Value) -> Result<HinderedFiles> {
     let mut files = Vec::new(alloc);
     for file in list_of(row.get("files")) {
         files.push(MemoryFile {
@@ -76,20 +76,15 @@ fn files_in(alloc: Global, row: &Value) -> Result<MemoryFiles> {
             bytes: hex::decode(alloc, text_in(file, "bytes").as_bytes())?,
         })?;
     }
-    Ok(MemoryFiles::new(alloc, files))
+    Ok(HinderedFiles::new(
+        alloc,
+        MemoryFiles::new(alloc, files),
+        owned(alloc, text_in(row, "closed"))?,
+        owned(alloc, text_in(row, "torn"))?,
+    ))
 }
 
 /// A sink whose call of a number, from 1, fails, or none where this is 0.
 fn sink(alloc: Global, fails: u64) -> Mem<MemorySink> {
     MemorySink::new(alloc, ROOM, MOST, numbers_of(alloc, fails)?)
-}
-
-/// The number of the call that fails, where there is one.
-fn numbers_of(alloc: Global, fails: u64) -> Mem<Vec<u64>>
-    ensures { IfOk result (λ numbers. All (λ n. n < 2 ^ 64 - 1) numbers.items) }
-{
-    if fails == 0 {
-        return Ok(Vec::new(alloc));
-    }
-    Ok(vec![in alloc; fails.min(1_000_000)]?)
 }

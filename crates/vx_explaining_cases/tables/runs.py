@@ -16,21 +16,36 @@ from wire import ROOT, TRUE, request  # noqa: E402
 
 # ---- tables
 
-ITEMS = block_file(
-    request(
-        [("name", "utf8"), ("price", "i32"), ("note", "utf8?")],
-        [
-            [["ink", "pen"], [3, 12], [None, "blue"]],
-            [["mug", "cap"], [9, 8], ["tall", None]],
-            [["bag", "hat"], [40, 25], [None, None]],
-        ],
-        TRUE,
-        ROOT,
-        [(["price"], "min", [3, 8, 25]), (["price"], "max", [12, 9, 40])],
-    )
-)
-# the last value of the last column of the last block is neither null nor a text: no block is read
-SPOILT = ITEMS[:-1] + b"\2"
+COLUMNS = [("name", "utf8"), ("price", "i32"), ("note", "utf8?")]
+ITEM_BLOCKS = [
+    [["ink", "pen"], [3, 12], [None, "blue"]],
+    [["mug", "cap"], [9, 8], ["tall", None]],
+    [["bag", "hat"], [40, 25], [None, None]],
+]
+LEAST, MOST = [3, 8, 25], [12, 9, 40]
+
+
+def items(first, last):
+    """The block file of some of the blocks."""
+    stats = [(["price"], "min", LEAST[first:last]), (["price"], "max", MOST[first:last])]
+    return block_file(request(COLUMNS, ITEM_BLOCKS[first:last], TRUE, ROOT, stats))
+
+
+ITEMS = items(0, 3)
+
+
+def spoilt(held):
+    """The same, but for the last value of the last column of the last block, which is neither null nor a text: no block is read."""
+    return held[:-1] + b"\2"
+
+
+SPOILT = spoilt(ITEMS)
+# the same blocks in two files, and a file of none
+FIRST, SECOND, WITHOUT_BLOCKS = items(0, 2), items(2, 3), items(0, 0)
+# it has no least price
+WITHOUT_MIN = block_file(request(COLUMNS, ITEM_BLOCKS[2:], TRUE, ROOT, [(["price"], "max", MOST[2:])]))
+# a name stands twice
+TWICE = block_file(request([("x", "i32"), ("x", "i32")], [[[1], [1]]], TRUE, ROOT, []))
 BARE = block_file(request([("x", "i32")], [[[1]]], TRUE, ROOT, []))
 # a name with what ends a text in a document of marks, and a bound that does so too
 MARKED = block_file(request([("a<&>\"b", "utf8")], [[["<x>"]]], TRUE, ROOT, [(["a<&>\"b"], "max", ["<x>"])]))
@@ -120,11 +135,11 @@ BARE_JSON = (
 )
 
 USAGE = "error: usage: explain sql STATEMENT [--json | --svg]\n"
-FOLDER = "error: usage: explain sql takes a block file or stdin, and no folder\n"
 UNREAD = "error: a read failed\n"
 NO_MARK = "error: no block file: it doesn't begin with the mark\n"
 NO_HEADER = "error: no block file: it has no header\n"
 NO_END = "error: no block file: it doesn't end where its last column does\n"
+NO_NAMES = "error: no block file: a name or a statistic stands twice in its header\n"
 
 # ---- rows
 
@@ -156,10 +171,11 @@ asks("two statistics of one joined name", "SELECT a_b FROM stdin WHERE a_b > 5",
 asks("a path", DEAR_WORDS.replace("items", "'d/items.old'"), status=0, output=DEAR, files=[("d/items.old", ITEMS)])
 
 asks("no file of the path", DEAR_WORDS.replace("items", "nowhere"), status=6, errors="error: nowhere.vxb can't be opened\n")
-asks("a folder", DEAR_WORDS.replace("items", "'items/'"), status=2, errors=FOLDER)
 asks("another mark", DEAR_WORDS, status=3, errors=NO_MARK, files=[("items.vxb", b"VXBLK002" + ITEMS[8:])])
 asks("the mark alone", DEAR_WORDS, status=3, errors=NO_HEADER, files=[("items.vxb", b"VXBLK001")])
+asks("a name that stands twice", DEAR_WORDS, status=3, errors=NO_NAMES, files=[("items.vxb", TWICE)])
 asks("a byte too few", DEAR_WORDS, status=3, errors=NO_END, files=[("items.vxb", ITEMS[:-1])])
+asks("the header isn't read", DEAR_WORDS, status=6, errors=UNREAD, torn="items.vxb")
 asks("no table on the standard input", "SELECT * FROM stdin", status=3, errors="error: stdin is no table: BadJson\n", input="{")
 asks("no blocks on the standard input", "SELECT * FROM stdin", status=3, errors="error: stdin is no table: BadRequest(Top)\n", input="{}")
 asks(
@@ -180,6 +196,57 @@ asks(
 )
 asks("the first write fails", DEAR_WORDS, status=7, write=1)
 asks("what is told fails", DEAR_WORDS.replace("items", "nowhere"), status=6, errors="error: nowher", telling=2)
+
+# ---- folders
+
+
+def folder(**held):
+    """The files of the folder `f`, whose names end in `.vxb`, the last one first, with things beside them that are no files of it."""
+    files = [("f/" + name + ".vxb", given) for name, given in reversed(held.items())]
+    return [("f/notes.txt", b"no block file"), *files, ("f/g/a.vxb", b"no block file"), ("f.vxb", b"no block file")]
+
+
+TWO = folder(a=FIRST, b=SECOND)
+FOLDER_WORDS = DEAR_WORDS.replace("items", "'f/'")
+
+
+def unlike(name):
+    return "error: %s hasn't the columns and statistics of the files before it\n" % name
+
+
+asks("two files of a folder as one table", FOLDER_WORDS, status=0, output=DEAR, files=TWO)
+asks("two files as JSON", FOLDER_WORDS, "--json", status=0, output=DEAR_JSON, files=TWO)
+asks("two files as a picture", FOLDER_WORDS, "--svg", status=0, output=DEAR_PICTURE, files=TWO)
+asks("no block of a folder is read", FOLDER_WORDS, status=0, output=DEAR, files=folder(a=spoilt(FIRST), b=spoilt(SECOND)))
+asks("a folder without condition", "SELECT * FROM 'f/'", status=0, output=ALL, files=TWO)
+asks("an order over a folder", FOLDER_WORDS + " ORDER BY note LIMIT 2", status=0, output=ORDERED, files=TWO)
+asks("a file of a folder without blocks", FOLDER_WORDS, status=0, output=DEAR, files=folder(a=FIRST, b=WITHOUT_BLOCKS, c=SECOND))
+asks("one file of a folder", FOLDER_WORDS, status=0, output=DEAR, files=folder(a=ITEMS))
+asks("capitals stand first among the names", FOLDER_WORDS, status=0, output=DEAR, files=folder(B=FIRST, a=SECOND))
+asks("a folder within another one", DEAR_WORDS.replace("items", "'./f/g/'"), status=0, output=DEAR, files=[("./f/g/a.vxb", ITEMS)])
+
+asks("no such folder", DEAR_WORDS.replace("items", "'none/'"), status=6, errors="error: the folder can't be listed\n", files=TWO)
+asks("a folder without a block file", FOLDER_WORDS, status=3, errors="error: the folder has no block file\n", files=folder())
+asks("a file of other columns", FOLDER_WORDS, status=3, errors=unlike("b.vxb"), files=folder(a=FIRST, b=BARE, c=SECOND))
+asks("a file of other statistics", FOLDER_WORDS, status=3, errors=unlike("c.vxb"), files=folder(a=FIRST, b=SECOND, c=WITHOUT_MIN))
+for name, text, held in [
+    ("another mark in a folder", "it doesn't begin with the mark", b"VXBLK002" + SECOND[8:]),
+    ("the mark alone in a folder", "it has no header", b"VXBLK001"),
+    ("a name that stands twice in a folder", "a name or a statistic stands twice in its header", TWICE),
+    ("a byte too few in a folder", "it doesn't end where its last column does", SECOND[:-1]),
+]:
+    asks(name, FOLDER_WORDS, status=3, errors="error: b.vxb: no block file: %s\n" % text, files=folder(a=FIRST, b=held))
+asks("a file of a folder that can't be opened", FOLDER_WORDS, status=6, errors="error: b.vxb can't be opened\n", files=TWO, closed="f/b.vxb")
+asks("the first of two faults", FOLDER_WORDS, status=3, errors=unlike("b.vxb"), files=folder(a=FIRST, b=BARE, c=SECOND), closed="f/c.vxb")
+asks("the header of a folder's file isn't read", FOLDER_WORDS, status=6, errors=UNREAD, files=TWO, torn="f/b.vxb")
+asks(
+    "no such column in a folder",
+    "SELECT cost FROM 'f/'",
+    status=4,
+    errors="error: SELECT: no column cost; the columns are name, price, note\n",
+    files=TWO,
+)
+asks("the first write over a folder fails", FOLDER_WORDS, status=7, write=1, files=TWO)
 
 for name, words in [
     ("no statement", ["explain", "sql"]),

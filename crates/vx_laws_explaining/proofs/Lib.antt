@@ -1,2 +1,3 @@
 pub mod SkippedBlocks
 pub mod TypedPlans
+pub mod OneExplanation

@@ -1,5 +1,5 @@
 -- Of each block it is told whether a scan skips it.
-use Rattle.std.proofs.Common.{◌≡◌, refl, ap, ◌∙◌, ℕ, suc, Bool, true, false, cond, not, List, [], ◌∷◌, length, map}
+use Rattle.std.proofs.Common.{◌≡◌, refl, ap, ℕ, suc, Bool, true, false, cond, not, List, [], ◌∷◌, length, map}
 use Rattle.std.specs.List.{filter}
 use Rattle.vx_semantics.specs.Pruning.{rules_out}
 use Rattle.vx_semantics.specs.Tables.{numbered_from}

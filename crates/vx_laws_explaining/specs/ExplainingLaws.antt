@@ -8,8 +8,14 @@ use Rattle.vx_semantics.specs.Tables.{Zones, numbered_from, row_type}
 use Rattle.vx_semantics.specs.Typing.{typed_of}
 use Rattle.vx_zones.specs.Zoning.{broken_rule}
 use Rattle.vx_laws_statements.specs.Statements.{Plan, plan_of}
+use Rattle.vx_laws_shell.specs.FolderContents.{AreFileNames, kept_in}
+use Rattle.vx_laws_shell.specs.Origins.{block_file, folder}
+use Rattle.vx_laws_shell.specs.Paths.{Paths, holds, lists}
+use Rattle.vx_laws_shell.specs.Running.{End}
 use Rattle.vx_laws_shell.specs.Wants.{condition_tree}
 use Rattle.vx_laws_explaining.specs.Explained.{Explained, explained_of, number_skipped}
+use Rattle.vx_laws_explaining.specs.Explaining.{AskOrigin, IsAskedText}
+use Rattle.vx_laws_explaining.specs.ExplainingWords.{Asked}
 
 -- the numbers of the blocks that are told as skipped, and of those that are told as read
 abbrev pub told_skipped : Explained → List ℕ
@@ -41,3 +47,27 @@ PlansAreTyped =
     (zones : Zones) (text : Bytes) (plan : Plan) → broken_rule zones ≡ None → plan_of (row_type zones.columns) text ≡ Ok plan
     → ((u : Ty) × (typed_of (row_type zones.columns) (condition_tree plan.filter) ≡ Ok u)) × (slots_fit [] (condition_tree plan.filter) ≡ true)
     × (typed_of (row_type zones.columns) plan.rows.tree ≡ Ok plan.rows.ty) × (slots_fit [] plan.rows.tree ≡ true)
+
+-- ---- what is known of a table
+
+-- it is known what stands in the folder of a path, and what each of its block files is
+pub record IsKnownFolder (paths : Paths) (path : Bytes) : Type 0 where
+  pub standing : List Bytes
+  pub names : List Bytes
+  pub files : List Bytes
+  pub listed : paths.listed path ≡ lists standing
+  pub ordered : AreFileNames standing names
+  pub kept : kept_in paths.kept path names ≡ map holds files
+
+-- where the bytes of a block file are known, a statement over it is explained by one text
+abbrev pub OneExplanationOfFile : Type 0
+OneExplanationOfFile =
+    (words : List Bytes) (paths : Paths) (asked : Asked) (path bytes : Bytes) (i j k l : End) (text other : Bytes)
+    → AskOrigin words asked (block_file path) → paths.kept path ≡ holds bytes → IsAskedText words paths i j text → IsAskedText words paths k l other
+    → text ≡ other
+
+-- and so it is over a folder of which it is known what stands there and what each block file is
+abbrev pub OneExplanationOfFolder : Type 0
+OneExplanationOfFolder =
+    (words : List Bytes) (paths : Paths) (asked : Asked) (path : Bytes) (i j k l : End) (text other : Bytes) → AskOrigin words asked (folder path)
+    → IsKnownFolder paths path → IsAskedText words paths i j text → IsAskedText words paths k l other → text ≡ other

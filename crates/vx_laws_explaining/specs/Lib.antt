@@ -1,5 +1,4 @@
 pub mod ExplainingWords
-pub mod TableOrigins
 pub mod Explained
 pub mod ExplainedTexts
 pub mod ExplainedJson

@@ -4,4 +4,4 @@
 
 mod laws;
 
-pub use laws::{plans_are_typed, skipped_as_scans};
+pub use laws::{one_explanation, plans_are_typed, skipped_as_scans};

@@ -1,3 +1,4 @@
+use Rattle.vx_folder.specs.PathViews.{paths_by}
 use Rattle.vx_laws_shell.specs.Running.{end_by}
 use Rattle.vx_explaining.specs.ExplainedViews.{asked_view}
 use Rattle.vx_explaining.specs.OriginViews.{origin_view}
@@ -12,4 +13,5 @@ returns-in-Ok g c = λ words asks.
 pub returns-in-Err : goal.returns-in-Err
 returns-in-Err g c = λ words asks.
     let input = end_by g.I.Source.left g.I.Source.faults c.args.input.now in
-    no_room words (g.F.Files.kept c.args.files.now) input input (end_by g.O.Sink.written g.O.Sink.faults c.args.output.now) (took_nothing _ input.bytes)
+    no_room words (paths_by (g.F.Files.kept c.args.files.now) (g.F.Files.listed c.args.files.now)) input input
+    (end_by g.O.Sink.written g.O.Sink.faults c.args.output.now) (took_nothing _ input.bytes)
