@@ -23,5 +23,6 @@ pub fn process(rt: &HostRuntime) -> ExitCode {
         &mut StdinSource::new(rt.stdin()),
         &mut StdoutSink::new(rt.stdout()),
         &mut WriterSink::new(rt.stderr()),
+        rt,
     ))
 }
