@@ -116,4 +116,5 @@ def main():
             sys.exit("bench/folder.py: more than 64 MB")
 
 
-main()
+if __name__ == "__main__":
+    main()
